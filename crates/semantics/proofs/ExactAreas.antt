@@ -1,0 +1,180 @@
+-- The sound areas are exactly the areas of proper pages, with anything behind them. Assumes nothing.
+use mathlib.Core.Path.{_≡_, refl, sym, _∙_, ap, ap₂, subst}
+use mathlib.Core.Logic.{_≢_}
+use mathlib.Core.Bool.{Bool, true, false, cond, _&&_, false≢true, true≢false}
+use mathlib.Core.List.{List, [], _∷_, _++_, map, append-assoc}
+use Prim.Native.Nat.{ℕ, zero, suc, _+_, _*_, _-_, _/_, _%_, _≤_, _<_}
+use native.Mathlib.Omega.{arith}
+use lib.Dec.{eqb, leb, ltb}
+use lib.ListN.{length, getD, take, drop, length-map, length-append, length-take, length-drop}
+use lib.Seq.{take-at, drop-at, take-add, take-all}
+use borrow.Author.Tests.{leb-true, ltb-true, eqb-true, eqb-false, le-leb, lt-ltb, eq-eqb}
+use Rattle.semantics.specs.Area.{Kind, factKind, ruleKind, queryKind, noKind, kind, spanAs, span, literalOf, literalsAt, lineAs, lineAt, lineTests, linesOf, pageOf, every, allUnder, fieldTests, headTests, linesOk, sound, firstLine, topOf, conditionsOf, countOf, usedOf, kindOf, codeOf, lineCode, lineCodes, areaOf}
+use Rattle.semantics.specs.Grade.{Op, M, X, L, B, P}
+use Rattle.semantics.specs.Page.{Literal, positive, negative, conditionOf, Reading, K, W, Line, fact, rule, query, Page, LiteralsBelow, InRange, AllInRange, Proper}
+use Rattle.semantics.proofs.RoundTrip.{kind-of, line-span}
+use Rattle.semantics.proofs.Soundness.{both-true, Every, every-true}
+
+-- a proper page's area is sound
+under-codes : (n : ℕ) (ls : List Literal) → LiteralsBelow n ls → allUnder (2 * n) (map codeOf ls) ≡ true
+unfolding allUnder
+under-codes n [] w = refl
+under-codes n (positive c ∷ ls) w = rw (lt-ltb (2 * c) (2 * n) (omega arith), under-codes n ls (w .1))
+under-codes n (negative c ∷ ls) w = rw (lt-ltb (2 * c + 1) (2 * n) (omega arith), under-codes n ls (w .1))
+
+line-passes : (top n left : ℕ) (l : Line) (r : List ℕ) → InRange top n l → length (lineCode l) ≤ left → every (lineTests top n left (lineCode l ++ r)) ≡ true
+unfolding kind span
+line-passes top n left (fact c l h) r w f = rw (le-leb 4 left f, lt-ltb c n (w .0), le-leb l h (w .1), le-leb h top (w .2))
+line-passes top n left (rule c v op lits) r w f =
+    rw (
+      kind-of op,
+      le-leb (4 + length lits) left (omega (arith, length-map lits codeOf)),
+      lt-ltb c n (w .0),
+      le-leb 1 v (w .1),
+      le-leb v top (w .2),
+      le-leb 1 (length lits) (w .3),
+      le-leb (length lits) 8 (w .4),
+      take-at (map codeOf lits) r (length lits) (length-map lits codeOf),
+      under-codes n lits (w .5),
+    )
+line-passes top n left (query K c) r w f = rw (le-leb 4 left f, lt-ltb c n w)
+line-passes top n left (query W c) r w f = rw (le-leb 4 left f, lt-ltb c n w)
+
+span-code : (l : Line) (r : List ℕ) → span (lineCode l ++ r) ≡ length (lineCode l)
+unfolding kind span
+span-code (fact c l h) r = refl
+span-code (rule c v op lits) r = rw (kind-of op) (omega (arith, length-map lits codeOf))
+span-code (query K c) r = refl
+span-code (query W c) r = refl
+
+lines-pass : (top n left : ℕ) (ls : List Line) (z : List ℕ) → AllInRange top n ls → left ≡ length (lineCodes ls) → linesOk top n (length ls) left (lineCodes ls ++ z) ≡ true
+unfolding linesOk lineCodes
+lines-pass top n left [] z w e = eq-eqb left 0 e
+lines-pass top n left (l ∷ ls) z w e =
+    rw (append-assoc (lineCode l) (lineCodes ls) z)
+    (rw (line-passes top n left l (lineCodes ls ++ z) (w .0) (omega (arith, length-append (lineCode l) (lineCodes ls))))
+    (rw (line-span l (lineCodes ls ++ z))
+    (lines-pass top n (left - span (lineCode l ++ (lineCodes ls ++ z))) ls z (w .1) (omega (arith, span-code l (lineCodes ls ++ z), length-append (lineCode l) (lineCodes ls))))))
+
+pub proper-sound : (page : Page) (z : List ℕ) → Proper page → sound (areaOf page ++ z) ≡ true
+unfolding sound areaOf
+proper-sound page z w =
+    let n = length (lineCodes (page .lines)) in
+    rw (
+      le-leb 4 (suc (suc (suc (suc (length (lineCodes (page .lines) ++ z)))))) (omega arith),
+      le-leb 4 (4 + n) (omega arith),
+      le-leb (4 + n) (suc (suc (suc (suc (length (lineCodes (page .lines) ++ z)))))) (omega (arith, length-append (lineCodes (page .lines)) z)),
+      le-leb 1 (page .top) (w .top-least),
+      le-leb (page .top) 200 (w .top-most),
+      le-leb 1 (page .conditions) (w .conditions-least),
+      le-leb (page .conditions) 512 (w .conditions-most),
+      le-leb (length (page .lines)) 1024 (w .few-lines),
+    )
+    (lines-pass (page .top) (page .conditions) (4 + n - 4) (page .lines) z (w .ranged) (omega arith))
+
+-- a sound area is the area of its page
+code-literal : (x : ℕ) → codeOf (literalOf x) ≡ x
+code-literal x = go (eqb (x % 2) 0) refl
+  where
+    go : (t : Bool) → eqb (x % 2) 0 ≡ t → codeOf (cond t (positive (x / 2)) (negative (x / 2))) ≡ x
+    go true e = omega (arith, eqb-true (x % 2) 0 e)
+    go false e = let h : x % 2 ≢ 0 = eqb-false (x % 2) 0 e in omega arith
+
+code-literals : (xs : List ℕ) → map codeOf (map literalOf xs) ≡ xs
+code-literals [] = refl
+code-literals (x ∷ xs) = ap₂ {C = List ℕ} (λ y ys. y ∷ ys) (code-literal x) (code-literals xs)
+
+abbrev numberOf : Kind → ℕ
+numberOf factKind = 0
+numberOf (ruleKind op) = kindOf op
+numberOf queryKind = 6
+numberOf noKind = 7
+
+abbrev Known : Kind → Type 0
+Known factKind = Unit {0}
+Known (ruleKind op) = Unit {0}
+Known queryKind = Unit {0}
+Known noKind = ⊥
+
+kind-back : (k : ℕ) → Known (kind k) → numberOf (kind k) ≡ k
+unfolding kind
+kind-back zero w = refl
+kind-back (suc zero) w = refl
+kind-back (suc (suc zero)) w = refl
+kind-back (suc (suc (suc zero))) w = refl
+kind-back (suc (suc (suc (suc zero)))) w = refl
+kind-back (suc (suc (suc (suc (suc zero))))) w = refl
+kind-back (suc (suc (suc (suc (suc (suc zero)))))) w = refl
+kind-back (suc (suc (suc (suc (suc (suc (suc k))))))) w = absurd w
+
+reading-back : (x c : ℕ) → x ≤ 1 → lineCode (query (cond (eqb x 0) K W) c) ≡ c ∷ 6 ∷ x ∷ 0 ∷ []
+reading-back zero c h = refl
+reading-back (suc zero) c h = refl
+reading-back (suc (suc x)) c h = absurd (omega arith)
+
+entry-back : (top n a k x y : ℕ) (q : List ℕ) (t : Kind) → (Known t → numberOf t ≡ k) → Every (fieldTests top n t x y (take y q)) → spanAs t y ≤ length (a ∷ k ∷ x ∷ y ∷ q)
+    → take (spanAs t y) (a ∷ k ∷ x ∷ y ∷ q) ≡ lineCode (lineAs t a x y (take y q))
+entry-back top n a k x y q factKind e h s = rw (← e tt)
+entry-back top n a k x y q (ruleKind op) e h s =
+    let four : 4 + y ≡ suc (suc (suc (suc y))) = omega arith in
+    let size : length (map literalOf (take y q)) ≡ y = simp (length-map, length-take) (omega arith) in
+    rw (four, size, code-literals (take y q), e tt)
+entry-back top n a k x y q queryKind e h s =
+    rw (← e tt, eqb-true y 0 (h .1 .0)) (sym (reading-back x a (leb-true x 1 (h .0))))
+entry-back top n a k x y q noKind e h s = absurd (false≢true (h .0))
+
+span-least : (t : Kind) (y : ℕ) → 4 ≤ spanAs t y
+span-least factKind y = omega arith
+span-least (ruleKind op) y = omega arith
+span-least queryKind y = omega arith
+span-least noKind y = omega arith
+
+line-back : (top n left : ℕ) (p : List ℕ) → left ≤ length p → Every (lineTests top n left p) → take (span p) p ≡ lineCode (lineAt p)
+unfolding span
+line-back top n left p l h = go p (omega (arith, leb-true (span p) left (h .0))) (h .1 .1)
+  where
+    go : (p : List ℕ) → span p ≤ length p → Every (fieldTests top n (kind (getD p 1 0)) (getD p 2 0) (getD p 3 0) (literalsAt p)) → take (span p) p ≡ lineCode (lineAt p)
+    go [] s h = absurd (omega (arith, span-least (kind 0) 0))
+    go (a ∷ []) s h = absurd (omega (arith, span-least (kind 0) 0))
+    go (a ∷ k ∷ []) s h = absurd (omega (arith, span-least (kind k) 0))
+    go (a ∷ k ∷ x ∷ []) s h = absurd (omega (arith, span-least (kind k) 0))
+    go (a ∷ k ∷ x ∷ y ∷ q) s h = entry-back top n a k x y q (kind k) (kind-back k) h s
+
+lines-back : (top n k left : ℕ) (p : List ℕ) → left ≤ length p → linesOk top n k left p ≡ true → take left p ≡ lineCodes (linesOf k p)
+unfolding linesOk linesOf lineCodes
+lines-back top n zero left p l e = rw (eqb-true left 0 e)
+lines-back top n (suc k) left p l e =
+    let b = both-true (every (lineTests top n left p)) (linesOk top n k (left - span p) (drop (span p) p)) e in
+    let h = every-true (lineTests top n left p) (b .0) in
+    let f : span p ≤ left = leb-true (span p) left (h .0) in
+    let g : left ≡ span p + (left - span p) = omega arith in
+    ap (λ (j : ℕ). take j p) g ∙ take-add (span p) (left - span p) p
+    ∙ ap₂ {C = List ℕ} (λ u v. u ++ v) (line-back top n left p l h) (lines-back top n k (left - span p) (drop (span p) p) (simp length-drop (omega arith)) (b .1))
+
+length-lines : (k : ℕ) (p : List ℕ) → length (linesOf k p) ≡ k
+unfolding linesOf
+length-lines zero p = refl
+length-lines (suc k) p = ap suc (length-lines k (drop (span p) p))
+
+head-back : (a : List ℕ) → 4 ≤ usedOf a → usedOf a ≤ length a → take (usedOf a - 4) (drop 4 a) ≡ lineCodes (linesOf (countOf a) (drop 4 a))
+    → take (usedOf a) a ≡ topOf a ∷ conditionsOf a ∷ length (linesOf (countOf a) (drop 4 a)) ∷ (4 + length (lineCodes (linesOf (countOf a) (drop 4 a)))) ∷ lineCodes (linesOf (countOf a) (drop 4 a))
+head-back [] f g e = absurd (omega arith)
+head-back (t ∷ []) f g e = absurd (omega arith)
+head-back (t ∷ c ∷ []) f g e = absurd (omega arith)
+head-back (t ∷ c ∷ k ∷ []) f g e = absurd (omega arith)
+head-back (t ∷ c ∷ k ∷ u ∷ q) f g e =
+    let four : u ≡ suc (suc (suc (suc (u - 4)))) = omega arith in
+    let size : length (take (u - 4) q) ≡ u - 4 = simp length-take (omega arith) in
+    let used : u ≡ 4 + length (lineCodes (linesOf k q)) = omega (arith, ap length e) in
+    ap (λ (j : ℕ). take j (t ∷ c ∷ k ∷ u ∷ q)) four
+    ∙ ap (λ (l : List ℕ). t ∷ c ∷ k ∷ u ∷ l) e
+    ∙ ap₂ {C = List ℕ} (λ x y. t ∷ c ∷ x ∷ y ∷ lineCodes (linesOf k q)) (sym (length-lines k q)) used
+
+pub sound-exact : (a : List ℕ) → sound a ≡ true → take (usedOf a) a ≡ areaOf (pageOf a)
+unfolding sound pageOf areaOf
+sound-exact a e =
+    let b = both-true (every (headTests a)) (linesOk (topOf a) (conditionsOf a) (countOf a) (usedOf a - firstLine) (drop firstLine a)) e in
+    let h = every-true (headTests a) (b .0) in
+    let f : 4 ≤ usedOf a = leb-true 4 (usedOf a) (h .1 .0) in
+    let g : usedOf a ≤ length a = leb-true (usedOf a) (length a) (h .1 .1 .0) in
+    head-back a f g (lines-back (topOf a) (conditionsOf a) (countOf a) (usedOf a - 4) (drop 4 a) (simp length-drop (omega arith)) (b .1))

@@ -1,0 +1,20 @@
+-- the five ops and the weight
+pub mod Ops
+-- T is local, monotone, bounded and agreeing; both readings exist and are unique
+pub mod Relation
+pub mod Readings
+-- sound areas are exactly the areas of proper pages
+pub mod Soundness
+pub mod RoundTrip
+pub mod ExactAreas
+-- the computed closure is what is reached
+pub mod Table
+pub mod Closure
+-- the starred rows
+pub mod Sweeps
+pub mod Computed
+pub mod Bench
+-- demand 3
+pub mod Invariant
+pub mod Areas
+pub mod Demand

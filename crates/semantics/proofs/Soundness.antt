@@ -1,0 +1,80 @@
+-- A sound page area holds a proper page. Assumes nothing.
+use mathlib.Core.Path.{_≡_, refl, sym, ap, subst}
+use mathlib.Core.Bool.{Bool, true, false, cond, _&&_, false≢true}
+use mathlib.Core.List.{List, [], _∷_, map}
+use Prim.Native.Nat.{ℕ, zero, suc, _+_, _*_, _-_, _/_, _%_, _≤_, _<_, min}
+use native.Mathlib.Omega.{arith}
+use lib.Dec.{eqb, leb, ltb}
+use lib.ListN.{length, getD, take, drop, length-take, length-drop, length-map}
+use borrow.Author.Tests.{leb-true, ltb-true, eqb-true}
+use Rattle.semantics.specs.Area.{Kind, factKind, ruleKind, queryKind, noKind, kind, spanAs, span, literalOf, literalsAt, lineAs, linesOf, pageOf, every, allUnder, fieldTests, lineTests, headTests, linesOk, sound, firstLine, topOf, conditionsOf, countOf, usedOf}
+use Rattle.semantics.specs.Page.{Literal, positive, negative, conditionOf, Line, LiteralsBelow, InRange, AllInRange, Page, Proper}
+
+-- all tests of a list hold
+abbrev pub Every : List Bool → Type 0
+Every [] = Unit {0}
+Every (t ∷ ts) = (t ≡ true) × Every ts
+
+pub every-true : (ts : List Bool) → every ts ≡ true → Every ts
+every-true [] e = tt
+every-true (true ∷ ts) e = (refl, every-true ts e)
+every-true (false ∷ ts) e = absurd (false≢true e)
+
+pub both-true : (a b : Bool) → (a && b) ≡ true → (a ≡ true) × (b ≡ true)
+both-true true b e = (refl, e)
+both-true false b e = absurd (false≢true e)
+
+subject-of : (k : ℕ) → conditionOf (literalOf k) ≡ k / 2
+subject-of k = go (eqb (k % 2) 0)
+  where
+    go : (t : Bool) → conditionOf (cond t (positive (k / 2)) (negative (k / 2))) ≡ k / 2
+    go true = refl
+    go false = refl
+
+below : (n : ℕ) (xs : List ℕ) → allUnder (2 * n) xs ≡ true → LiteralsBelow n (map literalOf xs)
+unfolding allUnder
+below n [] e = tt
+below n (x ∷ xs) e =
+    let h = both-true (ltb x (2 * n)) (allUnder (2 * n) xs) e in
+    (omega (arith, subject-of x, ltb-true x (2 * n) (h .0)), below n xs (h .1))
+
+sizes : (p : List ℕ) → 4 + getD p 3 0 ≤ length p → length (map literalOf (literalsAt p)) ≡ getD p 3 0
+sizes p h = simp (length-map, length-take, length-drop) (omega arith)
+
+in-range : (top n : ℕ) (k : Kind) (p : List ℕ) → spanAs k (getD p 3 0) ≤ length p → getD p 0 0 < n → Every (fieldTests top n k (getD p 2 0) (getD p 3 0) (literalsAt p))
+    → InRange top n (lineAs k (getD p 0 0) (getD p 2 0) (getD p 3 0) (literalsAt p))
+in-range top n factKind p s c h = omega (arith, leb-true)
+in-range top n (ruleKind op) p s c h =
+    let z = sizes p s in
+    (c, omega (arith, leb-true), omega (arith, leb-true), omega (arith, leb-true), omega (arith, leb-true), below n (literalsAt p) (h .1 .1 .1 .1 .0))
+in-range top n queryKind p s c h = c
+in-range top n noKind p s c h = absurd (false≢true (h .0))
+
+all-in-range : (top n k left : ℕ) (p : List ℕ) → left ≤ length p → linesOk top n k left p ≡ true → AllInRange top n (linesOf k p)
+unfolding linesOk linesOf span
+all-in-range top n zero left p l e = tt
+all-in-range top n (suc k) left p l e =
+    let b = both-true (every (lineTests top n left p)) (linesOk top n k (left - span p) (drop (span p) p)) e in
+    let h = every-true (lineTests top n left p) (b .0) in (
+      in-range top n (kind (getD p 1 0)) p (omega (arith, leb-true (span p) left (h .0))) (ltb-true (getD p 0 0) n (h .1 .0)) (h .1 .1),
+      all-in-range top n k (left - span p) (drop (span p) p) (simp length-drop (omega arith)) (b .1),
+    )
+
+length-lines : (k : ℕ) (p : List ℕ) → length (linesOf k p) ≡ k
+unfolding linesOf
+length-lines zero p = refl
+length-lines (suc k) p = ap suc (length-lines k (drop (span p) p))
+
+pub sound-proper : (a : List ℕ) → sound a ≡ true → Proper (pageOf a)
+unfolding sound pageOf
+sound-proper a e =
+    let b = both-true (every (headTests a)) (linesOk (topOf a) (conditionsOf a) (countOf a) (usedOf a - firstLine) (drop firstLine a)) e in
+    let h = every-true (headTests a) (b .0) in
+    record {
+      top-least = omega (arith, leb-true);
+      top-most = omega (arith, leb-true);
+      conditions-least = omega (arith, leb-true);
+      conditions-most = omega (arith, leb-true);
+      few-lines = rw length-lines (omega (arith, leb-true));
+      ranged = all-in-range (topOf a) (conditionsOf a) (countOf a) (usedOf a - firstLine) (drop firstLine a) (simp length-drop (omega (arith, leb-true))) (b .1);
+    }

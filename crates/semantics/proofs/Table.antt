@@ -1,0 +1,46 @@
+-- Lists that hold the values of a function. Assumes nothing.
+use mathlib.Core.Path.{_≡_, refl, sym, _∙_, ap}
+use mathlib.Core.Logic.{_⊎_, inl, inr}
+use mathlib.Core.Bool.{Bool, true, false, _&&_, _||_, false≢true, or-true}
+use mathlib.Core.List.{List, [], _∷_}
+use Prim.Native.Nat.{ℕ, zero, suc, _+_, _≤_, _<_}
+use native.Mathlib.Decide.{ℕ-discrete}
+use native.Mathlib.Omega.{arith}
+use lib.ListN.{length, getD}
+use Rattle.semantics.specs.Table.{tableFrom, table, anyBelow}
+
+pub length-from : {A : Type 0} (n k : ℕ) (f : ℕ → A) → length (tableFrom n k f) ≡ n
+unfolding tableFrom
+length-from zero k f = refl
+length-from (suc n) k f = ap suc (length-from n (suc k) f)
+
+getD-from : {A : Type 0} (n k : ℕ) (f : ℕ → A) (i : ℕ) (d : A) → i < n → getD (tableFrom n k f) i d ≡ f (k + i)
+unfolding tableFrom
+getD-from zero k f i d l = absurd (omega arith)
+getD-from (suc n) k f zero d l = ap f (omega arith)
+getD-from (suc n) k f (suc i) d l = getD-from n (suc k) f i d (omega arith) ∙ ap f (omega arith)
+
+pub getD-table : {A : Type 0} (n : ℕ) (f : ℕ → A) (i : ℕ) (d : A) → i < n → getD (table n f) i d ≡ f i
+getD-table n f i d l = getD-from n 0 f i d l ∙ ap f (omega arith)
+
+pub or-cases : (a b : Bool) → (a || b) ≡ true → (a ≡ true) ⊎ (b ≡ true)
+or-cases true b e = inl refl
+or-cases false b e = inr e
+
+pub any-true : (n : ℕ) (p : ℕ → Bool) (a : ℕ) → a < n → p a ≡ true → anyBelow n p ≡ true
+unfolding anyBelow
+any-true zero p a l e = absurd (omega arith)
+any-true (suc n) p a l e =
+    elim (ℕ-discrete a n) [
+      | yes q ↦ rw (sym (ap p q) ∙ e, or-true)
+      | no q ↦ rw (any-true n p a (omega arith) e)
+    ]
+
+pub any-found : (n : ℕ) (p : ℕ → Bool) → anyBelow n p ≡ true → (a : ℕ) × (a < n) × (p a ≡ true)
+unfolding anyBelow
+any-found zero p e = absurd (false≢true e)
+any-found (suc n) p e =
+    elim (or-cases (anyBelow n p) (p n) e) [
+      | inl h ↦ let f = any-found n p h in (f .0, omega arith, f .2)
+      | inr h ↦ (n, omega arith, h)
+    ]

@@ -1,0 +1,22 @@
+-- The definitions of document 01, in the order of its sections. Each comment names the paper's term or sentence.
+-- "Grades and intervals", and the op letters
+pub mod Grade
+-- "The page", without its text, and the body value T
+pub mod Page
+pub mod Body
+-- lists that stand for sets and assignments
+pub mod Table
+-- "The two readings"; reached, R and E
+pub mod Reading
+-- "Areas"
+pub mod Area
+pub mod RunArea
+-- "The book of a run", and what each call answers
+pub mod Worklist
+pub mod Call
+-- "Operations and their refusals", on areas
+pub mod Operation
+-- demand 3, one statement
+pub mod Demand
+-- "Bench figures"
+pub mod Rows

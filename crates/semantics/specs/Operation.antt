@@ -1,0 +1,105 @@
+-- Document 01, "Operations and their refusals", on areas: what each call answers, and what it leaves in every lent slice.
+-- Assumes nothing.
+use mathlib.Core.Bool.{Bool, true, false, not, _&&_}
+use mathlib.Core.List.{List, [], _∷_, _++_}
+use mathlib.Core.Option.{Option, none, some}
+use mathlib.Core.Path.{_≡_}
+use Prim.Native.Nat.{ℕ, zero, suc, _*_}
+use lib.Dec.{leb}
+use lib.ListN.{length, drop}
+use Rattle.fixpoint.specs.Interval.{Interval, Assign}
+use Rattle.semantics.specs.Page.{Page}
+use Rattle.semantics.specs.Area.{sound, pageOf, allUnder}
+use Rattle.semantics.specs.Reading.{IsClosed, closure, countR, countE, bound}
+use Rattle.semantics.specs.Worklist.{Worklist, start}
+use Rattle.semantics.specs.RunArea.{runOf, worklistOf, reachedOf, runSound}
+use Rattle.semantics.specs.Call.{Call, evaluate, drive, value, Answer, refused, Cause, cause, firstOf, Outcome, outcome}
+
+-- Open a run: a refusal's number, or R, E and R + top × E
+pub data Opening : Type 0 where
+  refusedOpening : ℕ → Opening
+  openedWith : (R E bound : ℕ) → Opening
+
+-- 10 page area not sound; 11 fewer than 1 or more than 16 queries; 12 a query is C or more
+abbrev pub queryCauses : List ℕ → List ℕ → List Cause
+queryCauses a qs =
+    cause (not (sound a)) 10
+    ∷ cause (not (leb 1 (length qs) && leb (length qs) 16)) 11
+    ∷ cause (not (allUnder (pageOf a .conditions) qs)) 12
+    ∷ []
+
+-- .. and 13 the run area is shorter than 3 × C
+abbrev pub openCauses : List ℕ → List ℕ → List ℕ → List Cause
+openCauses a qs r = queryCauses a qs ++ (cause (not (leb (3 * pageOf a .conditions) (length r))) 13 ∷ [])
+
+pub record Opened : Type 0 where
+  pub answer : Opening
+  pub run : List ℕ
+
+abbrev pub openAs : Option ℕ → Page → List Bool → List ℕ → Opened
+openAs (some k) page m r = record { answer = refusedOpening k; run = r }
+openAs none page m r =
+    record {
+      answer = openedWith (countR page m) (countE page m) (bound page m);
+      run = runOf page m (start page m) ++ drop (3 * page .conditions) r;
+    }
+
+-- "the closure of the queries is then marked 2, and every condition holds [0;top]"; what lies past 3 × C stays
+unfoldable pub openOf : List ℕ → List ℕ → List ℕ → Opened
+openOf a qs r = openAs (firstOf (openCauses a qs r)) (pageOf a) (closure (pageOf a) qs) r
+
+-- Evaluate, drive and value: an answer, and what the run area then holds. 10 page area not sound; 14 run area too short or not sound
+pub record Left : Type 0 where
+  pub answer : Answer
+  pub run : List ℕ
+
+abbrev pub leftAs : Option ℕ → Page → List ℕ → Outcome → Left
+leftAs (some k) page r o = record { answer = refused k; run = r }
+leftAs none page r o = record { answer = o .answer; run = runOf page (reachedOf page r) (o .state) ++ drop (3 * page .conditions) r }
+
+unfoldable pub operation : List ℕ → List ℕ → Call → Left
+operation a r c =
+    leftAs (firstOf (cause (not (sound a)) 10 ∷ cause (not (runSound (pageOf a) r)) 14 ∷ [])) (pageOf a) r
+    (outcome (pageOf a) (reachedOf (pageOf a) r) (worklistOf (pageOf a) r) c)
+
+abbrev pub evaluateOf : List ℕ → List ℕ → ℕ → Left
+evaluateOf a r c = operation a r (evaluate c)
+
+abbrev pub driveOf : List ℕ → List ℕ → ℕ → Left
+driveOf a r k = operation a r (drive k)
+
+abbrev pub valueOf : List ℕ → List ℕ → ℕ → Answer
+valueOf a r c = operation a r (value c) .answer
+
+-- Closed reading: 10, 11, 12; 18 scratch shorter than 6 × C; 19 answers shorter than 2 × the list
+abbrev pub closedCauses : List ℕ → List ℕ → List ℕ → List ℕ → List Cause
+closedCauses a qs scratch answers =
+    queryCauses a qs
+    ++ (cause (not (leb (6 * pageOf a .conditions) (length scratch))) 18
+    ∷ cause (not (leb (2 * length qs) (length answers))) 19
+    ∷ [])
+
+-- "low, high per query in list order"
+abbrev pub ends : Assign → List ℕ → List ℕ
+ends C [] = []
+ends C (q ∷ qs) = C q .low ∷ C q .high ∷ ends C qs
+
+unfoldable pub zeros : ℕ → List ℕ
+zeros zero = []
+zeros (suc n) = 0 ∷ zeros n
+
+-- What an accepted call leaves: the page has a closed reading, and these are its answers. (It has exactly one: `closed-one`.)
+pub record ClosedAnswers (a qs scratch answers scratch′ answers′ : List ℕ) : Type 0 where
+  pub reading : Assign
+  pub is-closed : IsClosed (pageOf a) reading
+  pub written : answers′ ≡ ends reading qs ++ drop (2 * length qs) answers
+  pub cleared : scratch′ ≡ zeros (6 * pageOf a .conditions) ++ drop (6 * pageOf a .conditions) scratch
+
+-- the number of the refusal, or 0; a refusal leaves both slices as they are
+abbrev pub ClosedAs : Option ℕ → (code : ℕ) → (a qs scratch answers scratch′ answers′ : List ℕ) → Type 0
+ClosedAs (some k) code a qs scratch answers scratch′ answers′ = (code ≡ k) × (scratch′ ≡ scratch) × (answers′ ≡ answers)
+ClosedAs none code a qs scratch answers scratch′ answers′ = (code ≡ 0) × ClosedAnswers a qs scratch answers scratch′ answers′
+
+unfoldable pub ClosedOf : (code : ℕ) → (a qs scratch answers scratch′ answers′ : List ℕ) → Type 0
+ClosedOf code a qs scratch answers scratch′ answers′ =
+    ClosedAs (firstOf (closedCauses a qs scratch answers)) code a qs scratch answers scratch′ answers′
