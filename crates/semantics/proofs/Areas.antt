@@ -213,4 +213,3 @@ module _ (page : Page) (r : List ℕ) (ok : runSound page r ≡ true) where
       sym (from-cells r (intervalOf (table (page .conditions) (intervalAt r))) (λ c. markOf (member (table (page .conditions) (λ c. eqb (markAt r c) 2)) c) (member (table (page .conditions) (λ c. leb 1 (markAt r c))) c)) (page .conditions) run-long
       (λ c l. sym (getD-table (page .conditions) (intervalAt r) c _ l))
       (λ c l. sym (ap₂ markOf (getD-table (page .conditions) (λ c. eqb (markAt r c) 2) c false l) (getD-table (page .conditions) (λ c. leb 1 (markAt r c)) c false l) ∙ mark-back (markAt r c) (cell-sound c l .1 .1 .0))))
-

@@ -1,7 +1,7 @@
 -- The starred rows hold: one test over the list, computed. Assumes nothing.
-use mathlib.Core.Path.{_≡_, refl, sym, _∙_, ap₂, subst}
+use mathlib.Core.Path.{_≡_, refl, sym, _∙_, ap, ap₂, subst}
 use mathlib.Core.Bool.{Bool, true, false, not, _&&_, false≢true}
-use mathlib.Core.List.{List, [], _∷_}
+use mathlib.Core.List.{List, [], _∷_, append-nil}
 use Prim.Native.Nat.{ℕ, _<_}
 use lib.Dec.{eqb, ltb}
 use borrow.Author.Tests.{eqb-true, ltb-true, not-true}
@@ -13,7 +13,7 @@ use Rattle.fixpoint.specs.Support.{roof, raise}
 use Rattle.fixpoint.specs.WellFounded.{closed}
 use Rattle.semantics.specs.Area.{areaOf, pageOf, sound, kind, span, linesOf, allUnder, linesOk, lineCodes, every}
 use Rattle.semantics.specs.Body.{bodies, unknownByDefault, bodyless, largestOf, T}
-use Rattle.semantics.specs.Grade.{divided, combine, foldFrom, foldAll, weighted, negated}
+use Rattle.semantics.specs.Grade.{rounding, divided, combine, foldFrom, foldAll, weighted, negated}
 use Rattle.semantics.specs.Page.{mentions, linesName, Page, Proper}
 use Rattle.semantics.specs.Reading.{pass, passes, closure, countE, countR, bound}
 use Rattle.semantics.specs.Rows.{Row, plainly, closedly, opens, drives, Reads, Opens, Drives, Holds, AllHold, rows, page1, page3, page4, page5, page6, page7, page8, pageOurs}
@@ -27,7 +27,7 @@ use Rattle.semantics.proofs.Soundness.{both-true, Every, every-true, so
 use Rattle.semantics.proofs.Sweeps.{sweep, sweeps, plainList, supportList, closeList, rounds, closedList}
 
 pub proper : (page : Page) → sound (areaOf page) ≡ true → Proper page
-proper page e = subst Proper (page-area page) (sound-proper (areaOf page) e)
+proper page e = subst Proper (ap pageOf (sym (append-nil (areaOf page))) ∙ page-area page []) (sound-proper (areaOf page) e)
 
 sameStatus : Status → Status → Bool
 sameStatus rest rest = true
@@ -97,7 +97,7 @@ law [] e = tt
 law (r ∷ rs) e = let h = both-true (every (tests r)) (test rs) e in (passed r (every-true (tests r) (h .0)), law rs (h .1))
 
 computed : test rows ≡ true
-unfolding rows page1 page3 page4 page5 page6 page7 page8 pageOurs test sameStatus sameFlag sameSet same sum divided combine foldFrom foldAll weighted negated mentions linesName bodies unknownByDefault bodyless largestOf T tableFrom anyBelow listed pass passes closure countE countR bound sweep sweeps allUnknown plainList supportList closeList rounds closedList roof raise areaOf sound kind span allUnder linesOk lineCodes start changes waitingAfter evaluated lowestFrom driveFrom
+unfolding rows page1 page3 page4 page5 page6 page7 page8 pageOurs test sameStatus sameFlag sameSet same sum rounding divided combine foldFrom foldAll weighted negated mentions linesName bodies unknownByDefault bodyless largestOf T tableFrom anyBelow listed pass passes closure countE countR bound sweep sweeps allUnknown plainList supportList closeList rounds closedList roof raise areaOf sound kind span allUnder linesOk lineCodes start changes waitingAfter evaluated lowestFrom driveFrom
 computed = refl
 
 pub bench : AllHold rows

@@ -1,6 +1,6 @@
 -- The closure marks exactly the reached conditions. Assumes nothing.
 use mathlib.Core.Path.{_≡_, refl, sym, _∙_, ap, subst}
-use mathlib.Core.Logic.{_⊎_, inl, inr}
+use mathlib.Core.Logic.{_⊎_, inl, inr, _↔_}
 use mathlib.Core.Bool.{Bool, true, false, _&&_, _||_, false≢true, true≢false, or-true}
 use mathlib.Core.List.{List, [], _∷_}
 use Prim.Native.Nat.{ℕ, zero, suc, _+_, _*_, _≤_, _<_}
@@ -8,7 +8,7 @@ use native.Mathlib.Nat.{mul-comm}
 use native.Mathlib.Decide.{decLe}
 use native.Mathlib.Omega.{arith}
 use lib.Dec.{eqb}
-use lib.ListN.{length, getD}
+use lib.ListN.{length, getD, List·getD-eq-default}
 use lib.Seq.{ext-getD}
 use Rattle.fixpoint.specs.ChaoticIteration.{DependencyClosed, budget, edges}
 use Rattle.fixpoint.specs.Sum.{sum, bit, count}
@@ -101,6 +101,14 @@ module _ (page : Page) (qs : List ℕ) where
   unfolding closure at
   closure-length = at-length n
 
+  -- past C the closure holds nothing
+  inside-closure : (c : ℕ) → reached page qs c ≡ true → c < n
+  inside-closure c e =
+      elim (decLe (suc c) n) [
+        | yes q ↦ q
+        | no q ↦ absurd (false≢true (sym (List·getD-eq-default (closure page qs) false (omega (arith, closure-length))) ∙ e))
+      ]
+
   pub reached-sound : (c : ℕ) → c < n → reached page qs c ≡ true → Reached page qs c
   unfolding closure at
   reached-sound = at-sound n
@@ -115,7 +123,7 @@ module _ (page : Page) (qs : List ℕ) where
   later zero c l e = at-first c l ∙ e
   later (suc k) c l e = grows k c l (later k c l e)
 
-  -- a page whose rules name only conditions
+  -- for a page whose rules name only conditions, and queries that are conditions
   module _ (inside : (a b : ℕ) → names page a b ≡ true → b < n) (asked : (c : ℕ) → listed c qs ≡ true → c < n) where
     pub reached-real : {c : ℕ} → Reached page qs c → c < n
     reached-real {c} (queried m) = asked c m
@@ -126,7 +134,11 @@ module _ (page : Page) (qs : List ℕ) where
     reached-complete {c} (queried m) = later n c (asked c m) m
     reached-complete {c} (named {a = a} r e) = reached-closed a c (reached-real r) (inside a c e) (reached-complete r) e
 
-  -- the bound is the theory's
+    -- the computed closure is exactly what is reached
+    pub closure-is : (c : ℕ) → (reached page qs c ≡ true) ↔ Reached page qs c
+    closure-is c = (λ e. reached-sound c (inside-closure c e) e, reached-complete)
+
+  -- the bound is that of chaotic iteration
   pub bound-is : bound page (closure page qs) ≡ budget n (page .top) (names page) (reached page qs)
   unfolding bound countR countE
   bound-is =

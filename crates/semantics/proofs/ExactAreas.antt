@@ -1,19 +1,19 @@
 -- The sound areas are exactly the areas of proper pages, with anything behind them. Assumes nothing.
 use mathlib.Core.Path.{_≡_, refl, sym, _∙_, ap, ap₂, subst}
-use mathlib.Core.Logic.{_≢_}
+use mathlib.Core.Logic.{_≢_, _↔_}
 use mathlib.Core.Bool.{Bool, true, false, cond, _&&_, false≢true, true≢false}
 use mathlib.Core.List.{List, [], _∷_, _++_, map, append-assoc}
 use Prim.Native.Nat.{ℕ, zero, suc, _+_, _*_, _-_, _/_, _%_, _≤_, _<_}
 use native.Mathlib.Omega.{arith}
 use lib.Dec.{eqb, leb, ltb}
-use lib.ListN.{length, getD, take, drop, length-map, length-append, length-take, length-drop}
+use lib.ListN.{length, getD, take, drop, length-map, length-append, length-take, length-drop, take-append-drop}
 use lib.Seq.{take-at, drop-at, take-add, take-all}
 use borrow.Author.Tests.{leb-true, ltb-true, eqb-true, eqb-false, le-leb, lt-ltb, eq-eqb}
 use Rattle.semantics.specs.Area.{Kind, factKind, ruleKind, queryKind, noKind, kind, spanAs, span, literalOf, literalsAt, lineAs, lineAt, lineTests, linesOf, pageOf, every, allUnder, fieldTests, headTests, linesOk, sound, firstLine, topOf, conditionsOf, countOf, usedOf, kindOf, codeOf, lineCode, lineCodes, areaOf}
 use Rattle.semantics.specs.Grade.{Op, M, X, L, B, P}
 use Rattle.semantics.specs.Page.{Literal, positive, negative, conditionOf, Reading, K, W, Line, fact, rule, query, Page, LiteralsBelow, InRange, AllInRange, Proper}
 use Rattle.semantics.proofs.RoundTrip.{kind-of, line-span}
-use Rattle.semantics.proofs.Soundness.{both-true, Every, every-true}
+use Rattle.semantics.proofs.Soundness.{both-true, Every, every-true, sound-proper}
 
 -- a proper page's area is sound
 under-codes : (n : ℕ) (ls : List Literal) → LiteralsBelow n ls → allUnder (2 * n) (map codeOf ls) ≡ true
@@ -178,3 +178,21 @@ sound-exact a e =
     let f : 4 ≤ usedOf a = leb-true 4 (usedOf a) (h .1 .0) in
     let g : usedOf a ≤ length a = leb-true (usedOf a) (length a) (h .1 .1 .0) in
     head-back a f g (lines-back (topOf a) (conditionsOf a) (countOf a) (usedOf a - 4) (drop 4 a) (simp length-drop (omega arith)) (b .1))
+
+-- sound areas are exactly the areas of proper pages with anything behind them
+pub record AreaOfPage (a : List ℕ) : Type 0 where
+  pub page : Page
+  pub rest : List ℕ
+  pub proper : Proper page
+  pub is : a ≡ areaOf page ++ rest
+
+pub sound-iff : (a : List ℕ) → (sound a ≡ true) ↔ AreaOfPage a
+sound-iff a = (
+  λ e. record {
+    page = pageOf a;
+    rest = drop (usedOf a) a;
+    proper = sound-proper a e;
+    is = sym (take-append-drop (usedOf a) a) ∙ ap (λ (l : List ℕ). l ++ drop (usedOf a) a) (sound-exact a e);
+  },
+  λ r. subst (λ (l : List ℕ). sound l ≡ true) (sym (r .is)) (proper-sound (r .page) (r .rest) (r .proper)),
+)

@@ -1,28 +1,47 @@
 -- The five ops and the weight, once for all tops. Assumes nothing.
-use mathlib.Core.Path.{_≡_, refl, sym, subst}
+use mathlib.Core.Path.{_≡_, ap}
 use Prim.Native.Nat.{ℕ, zero, suc, _+_, _*_, _-_, _/_, _≤_, _<_, min, max}
-use native.Mathlib.Nat.{le-refl, le-trans, div-zero, div-mul-le-self, le-div-iff-mul-le, div-le-of-le-mul, mul-le-mul}
+use native.Mathlib.Nat.{le-trans, div-zero, div-mul-le-self, le-div-iff-mul-le, div-lt-iff-lt-mul, suc-mul, mul-le-mul}
 use native.Mathlib.Omega.{arith}
-use Rattle.semantics.specs.Grade.{End, lower, upper, divided, Op, M, X, L, B, P, combine}
+use Rattle.semantics.specs.Grade.{End, lower, upper, rounding, divided, Op, M, X, L, B, P, combine}
 
-down-mono : (top : ℕ) {x y : ℕ} → x ≤ y → x / top ≤ y / top
-down-mono zero {x} {y} h = omega (arith, div-zero x, div-zero y)
-down-mono (suc k) {x} {y} h = le-div-iff-mul-le {k = suc k} {x = x / suc k} (omega arith) .1 (le-trans (div-mul-le-self x (suc k)) h)
+-- every division rounds down now
+pub divided-down : (e : End) (x top : ℕ) → divided e x top ≡ x / top
+unfolding divided rounding
+divided-down lower x top = ap (λ (y : ℕ). y / top) (omega arith)
+divided-down upper x top = ap (λ (y : ℕ). y / top) (omega arith)
+
+-- What follows holds however the two ends round, as long as less than top is added, and at the low end no more than at the high end.
+rounding-ends : (top : ℕ) → rounding lower top ≤ rounding upper top
+unfolding rounding
+rounding-ends top = omega arith
+
+rounding-small : (top : ℕ) (e : End) → rounding e top ≤ top - 1
+unfolding rounding
+rounding-small top lower = omega arith
+rounding-small top upper = omega arith
+
+div-mono : (top : ℕ) {x y : ℕ} → x ≤ y → x / top ≤ y / top
+div-mono zero {x} {y} h = omega (arith, div-zero x, div-zero y)
+div-mono (suc k) {x} {y} h = le-div-iff-mul-le {k = suc k} {x = x / suc k} (omega arith) .1 (le-trans (div-mul-le-self x (suc k)) h)
+
+div-bounded : (top : ℕ) {x r : ℕ} → x ≤ top * top → r ≤ top - 1 → (x + r) / top ≤ top
+div-bounded zero {x} {r} h k = omega (arith, div-zero (x + r))
+div-bounded (suc n) {x} {r} h k = omega (arith, div-lt-iff-lt-mul {k = suc n} {x = x + r} {y = suc (suc n)} (omega arith) .1 (omega (arith, suc-mul (suc n) (suc n))))
 
 pub divided-mono : (top : ℕ) (e : End) {x y : ℕ} → x ≤ y → divided e x top ≤ divided e y top
 unfolding divided
-divided-mono top lower h = down-mono top h
-divided-mono top upper h = down-mono top h
+divided-mono top e h = div-mono top (omega arith)
 
 pub divided-ends : (top x : ℕ) → divided lower x top ≤ divided upper x top
 unfolding divided
-divided-ends top x = le-refl _
+divided-ends top x = div-mono top (omega (arith, rounding-ends top))
 
 pub divided-bounded : (top : ℕ) (e : End) {x y : ℕ} → x ≤ top → y ≤ top → divided e (x * y) top ≤ top
 unfolding divided
-divided-bounded top lower h k = div-le-of-le-mul top (mul-le-mul h k)
-divided-bounded top upper h k = div-le-of-le-mul top (mul-le-mul h k)
+divided-bounded top e h k = div-bounded top (mul-le-mul h k) (rounding-small top e)
 
+-- The five ops: monotone, ordered at the two ends, at most top.
 pub combine-mono : (top : ℕ) (op : Op) (e : End) {p q p′ q′ : ℕ} → p ≤ q → p′ ≤ q′ → combine top op e p p′ ≤ combine top op e q q′
 unfolding combine
 combine-mono top M e h k = omega arith

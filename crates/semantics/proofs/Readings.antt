@@ -1,5 +1,5 @@
--- A proper page is a system that agrees; both readings exist and are one. Assumes nothing.
-use mathlib.Core.Path.{_≡_, refl, sym}
+-- A proper page is a monotone system; both readings and the support exist and are unique, and no answer is crossed. Assumes nothing.
+use mathlib.Core.Path.{_≡_, _∙_}
 use mathlib.Core.Bool.{Bool, true, _&&_, false≢true}
 use mathlib.Core.Logic.{inl, inr}
 use mathlib.Core.List.{List, [], _∷_}
@@ -7,16 +7,19 @@ use lib.Dec.{eqb}
 use borrow.Author.Tests.{eqb-true}
 use Prim.Native.Nat.{ℕ, _≤_, _<_}
 use native.Mathlib.Omega.{arith}
-use Rattle.fixpoint.specs.Interval.{Interval, Ordered, Assign}
-use Rattle.fixpoint.specs.LeastFixpoint.{IsLeast, lfp}
+use Rattle.fixpoint.specs.Interval.{Within, Ordered, Assign}
+use Rattle.fixpoint.specs.KnowledgeOrder.{Under}
+use Rattle.fixpoint.specs.LeastFixpoint.{lfp}
 use Rattle.fixpoint.specs.System.{System, Agrees}
-use Rattle.fixpoint.specs.WellFounded.{IsClosedReading, closed}
+use Rattle.fixpoint.specs.WellFounded.{closed}
 use Rattle.semantics.specs.Body.{T, unknownByDefault}
 use Rattle.semantics.specs.Page.{Literal, conditionOf, mentions, Line, fact, rule, query, linesName, LiteralsBelow, AllInRange, Page, names, Proper}
-use Rattle.semantics.specs.Reading.{IsPlain, IsClosed}
-use Rattle.fixpoint.proofs.LeastFixpoint.{least-unique}
+use Rattle.semantics.specs.Reading.{IsPlain, IsSupportOf, IsClosed}
+use Rattle.fixpoint.proofs.LeastFixpoint.{least-unique, ext}
+use Rattle.fixpoint.proofs.LeastOnReached.{reading-inside}
+use Rattle.fixpoint.proofs.Support.{support-is, support-unique}
 use Rattle.fixpoint.proofs.PlainReading.{operator, plain-least, least-ordered, agrees-consistent}
-use Rattle.fixpoint.proofs.WellFounded.{closed-reading, closed-unique, reading-ordered}
+use Rattle.fixpoint.proofs.WellFounded.{closed-reading, closed-unique, closed-fixed, reading-ordered}
 use Rattle.semantics.proofs.Relation.{T-kept, same-respected, under-respected, within-respected, Compatible, compatible-respected}
 use Rattle.semantics.proofs.Soundness.{both-true}
 use Rattle.semantics.proofs.Table.{or-cases}
@@ -74,5 +77,21 @@ module _ (page : Page) (w : Proper page) where
   pub plain-ordered : {P : Assign} → IsPlain page P → (c : ℕ) → c < page .conditions → Ordered (P c)
   plain-ordered {P} = least-ordered page-system (agrees-consistent page-agrees) P
 
-  pub closed-ordered : {P : Assign} → IsClosed page P → (c : ℕ) → c < page .conditions → Ordered (P c)
+  pub closed-ordered : {C : Assign} → IsClosed page C → (c : ℕ) → c < page .conditions → Ordered (C c)
   closed-ordered = reading-ordered (operator page-system) (unknownByDefault page) page-agrees
+
+  -- the closed reading is a fixed point of T, and lies at or above the plain one in knowledge: the closed interval is inside the plain one
+  pub closed-equal : {C : Assign} → IsClosed page C → (c : ℕ) → c < page .conditions → C c ≡ T page C c
+  closed-equal {C} p c l =
+      closed-one p closed-is c l ∙ closed-fixed (operator page-system) (unknownByDefault page) c l
+      ∙ ext (operator page-system) _ C (λ b m. closed-one closed-is p b m) c l
+
+  pub closed-inside : {P C : Assign} → IsPlain page P → IsClosed page C → (c : ℕ) → c < page .conditions → Under (P c) (C c)
+  closed-inside = reading-inside (operator page-system)
+
+  -- the support exists for every assignment of grades, and there is one
+  pub support-exists : (I : Assign) → ((c : ℕ) → c < page .conditions → Within (page .top) (I c)) → (J : Assign) × IsSupportOf page I J
+  support-exists I w = (_, support-is (operator page-system) (unknownByDefault page) I w)
+
+  pub support-one : {I J K : Assign} → IsSupportOf page I J → IsSupportOf page I K → (c : ℕ) → c < page .conditions → J c ≡ K c
+  support-one = support-unique

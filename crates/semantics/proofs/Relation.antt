@@ -28,11 +28,11 @@ right : (a b : Bool) → b ≡ true → (a || b) ≡ true
 right a b e = rw (e, or-true)
 
 module _ (n : ℕ) {top : ℕ} {R : Interval → Interval → Type 0} (k : Respected top R) (I J : Assign) where
-  along-kept : (f : Interval → Interval → Interval) → ((p q p′ q′ : Interval) → R p q → R p′ q′ → R (f p p′) (f q q′))
+  fold-kept : (f : Interval → Interval → Interval) → ((p q p′ q′ : Interval) → R p q → R p′ q′ → R (f p p′) (f q q′))
       → (p q : Interval) → R p q → {ps qs : List Interval} → Forall₂ R ps qs → R (foldFrom f p ps) (foldFrom f q qs)
   unfolding foldFrom
-  along-kept f g p q h Forall₂·nil = h
-  along-kept f g p q h (Forall₂·cons {a = p′} {b = q′} r rs) = along-kept f g (f p p′) (f q q′) (g p q p′ q′ h r) rs
+  fold-kept f g p q h Forall₂·nil = h
+  fold-kept f g p q h (Forall₂·cons {a = p′} {b = q′} r rs) = fold-kept f g (f p p′) (f q q′) (g p q p′ q′ h r) rs
 
   literal-kept : (l : Literal) → R (I (conditionOf l)) (J (conditionOf l)) → R (literalValue top I l) (literalValue top J l)
   literal-kept (positive c) h = h
@@ -49,7 +49,7 @@ module _ (n : ℕ) {top : ℕ} {R : Interval → Interval → Type 0} (k : Respe
   folded-kept : (op : Op) {ps qs : List Interval} → Forall₂ R ps qs → R (foldAll (endwise (combine top op)) ps) (foldAll (endwise (combine top op)) qs)
   unfolding foldAll
   folded-kept op Forall₂·nil = k .facts 0 0 (omega arith) (omega arith)
-  folded-kept op (Forall₂·cons {a = p} {b = q} r rs) = along-kept (endwise (combine top op)) (k .ops op) p q r rs
+  folded-kept op (Forall₂·cons {a = p} {b = q} r rs) = fold-kept (endwise (combine top op)) (k .ops op) p q r rs
 
   rule-kept : (w : ℕ) (op : Op) (ls : List Literal) → w ≤ top → LiteralsBelow n ls → ((b : ℕ) → b < n → mentions ls b ≡ true → R (I b) (J b))
       → R (ruleValue top I w op ls) (ruleValue top J w op ls)
@@ -72,17 +72,17 @@ module _ (n : ℕ) {top : ℕ} {R : Interval → Interval → Type 0} (k : Respe
   greatest-kept : (d : Interval) → R d d → {ps qs : List Interval} → Forall₂ R ps qs → R (largestOf d ps) (largestOf d qs)
   unfolding largestOf
   greatest-kept d z Forall₂·nil = z
-  greatest-kept d z (Forall₂·cons {a = p} {b = q} r rs) = along-kept largest (k .largest) p q r rs
+  greatest-kept d z (Forall₂·cons {a = p} {b = q} r rs) = fold-kept largest (k .largest) p q r rs
 
-default-kept : {R : Interval → Interval → Type 0} (page : Page) → Respected (page .top) R → (c : ℕ) → R (bodyless page c) (bodyless page c)
+bodyless-kept : {R : Interval → Interval → Type 0} (page : Page) → Respected (page .top) R → (c : ℕ) → R (bodyless page c) (bodyless page c)
 unfolding bodyless
-default-kept page k c = k .facts 0 0 (omega arith) (omega arith)
+bodyless-kept page k c = k .facts 0 0 (omega arith) (omega arith)
 
 -- if R holds between I and J wherever the condition looks, it holds between the body values
 pub T-kept : {R : Interval → Interval → Type 0} (page : Page) → Proper page → Respected (page .top) R → (I J : Assign) (c : ℕ)
     → ((b : ℕ) → b < page .conditions → names page c b ≡ true → R (I b) (J b)) → R (T page I c) (T page J c)
 unfolding T
-T-kept page w k I J c h = greatest-kept (page .conditions) k I J (bodyless page c) (default-kept page k c) (bodies-kept (page .conditions) k I J (page .lines) (w .ranged) c h)
+T-kept page w k I J c h = greatest-kept (page .conditions) k I J (bodyless page c) (bodyless-kept page k c) (bodies-kept (page .conditions) k I J (page .lines) (w .ranged) c h)
 
 -- The four relations: equal values, at or under in knowledge, within top, and not contradicting one another.
 pub same-respected : (top : ℕ) → Respected top _≡_

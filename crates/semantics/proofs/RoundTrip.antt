@@ -1,4 +1,4 @@
--- The area of a page holds that page. Assumes nothing.
+-- The area of a page, with anything behind it, holds that page. Assumes nothing.
 use mathlib.Core.Path.{_≡_, refl, sym, _∙_, ap, ap₂}
 use mathlib.Core.Bool.{Bool, true, false, cond}
 use mathlib.Core.List.{List, [], _∷_, _++_, map, append-assoc}
@@ -46,12 +46,13 @@ line-span (rule c w op lits) r = rw (kind-of op, four (length lits)) (drop-at (m
 line-span (query K c) r = refl
 line-span (query W c) r = refl
 
-lines-code : (ls : List Line) → linesOf (length ls) (lineCodes ls) ≡ ls
+lines-code : (ls : List Line) (z : List ℕ) → linesOf (length ls) (lineCodes ls ++ z) ≡ ls
 unfolding linesOf lineCodes
-lines-code [] = refl
-lines-code (l ∷ ls) =
-    ap₂ {C = List Line} (λ x xs. x ∷ xs) (line-code l (lineCodes ls)) (ap (linesOf (length ls)) (line-span l (lineCodes ls)) ∙ lines-code ls)
+lines-code [] z = refl
+lines-code (l ∷ ls) z =
+    rw append-assoc
+    (ap₂ {C = List Line} (λ x xs. x ∷ xs) (line-code l (lineCodes ls ++ z)) (ap (linesOf (length ls)) (line-span l (lineCodes ls ++ z)) ∙ lines-code ls z))
 
-pub page-area : (page : Page) → pageOf (areaOf page) ≡ page
+pub page-area : (page : Page) (z : List ℕ) → pageOf (areaOf page ++ z) ≡ page
 unfolding pageOf areaOf
-page-area page = λ i. record { top = page .top; conditions = page .conditions; lines = lines-code (page .lines) i }
+page-area page z = λ i. record { top = page .top; conditions = page .conditions; lines = lines-code (page .lines) z i }

@@ -8,10 +8,14 @@ use Rattle.fixpoint.specs.Interval.{Interval}
 pub data End : Type 0 where
   lower upper : End
 
--- "Every division rounds down, at both ends": the one place that says how a division by top rounds
+-- "Every division rounds down, at both ends": what is added before a division by top, 0 to round down and top − 1 to round up
+unfoldable pub rounding : End → ℕ → ℕ
+rounding lower top = 0
+rounding upper top = 0
+
+-- x divided by top
 unfoldable pub divided : End → ℕ → ℕ → ℕ
-divided lower x top = x / top
-divided upper x top = x / top
+divided e x top = (x + rounding e top) / top
 
 -- the op letters
 pub data Op : Type 0 where

@@ -76,17 +76,19 @@ page8 =
           ∷ [];
     }
 
--- Ours: three literals under P and under L. From the left 5 P 5 P 9 is 2 P 9, which is 1; from the right it would be 5 P 4, which is 2.
+-- Ours: three literals under P, L and X. From the left 5 P 5 P 9 is 2 P 9, which is 1; from the right it would be 5 P 4, which is 2.
+-- (No starred row has three literals, or an X.)
 unfoldable pub pageOurs : Page
 pageOurs =
     record {
       top = 10;
-      conditions = 5;
+      conditions = 6;
       lines = fact 0 5 5
           ∷ fact 1 9 9
           ∷ fact 2 8 8
           ∷ rule 3 10 P (positive 0 ∷ positive 0 ∷ positive 1 ∷ [])
           ∷ rule 4 10 L (positive 1 ∷ positive 2 ∷ positive 1 ∷ [])
+          ∷ rule 5 10 X (positive 0 ∷ positive 1 ∷ positive 2 ∷ [])
           ∷ [];
     }
 
@@ -121,4 +123,5 @@ rows =
     -- our own row
     ∷ plainly pageOurs 3 1 1
     ∷ plainly pageOurs 4 6 6
+    ∷ plainly pageOurs 5 9 9
     ∷ []
