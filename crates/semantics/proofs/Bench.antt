@@ -16,7 +16,7 @@ use Rattle.semantics.specs.Body.{bodies, unknownByDefault, bodyless, lar
 use Rattle.semantics.specs.Grade.{rounding, divided, combine, foldFrom, foldAll, weighted, negated}
 use Rattle.semantics.specs.Page.{mentions, linesName, Page, Proper}
 use Rattle.semantics.specs.Reading.{pass, passes, closure, countE, countR, bound}
-use Rattle.semantics.specs.Rows.{Row, plainly, closedly, opens, drives, Reads, Opens, Drives, Holds, AllHold, rows, page1, page3, page4, page5, page6, page7, page8, pageOurs}
+use Rattle.semantics.specs.Rows.{interval, Row, plainly, closedly, opens, drives, Reads, Opens, Drives, Holds, AllHold, rows, page1, page3, page4, page5, page6, page7, page8, pageOurs}
 use Rattle.semantics.specs.Table.{intervalOf, member, tableFrom, anyBelow, listed, allUnknown}
 use Rattle.semantics.specs.Worklist.{Worklist, start, changes, waitingAfter, evaluated, lowestFrom, driveFrom, driven, Status, rest, spent, status}
 use Rattle.fixpoint.proofs.Evaluation.{same-true}
@@ -66,14 +66,29 @@ same-set (a ∷ v) (b ∷ w) e =
     let h = both-true (sameFlag a b) (sameSet v w) e in
     ap₂ {C = List Bool} (λ x xs. x ∷ xs) (same-flag a b (h .0)) (same-set v w (h .1))
 
+sameAll : List Interval → List Interval → Bool
+sameAll [] [] = true
+sameAll [] (q ∷ qs) = false
+sameAll (p ∷ ps) [] = false
+sameAll (p ∷ ps) (q ∷ qs) = same p q && sameAll ps qs
+
+same-all : (ps qs : List Interval) → sameAll ps qs ≡ true → ps ≡ qs
+unfolding sameAll
+same-all [] [] e = refl
+same-all [] (q ∷ qs) e = absurd (false≢true e)
+same-all (p ∷ ps) [] e = absurd (false≢true e)
+same-all (p ∷ ps) (q ∷ qs) e =
+    let h = both-true (same p q) (sameAll ps qs) e in
+    ap₂ {C = List Interval} (λ x xs. x ∷ xs) (same-true p q (h .0)) (same-all ps qs (h .1))
+
 abbrev tests : Row → List Bool
-tests (plainly page c l h) = sound (areaOf page) ∷ ltb c (page .conditions) ∷ same (intervalOf (plainList page) c) (record { low = l; high = h }) ∷ []
-tests (closedly page c l h) = sound (areaOf page) ∷ ltb c (page .conditions) ∷ same (intervalOf (closedList page) c) (record { low = l; high = h }) ∷ []
+tests (plainly page c l h) = sound (areaOf page) ∷ ltb c (page .conditions) ∷ same (intervalOf (plainList page) c) (interval l h) ∷ []
+tests (closedly page c l h) = sound (areaOf page) ∷ ltb c (page .conditions) ∷ same (intervalOf (closedList page) c) (interval l h) ∷ []
 tests (opens page qs r e b) = eqb (countR page (closure page qs)) r ∷ eqb (countE page (closure page qs)) e ∷ eqb (bound page (closure page qs)) b ∷ []
-tests (drives page qs k o t w) =
+tests (drives page qs k o t w ps) =
     let m = closure page qs in
     let d = driven page m k (start page m) in
-    eqb (d .taken) t ∷ sameStatus (status (d .state)) o ∷ sameSet (d .state .waiting) w ∷ []
+    eqb (d .taken) t ∷ sameStatus (status (d .state)) o ∷ sameSet (d .state .waiting) w ∷ sameAll (d .state .intervals) ps ∷ []
 
 passed : (r : Row) → Every (tests r) → Holds r
 passed (plainly page c l h) z =
@@ -85,7 +100,7 @@ passed (closedly page c l h) z =
     let k : c < page .conditions = ltb-true c (page .conditions) (z .1 .0) in
     (k, record { some-one = (_, closed-is page w); every-one = λ I p. closed-list page w I p c k ∙ same-true _ _ (z .1 .1 .0) })
 passed (opens page qs r e b) z = record { reached = eqb-true _ _ (z .0); edges = eqb-true _ _ (z .1 .0); limit = eqb-true _ _ (z .1 .1 .0) }
-passed (drives page qs k o t w) z = record { count = eqb-true _ _ (z .0); ends = same-status _ _ (z .1 .0); waits = same-set _ _ (z .1 .1 .0) }
+passed (drives page qs k o t w ps) z = record { count = eqb-true _ _ (z .0); ends = same-status _ _ (z .1 .0); waits = same-set _ _ (z .1 .1 .0); holds = same-all _ _ (z .1 .1 .1 .0) }
 
 test : List Row → Bool
 test [] = true
@@ -97,7 +112,7 @@ law [] e = tt
 law (r ∷ rs) e = let h = both-true (every (tests r)) (test rs) e in (passed r (every-true (tests r) (h .0)), law rs (h .1))
 
 computed : test rows ≡ true
-unfolding rows page1 page3 page4 page5 page6 page7 page8 pageOurs test sameStatus sameFlag sameSet same sum rounding divided combine foldFrom foldAll weighted negated mentions linesName bodies unknownByDefault bodyless largestOf T tableFrom anyBelow listed pass passes closure countE countR bound sweep sweeps allUnknown plainList supportList closeList rounds closedList roof raise areaOf sound kind span allUnder linesOk lineCodes start changes waitingAfter evaluated lowestFrom driveFrom
+unfolding rows page1 page3 page4 page5 page6 page7 page8 pageOurs test sameStatus sameFlag sameSet sameAll same sum rounding divided combine foldFrom foldAll weighted negated mentions linesName bodies unknownByDefault bodyless largestOf T tableFrom anyBelow listed pass passes closure countE countR bound sweep sweeps allUnknown plainList supportList closeList rounds closedList roof raise areaOf sound kind span allUnder linesOk lineCodes start changes waitingAfter evaluated lowestFrom driveFrom
 computed = refl
 
 pub bench : AllHold rows

@@ -1,5 +1,5 @@
 -- Demand 3: after an accepted opening, any list of calls on areas follows the book, and the book keeps what is asked. Assumes nothing.
-use mathlib.Core.Path.{_≡_, refl, sym, _∙_, ap, subst}
+use mathlib.Core.Path.{_≡_, refl, sym, _∙_, ap, ap₂}
 use mathlib.Core.Logic.{_≢_, _↔_}
 use mathlib.Core.Bool.{Bool, true, false, not, cond, _&&_, _||_, true≢false, false≢true}
 use mathlib.Core.List.{List, [], _∷_}
@@ -21,16 +21,16 @@ use Rattle.semantics.specs.Area.{allUnder, sound, pageOf}
 use Rattle.semantics.specs.Body.{T}
 use Rattle.semantics.specs.Call.{Call, evaluate, drive, value, Answer, refused, changed, unchanged, drove, valued, Outcome, Cause, cause, firstOf, unless, outcome, taken, takenBy}
 use Rattle.semantics.specs.Demand.{perform, performFrom, performBook, Performed, Recorded, Demand3}
-use Rattle.semantics.specs.Operation.{openCauses, openOf, openAs, Opened, operation, Left, leftAs}
+use Rattle.semantics.specs.Operation.{openCauses, openOf, openAs, Opened, operation, Left, leftAs, openedWith}
 use Rattle.semantics.specs.Page.{Page, names, Proper}
-use Rattle.semantics.specs.Reading.{IsPlain, Reached, closure, bound, reached}
+use Rattle.semantics.specs.Reading.{IsPlain, Reached, closure, bound, reached, countR, countE}
 use Rattle.semantics.specs.RunArea.{runOf, reachedOf, worklistOf, runSound}
 use Rattle.semantics.specs.Table.{listed, intervalOf, member, table, allUnknown}
 use Rattle.semantics.specs.Worklist.{Worklist, start, changes, waitingAfter, evaluated, lowestFrom, lowest, Status, rest, spent, statusAs, status, Driven, driveFrom, driven}
 use Rattle.fixpoint.proofs.ChaoticIteration.{kept-first, in-time, none-waits, done}
 use Rattle.fixpoint.proofs.ChaoticStep.{kept}
 use Rattle.semantics.proofs.Areas.{State, run-sound, marks-back, book-back, rest-back}
-use Rattle.semantics.proofs.Closure.{reached-closed, reached-complete, bound-is, closure-length, reached-real}
+use Rattle.semantics.proofs.Closure.{reached-closed, reached-complete, bound-is, closure-length, reached-real, closure-is}
 use Rattle.semantics.proofs.Invariant.{lowest-some, lowest-none, rest-none, Invariant, after, waits-real, no-cause-holds, invariant-first, invariant-call, NoCause}
 use Rattle.semantics.proofs.Readings.{page-system, plain-is, plain-ordered, names-inside}
 use Rattle.semantics.proofs.Soundness.{sound-proper, both-true}
@@ -94,24 +94,39 @@ module _ (a : List ℕ) (ok : sound a ≡ true) (qs : List ℕ) where
       let o = outcome page (closure page qs) b c in
       rw (one b t h z c) (rw (many cs (o .state) (t + takenBy (o .answer)) (invariant-call page w qs _ (plain-is page w) b t c h) z))
 
--- Demand 3. An opening is accepted where no cause of refusal holds.
-pub demand3 : (a qs r : List ℕ) → firstOf (openCauses a qs r) ≡ none → (calls : List Call) → Demand3 a qs r calls
-demand3 a qs r e calls =
+-- an opening that returns R, E and the bound had no cause of refusal
+opened-with : (o : Option ℕ) (page : Page) (m : List Bool) (r : List ℕ) (R E B : ℕ) → openAs o page m r .answer ≡ openedWith R E B
+    → (o ≡ none) × (countR page m ≡ R) × (countE page m ≡ E) × (bound page m ≡ B)
+opened-with none page m r R E B e = (refl, (cc), (cc), (cc))
+opened-with (some k) page m r R E B e = absurd (let z : _≡_ {A = ℕ} 0 1 = cc in omega arith)
+
+pub demand3 : Demand3
+demand3 a qs r R E B e calls =
     record {
+      bound-is = bound-by;
+      reached-are = closure-is (pageOf a) qs (names-inside (pageOf a) w) asked;
       area = ap (λ (j : Performed). j .run) same;
       answers = same-answers;
       plain-exists = (_, plain-is (pageOf a) w);
       covers = λ P p c g l lo hi. let u = after (pageOf a) w qs P p calls .state .known c l in (omega arith, omega arith);
-      in-time = rw (same-answers, bound-is (pageOf a) qs) (in-time S C (plain-is (pageOf a) w) (K .state));
+      in-time = rw (same-answers, ← o .3, bound-is (pageOf a) qs) (in-time S C (plain-is (pageOf a) w) (K .state));
       rests = rest-iff (pageOf a .conditions) b (K .waiting-length);
       accepted = λ c h k f. accepted-by (pageOf a) (closure (pageOf a) qs) b c (waits-real (pageOf a) w qs _ (plain-is (pageOf a) w) b _ c K h) h k
-          (sym (ap (λ (o : Left). o .answer) (ap (λ (l : List ℕ). operation a l (evaluate c)) (ap (λ (j : Performed). j .run) same) ∙ one a ok qs b _ K (drop (3 * pageOf a .conditions) r) (evaluate c))) ∙ f);
-      bound-rests = λ f. rest-iff (pageOf a .conditions) b (K .waiting-length) .1 (none-waits S C (plain-is (pageOf a) w) (K .state) (sym (ap taken same-answers) ∙ f ∙ bound-is (pageOf a) qs));
-      plain = λ f P p c h. done S C p (after (pageOf a) w qs P p calls .state) (rest-iff (pageOf a .conditions) b (K .waiting-length) .0 f) c (reached-real (pageOf a) qs (names-inside (pageOf a) w) asked h) (reached-complete (pageOf a) qs (names-inside (pageOf a) w) asked h);
+          (sym (ap (λ (l : Left). l .answer) (ap (λ (l : List ℕ). operation a l (evaluate c)) (ap (λ (j : Performed). j .run) same) ∙ one a ok qs b _ K (drop (3 * pageOf a .conditions) r) (evaluate c))) ∙ f);
+      bound-rests = λ f. rest-iff (pageOf a .conditions) b (K .waiting-length) .1
+          (none-waits S C (plain-is (pageOf a) w) (K .state) (sym (ap taken same-answers) ∙ f ∙ sym (o .3) ∙ bound-is (pageOf a) qs));
+      plain = λ f P p c h. done S C p (after (pageOf a) w qs P p calls .state) (rest-iff (pageOf a .conditions) b (K .waiting-length) .0 f) c
+          (reached-real (pageOf a) qs (names-inside (pageOf a) w) asked h) (reached-complete (pageOf a) qs (names-inside (pageOf a) w) asked h);
     }
   where
+    o : (firstOf (openCauses a qs r) ≡ none) × (countR (pageOf a) (closure (pageOf a) qs) ≡ R) × (countE (pageOf a) (closure (pageOf a) qs) ≡ E) × (bound (pageOf a) (closure (pageOf a) qs) ≡ B)
+    o = unfold openOf in opened-with (firstOf (openCauses a qs r)) (pageOf a) (closure (pageOf a) qs) r R E B e
+
+    bound-by : B ≡ R + pageOf a .top * E
+    bound-by = unfold bound in sym (o .3) ∙ ap₂ (λ (x y : ℕ). x + pageOf a .top * y) (o .1) (o .2)
+
     no : NoCause (openCauses a qs r)
-    no = no-cause-holds (openCauses a qs r) e
+    no = no-cause-holds (openCauses a qs r) (o .0)
 
     ok : sound a ≡ true
     ok = not-false (sound a) (no .0)
@@ -135,7 +150,7 @@ demand3 a qs r e calls =
     K = after (pageOf a) w qs _ (plain-is (pageOf a) w) calls
 
     opens : openOf a qs r .run ≡ runOf (pageOf a) (closure (pageOf a) qs) (start (pageOf a) (closure (pageOf a) qs)) ++ drop (3 * pageOf a .conditions) r
-    opens = unfold openOf in ap (λ (o : Option ℕ). openAs o (pageOf a) (closure (pageOf a) qs) r .run) e
+    opens = unfold openOf in ap (λ (x : Option ℕ). openAs x (pageOf a) (closure (pageOf a) qs) r .run) (o .0)
 
     same : perform a (openOf a qs r .run) calls
         ≡ record { answers = performBook (pageOf a) qs calls .answers; run = runOf (pageOf a) (closure (pageOf a) qs) (performBook (pageOf a) qs calls .state) ++ drop (3 * pageOf a .conditions) r }

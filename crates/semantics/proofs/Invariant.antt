@@ -1,4 +1,4 @@
--- What every list of calls keeps of the book: the invariant of chaotic iteration, and that no interval widens. Assumes nothing.
+-- What every list of calls keeps of the book: the invariant of chaotic iteration, and that an unreached condition holds [0;top]. Assumes nothing.
 use mathlib.Core.Path.{_≡_, refl, sym, _∙_, ap, subst}
 use mathlib.Core.Logic.{_≢_, _↔_}
 use mathlib.Core.Bool.{Bool, true, false, not, cond, _&&_, _||_, true≢false, false≢true}

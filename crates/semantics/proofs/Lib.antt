@@ -14,6 +14,9 @@ pub mod Closure
 pub mod Sweeps
 pub mod Computed
 pub mod Bench
+pub mod AreaBench
+-- what operations keep
+pub mod Operations
 -- demand 3
 pub mod Invariant
 pub mod Areas

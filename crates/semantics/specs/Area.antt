@@ -99,7 +99,7 @@ unfoldable pub linesOk : ℕ → ℕ → ℕ → ℕ → List ℕ → Bool
 linesOk top n zero left p = eqb left 0
 linesOk top n (suc k) left p = every (lineTests top n left p) && linesOk top n k (left - span p) (drop (span p) p)
 
--- "at least as long as its four head numbers and its used length", top 1 to 200, C 1 to 512, "the count of lines is at most 1,024"
+-- "at least as long as its four head numbers and its used length (these four numbers counted in it)", top 1 to 200, C 1 to 512, "the count of lines is at most 1,024"
 abbrev pub headTests : List ℕ → List Bool
 headTests a =
     leb firstLine (length a)

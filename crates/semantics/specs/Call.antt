@@ -63,4 +63,4 @@ takenBy (valued p s) = 0
 
 unfoldable pub taken : List Answer → ℕ
 taken [] = 0
-taken (a ∷ rest) = takenBy a + taken rest
+taken (a ∷ more) = takenBy a + taken more

@@ -3,17 +3,17 @@ use mathlib.Core.Path.{_≡_}
 use mathlib.Core.Logic.{_≢_, _↔_}
 use mathlib.Core.Bool.{Bool, true, false}
 use mathlib.Core.List.{List, [], _∷_, _++_}
-use Prim.Native.Nat.{ℕ, _*_, _≤_, _<_}
+use Prim.Native.Nat.{ℕ, _+_, _*_, _≤_, _<_}
 use lib.ListN.{drop}
 use Rattle.fixpoint.specs.Interval.{Interval, Assign}
 use Rattle.semantics.specs.Page.{Page}
 use Rattle.semantics.specs.Table.{member, intervalOf}
-use Rattle.semantics.specs.Reading.{IsPlain, Reached, closure, bound}
+use Rattle.semantics.specs.Reading.{IsPlain, Reached, closure}
 use Rattle.semantics.specs.Area.{pageOf}
 use Rattle.semantics.specs.Worklist.{Worklist, start, Status, rest, status}
 use Rattle.semantics.specs.RunArea.{runOf}
 use Rattle.semantics.specs.Call.{Call, evaluate, Answer, refused, Outcome, outcome, taken}
-use Rattle.semantics.specs.Operation.{Left, operation, openOf}
+use Rattle.semantics.specs.Operation.{openedWith, Left, operation, openOf}
 
 -- a list of calls on areas: the answers, and the run area after them
 pub record Performed : Type 0 where
@@ -47,8 +47,11 @@ performBook page qs calls = performFrom page (closure page qs) (start page (clos
 abbrev pub bookAt : Page → List ℕ → List Call → Assign
 bookAt page qs calls = intervalOf (performBook page qs calls .state .intervals)
 
--- For a page area a, queries qs and a run area r whose opening is accepted, and the calls:
-pub record Demand3 (a qs r : List ℕ) (calls : List Call) : Type 0 where
+-- What holds after the calls, for a page area a, queries qs and a run area r whose opening returned R, E and B:
+pub record RunKeeps (a qs r : List ℕ) (R E B : ℕ) (calls : List Call) : Type 0 where
+  pub bound-is : B ≡ R + pageOf a .top * E
+  -- the computed closure is what the queries reach
+  pub reached-are : (c : ℕ) → (member (closure (pageOf a) qs) c ≡ true) ↔ Reached (pageOf a) qs c
   -- the area is the book's, with what lies past 3 × C untouched, and the answers are the book's
   pub area : perform a (openOf a qs r .run) calls .run
       ≡ runOf (pageOf a) (closure (pageOf a) qs) (performBook (pageOf a) qs calls .state) ++ drop (3 * pageOf a .conditions) r
@@ -59,7 +62,7 @@ pub record Demand3 (a qs r : List ℕ) (calls : List Call) : Type 0 where
   pub covers : (P : Assign) → IsPlain (pageOf a) P → (c g : ℕ) → c < pageOf a .conditions → P c .low ≤ g → g ≤ P c .high
       → (bookAt (pageOf a) qs calls c .low ≤ g) × (g ≤ bookAt (pageOf a) qs calls c .high)
   -- the evaluations taken, by the answers given, are at most R + top × E
-  pub in-time : taken (perform a (openOf a qs r .run) calls .answers) ≤ bound (pageOf a) (closure (pageOf a) qs)
+  pub in-time : taken (perform a (openOf a qs r .run) calls .answers) ≤ B
   -- at rest exactly when no condition waits
   pub rests : (status (performBook (pageOf a) qs calls .state) ≡ rest)
       ↔ ((c : ℕ) → c < pageOf a .conditions → member (performBook (pageOf a) qs calls .state .waiting) c ≡ false)
@@ -67,8 +70,14 @@ pub record Demand3 (a qs r : List ℕ) (calls : List Call) : Type 0 where
   pub accepted : (c : ℕ) → member (performBook (pageOf a) qs calls .state .waiting) c ≡ true
       → (k : ℕ) → operation a (perform a (openOf a qs r .run) calls .run) (evaluate c) .answer ≢ refused k
   -- with the bound taken the run is at rest
-  pub bound-rests : taken (perform a (openOf a qs r .run) calls .answers) ≡ bound (pageOf a) (closure (pageOf a) qs)
+  pub bound-rests : taken (perform a (openOf a qs r .run) calls .answers) ≡ B
       → status (performBook (pageOf a) qs calls .state) ≡ rest
   -- at rest every reached condition holds its plain answer
   pub plain : status (performBook (pageOf a) qs calls .state) ≡ rest → (P : Assign) → IsPlain (pageOf a) P
       → (c : ℕ) → Reached (pageOf a) qs c → bookAt (pageOf a) qs calls c ≡ P c
+
+-- Demand 3: any accepted opening, then any list of calls
+abbrev pub Demand3 : Type 0
+Demand3 =
+    (a qs r : List ℕ) (R E B : ℕ) → openOf a qs r .answer ≡ openedWith R E B → (calls : List Call)
+    → RunKeeps a qs r R E B calls

@@ -20,3 +20,4 @@ pub mod Operation
 pub mod Demand
 -- "Bench figures"
 pub mod Rows
+pub mod AreaRows

@@ -71,11 +71,15 @@ driveOf a r k = operation a r (drive k)
 abbrev pub valueOf : List ℕ → List ℕ → ℕ → Answer
 valueOf a r c = operation a r (value c) .answer
 
+-- how many scratch numbers the closed reading takes
+abbrev pub scratchLength : Page → ℕ
+scratchLength page = 6 * page .conditions
+
 -- Closed reading: 10, 11, 12; 18 scratch shorter than 6 × C; 19 answers shorter than 2 × the list
 abbrev pub closedCauses : List ℕ → List ℕ → List ℕ → List ℕ → List Cause
 closedCauses a qs scratch answers =
     queryCauses a qs
-    ++ (cause (not (leb (6 * pageOf a .conditions) (length scratch))) 18
+    ++ (cause (not (leb (scratchLength (pageOf a)) (length scratch))) 18
     ∷ cause (not (leb (2 * length qs) (length answers))) 19
     ∷ [])
 
@@ -93,7 +97,7 @@ pub record ClosedAnswers (a qs scratch answers scratch′ answers′ : List ℕ)
   pub reading : Assign
   pub is-closed : IsClosed (pageOf a) reading
   pub written : answers′ ≡ ends reading qs ++ drop (2 * length qs) answers
-  pub cleared : scratch′ ≡ zeros (6 * pageOf a .conditions) ++ drop (6 * pageOf a .conditions) scratch
+  pub cleared : scratch′ ≡ zeros (scratchLength (pageOf a)) ++ drop (scratchLength (pageOf a)) scratch
 
 -- the number of the refusal, or 0; a refusal leaves both slices as they are
 abbrev pub ClosedAs : Option ℕ → (code : ℕ) → (a qs scratch answers scratch′ answers′ : List ℕ) → Type 0

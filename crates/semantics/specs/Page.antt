@@ -30,7 +30,7 @@ pub record Page : Type 0 where
   pub conditions : ℕ
   pub lines : List Line
 
--- "names": some R line with head a has b among its literals, plain or negated
+-- b is among the literals, plain or negated
 unfoldable pub mentions : List Literal → ℕ → Bool
 mentions [] b = false
 mentions (l ∷ ls) b = eqb (conditionOf l) b || mentions ls b
@@ -41,6 +41,7 @@ linesName (fact c l h ∷ ls) a b = linesName ls a b
 linesName (rule c w op lits ∷ ls) a b = (eqb c a && mentions lits b) || linesName ls a b
 linesName (query r c ∷ ls) a b = linesName ls a b
 
+-- "names": some R line with head a has b among its literals
 abbrev pub names : Page → ℕ → ℕ → Bool
 names page = linesName (page .lines)
 

@@ -12,7 +12,8 @@ use Rattle.semantics.specs.Page.{Page, names}
 use Rattle.semantics.specs.Body.{T, unknownByDefault}
 use Rattle.semantics.specs.Table.{table, member, anyBelow, listed}
 
--- Plain: "the assignment least in knowledge order among those where every condition equals its T"
+-- Plain: "the assignment least in knowledge order among those where every condition equals its T".
+-- Assignments give each condition a pair of grades, low above high included.
 abbrev pub IsPlain : Page → Assign → Type 0
 IsPlain page = IsLeast (page .conditions) (page .top) (T page)
 

@@ -9,14 +9,17 @@ use Rattle.semantics.specs.Page.{Literal, positive, negative, Reading, K
 use Rattle.semantics.specs.Reading.{IsPlain, IsClosed, closure, countR, countE, bound}
 use Rattle.semantics.specs.Worklist.{Worklist, Status, rest, spent, status, start, driven}
 
+abbrev pub interval : ℕ → ℕ → Interval
+interval l h = record { low = l; high = h }
+
 pub data Row : Type 0 where
   -- the plain, and the closed, answer of a condition
   plainly : Page → (condition low high : ℕ) → Row
   closedly : Page → (condition low high : ℕ) → Row
   -- R, E and the bound of an opening
   opens : Page → (queries : List ℕ) → (R E bound : ℕ) → Row
-  -- a drive from an opening: how it ends, the count taken, and who waits then
-  drives : Page → (queries : List ℕ) → (allowance : ℕ) → Status → (taken : ℕ) → (waiting : List Bool) → Row
+  -- a drive from an opening: how it ends, the count taken, who waits then, and the intervals held
+  drives : Page → (queries : List ℕ) → (allowance : ℕ) → Status → (taken : ℕ) → (waiting : List Bool) → (intervals : List Interval) → Row
 
 -- there is such an assignment, and every such one holds p at c
 pub record Reads (Is : Assign → Type 0) (c : ℕ) (p : Interval) : Type 0 where
@@ -28,16 +31,17 @@ pub record Opens (page : Page) (m : List Bool) (r e b : ℕ) : Type 0 where
   pub edges : countE page m ≡ e
   pub limit : bound page m ≡ b
 
-pub record Drives (page : Page) (m : List Bool) (k : ℕ) (s : Status) (t : ℕ) (w : List Bool) : Type 0 where
+pub record Drives (page : Page) (m : List Bool) (k : ℕ) (s : Status) (t : ℕ) (w : List Bool) (ps : List Interval) : Type 0 where
   pub count : driven page m k (start page m) .taken ≡ t
   pub ends : status (driven page m k (start page m) .state) ≡ s
   pub waits : driven page m k (start page m) .state .waiting ≡ w
+  pub holds : driven page m k (start page m) .state .intervals ≡ ps
 
 abbrev pub Holds : Row → Type 0
-Holds (plainly page c l h) = (c < page .conditions) × Reads (IsPlain page) c (record { low = l; high = h })
-Holds (closedly page c l h) = (c < page .conditions) × Reads (IsClosed page) c (record { low = l; high = h })
+Holds (plainly page c l h) = (c < page .conditions) × Reads (IsPlain page) c (interval l h)
+Holds (closedly page c l h) = (c < page .conditions) × Reads (IsClosed page) c (interval l h)
 Holds (opens page qs r e b) = Opens page (closure page qs) r e b
-Holds (drives page qs k s t w) = Drives page (closure page qs) k s t w
+Holds (drives page qs k s t w ps) = Drives page (closure page qs) k s t w ps
 
 abbrev pub AllHold : List Row → Type 0
 AllHold [] = Unit {0}
@@ -76,7 +80,7 @@ page8 =
           ∷ [];
     }
 
--- Ours: three literals under P, L and X. From the left 5 P 5 P 9 is 2 P 9, which is 1; from the right it would be 5 P 4, which is 2.
+-- Ours: a fact with two ends, and three literals under P, L and X. From the left 5 P 5 P 9 is 2 P 9, which is 1; from the right it would be 5 P 4, which is 2.
 -- (No starred row has three literals, or an X.)
 unfoldable pub pageOurs : Page
 pageOurs =
@@ -85,7 +89,7 @@ pageOurs =
       conditions = 6;
       lines = fact 0 5 5
           ∷ fact 1 9 9
-          ∷ fact 2 8 8
+          ∷ fact 2 8 10
           ∷ rule 3 10 P (positive 0 ∷ positive 0 ∷ positive 1 ∷ [])
           ∷ rule 4 10 L (positive 1 ∷ positive 2 ∷ positive 1 ∷ [])
           ∷ rule 5 10 X (positive 0 ∷ positive 1 ∷ positive 2 ∷ [])
@@ -99,29 +103,30 @@ rows =
     ∷ closedly page1 0 2 7
     ∷ closedly page1 1 3 8
     ∷ opens page1 (0 ∷ []) 2 2 22
-    ∷ drives page1 (0 ∷ []) 3 spent 3 (false ∷ true ∷ [])
-    ∷ drives page1 (0 ∷ []) 4 rest 4 (false ∷ false ∷ [])
+    ∷ drives page1 (0 ∷ []) 3 spent 3 (false ∷ true ∷ []) (interval 2 7 ∷ interval 3 8 ∷ [])
+    ∷ drives page1 (0 ∷ []) 4 rest 4 (false ∷ false ∷ []) (interval 2 7 ∷ interval 3 8 ∷ [])
     ∷ plainly page3 0 3 6
     ∷ plainly page3 1 0 10
     ∷ closedly page3 0 3 3
     ∷ closedly page3 1 0 0
     ∷ plainly page4 0 0 0
     ∷ opens page4 (0 ∷ []) 1 0 1
-    ∷ drives page4 (0 ∷ []) 1 rest 1 (false ∷ [])
+    ∷ drives page4 (0 ∷ []) 1 rest 1 (false ∷ []) (interval 0 0 ∷ [])
     ∷ plainly page5 0 0 1
     ∷ closedly page5 0 0 1
     ∷ plainly page6 0 0 1
     ∷ closedly page6 0 0 0
     ∷ plainly page7 0 0 0
     ∷ opens page7 (0 ∷ []) 1 1 11
-    ∷ drives page7 (0 ∷ []) 10 spent 10 (true ∷ [])
-    ∷ drives page7 (0 ∷ []) 11 rest 11 (false ∷ [])
+    ∷ drives page7 (0 ∷ []) 10 spent 10 (true ∷ []) (interval 0 0 ∷ [])
+    ∷ drives page7 (0 ∷ []) 11 rest 11 (false ∷ []) (interval 0 0 ∷ [])
     ∷ plainly page8 2 3 3
     ∷ plainly page8 3 2 2
     ∷ plainly page8 4 10 10
     ∷ plainly page8 5 2 2
     -- our own row
     ∷ plainly pageOurs 3 1 1
-    ∷ plainly pageOurs 4 6 6
-    ∷ plainly pageOurs 5 9 9
+    ∷ plainly pageOurs 2 8 10
+    ∷ plainly pageOurs 4 6 8
+    ∷ plainly pageOurs 5 9 10
     ∷ []
