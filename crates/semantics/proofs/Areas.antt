@@ -10,9 +10,9 @@ use lib.Dec.{eqb, leb, ltb}
 use mathlib.Core.Logic.{inl, inr}
 use lib.ListN.{length, getD, drop, length-append}
 use lib.Seq.{ext-getD, getD-drop, drop-at, drop-cons}
-use borrow.Author.Tests.{le-leb, leb-true}
+use borrow.Author.Tests.{le-leb, leb-true, eqb-true}
 use Rattle.fixpoint.specs.ChaoticIteration.{same}
-use Rattle.fixpoint.specs.Interval.{Interval, Assign}
+use Rattle.fixpoint.specs.Interval.{Interval, Ordered, Assign}
 use Rattle.semantics.specs.Area.{sound, pageOf, every, allUnder}
 use Rattle.semantics.specs.Call.{Call, Answer, refused, Outcome, Cause, cause, firstOf, outcome}
 use Rattle.semantics.specs.Demand.{perform, Demand3}
@@ -22,7 +22,7 @@ use Rattle.semantics.specs.Reading.{closure}
 use Rattle.semantics.specs.RunArea.{cells, markOf, runOf, intervalAt, markAt, worklistOf, reachedOf, cellTests, runSound}
 use Rattle.semantics.specs.Table.{intervalOf, member, table, listed, allBelow}
 use Rattle.semantics.specs.Worklist.{Worklist, start}
-use Rattle.fixpoint.proofs.Evaluation.{same-refl}
+use Rattle.fixpoint.proofs.Evaluation.{same-refl, same-true}
 use Rattle.fixpoint.proofs.KnowledgeOrder.{pair-eq}
 use Rattle.semantics.proofs.Closure.{closure-length}
 use Rattle.semantics.proofs.Invariant.{Invariant}
@@ -65,7 +65,7 @@ module _ (n : ℕ) (I : Assign) (mk : ℕ → ℕ) (z : List ℕ) (i : ℕ) (l :
   mark-cell : markAt area i ≡ mk i
   mark-cell = at-cell 2
 
-all-true : (n : ℕ) (p : ℕ → Bool) → ((i : ℕ) → i < n → p i ≡ true) → allBelow n p ≡ true
+pub all-true : (n : ℕ) (p : ℕ → Bool) → ((i : ℕ) → i < n → p i ≡ true) → allBelow n p ≡ true
 unfolding allBelow
 all-true zero p h = refl
 all-true (suc n) p h = rw (all-true n p (λ i l. h i (omega arith)), h n (omega arith))
@@ -94,65 +94,86 @@ cell-passes top p w r o i h f =
     go true e = refl
     go false e = rw (f e, same-refl (record { low = 0; high = top }))
 
-module _ (page : Page) (w : Proper page) (qs : List ℕ) where
+-- A state that a run area can hold, where m is the set of the reached conditions: what the soundness of its area asks
+pub record Encodable (page : Page) (m : List Bool) (b : Worklist) : Type 0 where
+  pub reached-length : length m ≡ page .conditions
+  pub intervals-length : length (b .intervals) ≡ page .conditions
+  pub waiting-length : length (b .waiting) ≡ page .conditions
+  pub inside : (c : ℕ) → c < page .conditions → member (b .waiting) c ≡ true → member m c ≡ true
+  pub ordered : (c : ℕ) → c < page .conditions → Ordered (intervalOf (b .intervals) c)
+  pub within : (c : ℕ) → c < page .conditions → intervalOf (b .intervals) c .high ≤ page .top
+  pub unreached : (c : ℕ) → c < page .conditions → member m c ≡ false → intervalOf (b .intervals) c ≡ record { low = 0; high = page .top }
+
+-- the area of such a state is sound, and holds it
+module _ (page : Page) (m : List Bool) (b : Worklist) (h : Encodable page m b) (z : List ℕ) where
   abbrev n : ℕ
   n = page .conditions
 
-  abbrev m : List Bool
-  m = closure page qs
+  abbrev r : List ℕ
+  r = runOf page m b ++ z
 
+  pair-is : (c : ℕ) → c < n → intervalAt r c ≡ intervalOf (b .intervals) c
+  unfolding runOf
+  pair-is c l = pair-cell n (intervalOf (b .intervals)) (λ c. markOf (member (b .waiting) c) (member m c)) z c l
+
+  mark-is : (c : ℕ) → c < n → markAt r c ≡ markOf (member (b .waiting) c) (member m c)
+  unfolding runOf
+  mark-is c l = mark-cell n (intervalOf (b .intervals)) (λ c. markOf (member (b .waiting) c) (member m c)) z c l
+
+  length-run : length (runOf page m b) ≡ 3 * n
+  unfolding runOf
+  length-run = length-cells n 0 _ _
+
+  pub state-back : worklistOf page r ≡ b
+  unfolding worklistOf
+  state-back = λ i. record { intervals = p i; waiting = q i }
+    where
+      p : table n (intervalAt r) ≡ b .intervals
+      p = ext-getD (record { low = 0; high = 0 }) (table (page .conditions) (intervalAt r)) (b .intervals) (length-from n 0 (intervalAt r) ∙ sym (h .intervals-length))
+          (λ i l. let k : i < n = omega (arith, length-from n 0 (intervalAt r)) in getD-table n (intervalAt r) i _ k ∙ pair-is i k)
+
+      q : table (page .conditions) (λ c. eqb (markAt r c) 2) ≡ b .waiting
+      q = ext-getD false (table (page .conditions) (λ c. eqb (markAt r c) 2)) (b .waiting) (length-from n 0 (λ c. eqb (markAt r c) 2) ∙ sym (h .waiting-length))
+          (λ i l. let k : i < n = omega (arith, length-from n 0 (λ c. eqb (markAt r c) 2)) in
+          getD-table (page .conditions) (λ c. eqb (markAt r c) 2) i _ k ∙ ap (λ (x : ℕ). eqb x 2) (mark-is i k) ∙ mark-two _ _)
+
+  pub reached-back : reachedOf page r ≡ m
+  unfolding reachedOf
+  reached-back =
+      ext-getD false (table (page .conditions) (λ c. leb 1 (markAt r c))) m (length-from n 0 (λ c. leb 1 (markAt r c)) ∙ sym (h .reached-length))
+      (λ i l. let k : i < n = omega (arith, length-from n 0 (λ c. leb 1 (markAt r c))) in
+      getD-table (page .conditions) (λ c. leb 1 (markAt r c)) i _ k ∙ ap (λ (x : ℕ). leb 1 x) (mark-is i k) ∙ mark-one _ _ (h .inside i k))
+
+  cell-ok : (c : ℕ) → c < n → every (cellTests (page .top) (intervalAt r c) (markAt r c)) ≡ true
+  cell-ok c l =
+      subst₂ (λ (p : Interval) (k : ℕ). every (cellTests (page .top) p k) ≡ true) (sym (pair-is c l)) (sym (mark-is c l))
+      (cell-passes (page .top) (intervalOf (b .intervals) c) (member (b .waiting) c) (member m c) (h .ordered c l) (h .within c l) (h .inside c l) (h .unreached c l))
+
+  pub area-sound : runSound page r ≡ true
+  unfolding runSound
+  area-sound =
+      rw (le-leb (3 * n) (length r) (omega (arith, length-append (runOf page m b) z, length-run)))
+      (all-true n _ cell-ok)
+
+  pub rest-back : drop (3 * n) r ≡ z
+  rest-back = drop-at (runOf page m b) z (3 * n) length-run
+
+-- the states of a run opened with the queries qs are such states
+module _ (page : Page) (w : Proper page) (qs : List ℕ) where
   abbrev pub State : Worklist → ℕ → Type 0
   State = Invariant page w qs _ (plain-is page w)
 
-  module _ (b : Worklist) (t : ℕ) (h : State b t) (z : List ℕ) where
-    abbrev r : List ℕ
-    r = runOf page m b ++ z
-
-    pair-is : (c : ℕ) → c < n → intervalAt r c ≡ intervalOf (b .intervals) c
-    unfolding runOf
-    pair-is c l = pair-cell n (intervalOf (b .intervals)) (λ c. markOf (member (b .waiting) c) (member m c)) z c l
-
-    mark-is : (c : ℕ) → c < n → markAt r c ≡ markOf (member (b .waiting) c) (member m c)
-    unfolding runOf
-    mark-is c l = mark-cell n (intervalOf (b .intervals)) (λ c. markOf (member (b .waiting) c) (member m c)) z c l
-
-    length-run : length (runOf page m b) ≡ 3 * n
-    unfolding runOf
-    length-run = length-cells n 0 _ _
-
-    pub book-back : worklistOf page r ≡ b
-    unfolding worklistOf
-    book-back = λ i. record { intervals = p i; waiting = q i }
-      where
-        p : table n (intervalAt r) ≡ b .intervals
-        p = ext-getD (record { low = 0; high = 0 }) (table (page .conditions) (intervalAt r)) (b .intervals) (length-from n 0 (intervalAt r) ∙ sym (h .intervals-length))
-            (λ i l. let k : i < n = omega (arith, length-from n 0 (intervalAt r)) in getD-table n (intervalAt r) i _ k ∙ pair-is i k)
-
-        q : table (page .conditions) (λ c. eqb (markAt r c) 2) ≡ b .waiting
-        q = ext-getD false (table (page .conditions) (λ c. eqb (markAt r c) 2)) (b .waiting) (length-from n 0 (λ c. eqb (markAt r c) 2) ∙ sym (h .waiting-length))
-            (λ i l. let k : i < n = omega (arith, length-from n 0 (λ c. eqb (markAt r c) 2)) in
-            getD-table (page .conditions) (λ c. eqb (markAt r c) 2) i _ k ∙ ap (λ (x : ℕ). eqb x 2) (mark-is i k) ∙ mark-two _ _)
-
-    pub marks-back : reachedOf page r ≡ m
-    unfolding reachedOf
-    marks-back =
-        ext-getD false (table (page .conditions) (λ c. leb 1 (markAt r c))) m (length-from n 0 (λ c. leb 1 (markAt r c)) ∙ sym (closure-length page qs))
-        (λ i l. let k : i < n = omega (arith, length-from n 0 (λ c. leb 1 (markAt r c))) in
-        getD-table (page .conditions) (λ c. leb 1 (markAt r c)) i _ k ∙ ap (λ (x : ℕ). leb 1 x) (mark-is i k) ∙ mark-one _ _ (h .state .inside i k))
-
-    cell-ok : (c : ℕ) → c < n → every (cellTests (page .top) (intervalAt r c) (markAt r c)) ≡ true
-    cell-ok c l =
-        subst₂ (λ (p : Interval) (k : ℕ). every (cellTests (page .top) p k) ≡ true) (sym (pair-is c l)) (sym (mark-is c l))
-        (cell-passes (page .top) (intervalOf (b .intervals) c) (member (b .waiting) c) (member m c) (h .state .ordered c l) (h .state .within c l .high-in) (h .state .inside c l) (h .unreached c l))
-
-    pub run-sound : runSound page r ≡ true
-    unfolding runSound
-    run-sound =
-        rw (le-leb (3 * n) (length r) (omega (arith, length-append (runOf page m b) z, length-run)))
-        (all-true n _ cell-ok)
-
-    pub rest-back : drop (3 * n) r ≡ z
-    rest-back = drop-at (runOf page m b) z (3 * n) length-run
+  pub state-encodable : (b : Worklist) (t : ℕ) → State b t → Encodable page (closure page qs) b
+  state-encodable b t h =
+      record {
+        reached-length = closure-length page qs;
+        intervals-length = h .intervals-length;
+        waiting-length = h .waiting-length;
+        inside = h .state .inside;
+        ordered = h .state .ordered;
+        within = λ c l. h .state .within c l .high-in;
+        unreached = h .unreached;
+      }
 
 -- A list whose cells are those of I and mk is their area with what stands behind it: from elements, as code shows them, to the list
 module _ (out : List ℕ) (I : Assign) (mk : ℕ → ℕ) where
@@ -186,7 +207,7 @@ mark-back (suc zero) h = refl
 mark-back (suc (suc zero)) h = refl
 mark-back (suc (suc (suc m))) h = absurd (omega (arith, leb-true (suc (suc (suc m))) 2 h))
 
-all-at : (n : ℕ) (p : ℕ → Bool) → allBelow n p ≡ true → (i : ℕ) → i < n → p i ≡ true
+pub all-at : (n : ℕ) (p : ℕ → Bool) → allBelow n p ≡ true → (i : ℕ) → i < n → p i ≡ true
 unfolding allBelow
 all-at zero p e i l = absurd (omega arith)
 all-at (suc n) p e i l =
@@ -195,6 +216,20 @@ all-at (suc n) p e i l =
       | yes q ↦ rw q (h .1)
       | no q ↦ all-at n p (h .0) i (omega arith)
     ]
+
+-- what a run area holds at a condition
+module _ (page : Page) (r : List ℕ) (c : ℕ) (l : c < page .conditions) where
+  pub held-at : intervalOf (worklistOf page r .intervals) c ≡ intervalAt r c
+  unfolding worklistOf
+  held-at = getD-table (page .conditions) (intervalAt r) c _ l
+
+  pub waits-at : member (worklistOf page r .waiting) c ≡ eqb (markAt r c) 2
+  unfolding worklistOf
+  waits-at = getD-table (page .conditions) (λ c. eqb (markAt r c) 2) c false l
+
+  pub reached-at : member (reachedOf page r) c ≡ leb 1 (markAt r c)
+  unfolding reachedOf
+  reached-at = getD-table (page .conditions) (λ c. leb 1 (markAt r c)) c false l
 
 module _ (page : Page) (r : List ℕ) (ok : runSound page r ≡ true) where
   pub run-long : 3 * page .conditions ≤ length r
@@ -208,8 +243,22 @@ module _ (page : Page) (r : List ℕ) (ok : runSound page r ≡ true) where
       (all-at (page .conditions) _ (both-true (leb (3 * page .conditions) (length r)) _ ok .1) c l)
 
   pub reencoded : runOf page (reachedOf page r) (worklistOf page r) ++ drop (3 * page .conditions) r ≡ r
-  unfolding runOf reachedOf worklistOf
+  unfolding runOf
   reencoded =
-      sym (from-cells r (intervalOf (table (page .conditions) (intervalAt r))) (λ c. markOf (member (table (page .conditions) (λ c. eqb (markAt r c) 2)) c) (member (table (page .conditions) (λ c. leb 1 (markAt r c))) c)) (page .conditions) run-long
-      (λ c l. sym (getD-table (page .conditions) (intervalAt r) c _ l))
-      (λ c l. sym (ap₂ markOf (getD-table (page .conditions) (λ c. eqb (markAt r c) 2) c false l) (getD-table (page .conditions) (λ c. leb 1 (markAt r c)) c false l) ∙ mark-back (markAt r c) (cell-sound c l .1 .1 .0))))
+      sym (from-cells r (intervalOf (worklistOf page r .intervals)) (λ c. markOf (member (worklistOf page r .waiting) c) (member (reachedOf page r) c)) (page .conditions) run-long
+      (λ c l. sym (held-at page r c l))
+      (λ c l. sym (ap₂ markOf (waits-at page r c l) (reached-at page r c l) ∙ mark-back (markAt r c) (cell-sound c l .1 .1 .0))))
+
+  -- what it holds is a state that an area can hold
+  pub sound-encodable : Encodable page (reachedOf page r) (worklistOf page r)
+  sound-encodable =
+      record {
+        reached-length = unfold reachedOf in length-from (page .conditions) 0 _;
+        intervals-length = unfold worklistOf in length-from (page .conditions) 0 _;
+        waiting-length = unfold worklistOf in length-from (page .conditions) 0 _;
+        inside = λ c l e. rw (reached-at page r c l) (le-leb 1 (markAt r c) (omega (arith, eqb-true (markAt r c) 2 (sym (waits-at page r c l) ∙ e))));
+        ordered = λ c l. rw (held-at page r c l) (leb-true (getD r (3 * c) 0) (getD r (3 * c + 1) 0) (cell-sound c l .0));
+        within = λ c l. rw (held-at page r c l) (leb-true (getD r (3 * c + 1) 0) (page .top) (cell-sound c l .1 .0));
+        unreached = λ c l e. held-at page r c l ∙ same-true (intervalAt r c) (record { low = 0; high = page .top })
+            (rw (sym (reached-at page r c l) ∙ e) at (cell-sound c l .1 .1 .1 .0));
+      }

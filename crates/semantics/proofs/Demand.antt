@@ -29,7 +29,7 @@ use Rattle.semantics.specs.Table.{listed, intervalOf, member, table, all
 use Rattle.semantics.specs.Worklist.{Worklist, start, changes, waitingAfter, evaluated, lowestFrom, lowest, Status, rest, spent, statusAs, status, Driven, driveFrom, driven}
 use Rattle.fixpoint.proofs.ChaoticIteration.{kept-first, in-time, none-waits, done}
 use Rattle.fixpoint.proofs.ChaoticStep.{kept}
-use Rattle.semantics.proofs.Areas.{State, run-sound, marks-back, book-back, rest-back}
+use Rattle.semantics.proofs.Areas.{State, state-encodable, area-sound, reached-back, state-back, rest-back}
 use Rattle.semantics.proofs.Closure.{reached-closed, reached-complete, bound-is, closure-length, reached-real, closure-is}
 use Rattle.semantics.proofs.Invariant.{lowest-some, lowest-none, rest-none, Invariant, after, waits-real, no-cause-holds, invariant-first, invariant-call, NoCause}
 use Rattle.semantics.proofs.Readings.{page-system, plain-is, plain-ordered, names-inside}
@@ -82,8 +82,9 @@ module _ (a : List ℕ) (ok : sound a ≡ true) (qs : List ℕ) where
       ≡ record { answer = outcome page (closure page qs) b c .answer; run = runOf page (closure page qs) (outcome page (closure page qs) b c .state) ++ z }
   unfolding operation
   one b t h z c =
-      rw (ok, run-sound page w qs b t h z)
-      (rw (marks-back page w qs b t h z, book-back page w qs b t h z, rest-back page w qs b t h z))
+      let e = state-encodable page w qs b t h in
+      let m = closure page qs in
+      rw (ok, area-sound page m b e z) (rw (reached-back page m b e z, state-back page m b e z, rest-back page m b e z))
 
   many : (cs : List Call) (b : Worklist) (t : ℕ) → State page w qs b t → (z : List ℕ)
       → perform a (runOf page (closure page qs) b ++ z) cs
@@ -99,6 +100,10 @@ opened-with : (o : Option ℕ) (page : Page) (m : List Bool) (r : List ℕ) (R E
     → (o ≡ none) × (countR page m ≡ R) × (countE page m ≡ E) × (bound page m ≡ B)
 opened-with none page m r R E B e = (refl, (cc), (cc), (cc))
 opened-with (some k) page m r R E B e = absurd (let z : _≡_ {A = ℕ} 0 1 = cc in omega arith)
+
+pub opened-none : (a qs r : List ℕ) (R E B : ℕ) → openOf a qs r .answer ≡ openedWith R E B → firstOf (openCauses a qs r) ≡ none
+unfolding openOf
+opened-none a qs r R E B e = opened-with (firstOf (openCauses a qs r)) (pageOf a) (closure (pageOf a) qs) r R E B e .0
 
 pub demand3 : Demand3
 demand3 a qs r R E B e calls =

@@ -91,7 +91,7 @@ module _ (page : Page) (w : Proper page) (qs : List ℕ) (P : Assign) (p : IsPla
         state = kept-first S C p (λ c l. unfold bottom in getD-table n (λ c. record { low = 0; high = page .top }) c _ l) (λ c l. refl);
       }
 
-  invariant-next : (b : Worklist) (t A : ℕ) → Invariant b t → A < n → member (b .waiting) A ≡ true → Invariant (evaluated page m b A) (suc t)
+  pub invariant-next : (b : Worklist) (t A : ℕ) → Invariant b t → A < n → member (b .waiting) A ≡ true → Invariant (evaluated page m b A) (suc t)
   unfolding evaluated waitingAfter
   invariant-next b t A h l e =
       record {

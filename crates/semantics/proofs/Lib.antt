@@ -7,6 +7,7 @@ pub mod Readings
 pub mod Soundness
 pub mod RoundTrip
 pub mod ExactAreas
+pub mod UsedLength
 -- the computed closure is what is reached
 pub mod Table
 pub mod Closure
@@ -16,8 +17,15 @@ pub mod Computed
 pub mod Bench
 pub mod AreaBench
 -- what operations keep
-pub mod Operations
+pub mod Keeps
 -- demand 3
 pub mod Invariant
 pub mod Areas
 pub mod Demand
+-- evaluations on run areas
+pub mod Steps
+-- the operations, cause by cause
+pub mod Operations
+pub mod Drives
+-- no interval widens
+pub mod Narrowing

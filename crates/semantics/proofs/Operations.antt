@@ -1,127 +1,90 @@
--- What the operations on areas keep: a refusal and a value call leave the area, a drive takes exactly its count. Assumes nothing.
+-- What evaluate, drive and value answer and leave on areas, cause by cause. Assumes nothing.
 use mathlib.Core.Path.{_≡_, refl, sym, _∙_, ap, ap₂}
 use mathlib.Core.Logic.{_≢_}
 use mathlib.Core.Bool.{Bool, true, false, not, cond}
-use mathlib.Core.List.{List, [], _∷_, _++_}
-use mathlib.Core.Option.{Option, none, some}
-use Prim.Native.Nat.{ℕ, zero, suc, _+_, _*_, _≤_, _<_}
+use mathlib.Core.List.{List, _++_}
+use Prim.Native.Nat.{ℕ, _*_, _≤_, _<_}
 use native.Mathlib.Omega.{arith}
-use lib.Dec.{leb, ltb}
-use lib.ListN.{length, drop}
-use borrow.Author.Tests.{not-false, ltb-true}
-use Rattle.fixpoint.specs.Interval.{Interval, Assign}
-use Rattle.semantics.specs.Area.{sound, pageOf, allUnder}
-use Rattle.semantics.specs.Call.{Call, evaluate, drive, value, Answer, refused, changed, unchanged, drove, valued, Cause, cause, firstOf, Outcome, unless, outcome}
-use Rattle.semantics.specs.Operation.{Left, leftAs, operation, ends, ClosedAnswers, ClosedAs, ClosedOf, closedCauses, scratchLength, zeros}
-use Rattle.semantics.specs.Page.{Page, Proper}
-use Rattle.semantics.specs.Reading.{IsClosed}
-use Rattle.semantics.specs.RunArea.{runSound, runOf, reachedOf, worklistOf}
-use Rattle.semantics.specs.Table.{member, intervalOf, listed}
-use Rattle.semantics.specs.Worklist.{Worklist, changes, evaluated, lowest, Status, rest, status, statusAs, Driven, oneMore, driveFrom, driven}
-use Rattle.semantics.proofs.Areas.{reencoded}
-use Rattle.semantics.proofs.Invariant.{NoCause, no-cause-holds}
-use Rattle.semantics.proofs.Readings.{closed-one}
-use Rattle.semantics.proofs.Soundness.{sound-proper, both-true}
+use lib.Dec.{eqb, leb}
+use lib.ListN.{drop}
+use borrow.Author.Tests.{le-leb, lt-leb, eq-eqb, ne-eqb}
+use Rattle.fixpoint.specs.Interval.{Interval}
+use Rattle.semantics.specs.Area.{sound, pageOf}
+use Rattle.semantics.specs.Call.{Call, evaluate, drive, value, Answer, refused, changed, unchanged, drove, valued, Outcome, outcome}
+use Rattle.semantics.specs.Operation.{Left, operation}
+use Rattle.semantics.specs.Page.{Page}
+use Rattle.semantics.specs.RunArea.{runOf, intervalAt, markAt, worklistOf, reachedOf, runSound}
+use Rattle.semantics.specs.Table.{intervalOf, member}
+use Rattle.semantics.specs.Worklist.{Worklist, changes, evaluated, status, driven}
+use Rattle.semantics.proofs.Areas.{held-at, waits-at, reached-at, reencoded}
 
--- b′ is b after t evaluations, each of the lowest waiting condition
-pub data After (page : Page) (m : List Bool) : ℕ → Worklist → Worklist → Type 0 where
-  none-yet : {b : Worklist} → After page m 0 b b
-  one-then : {t A : ℕ} {b b′ : Worklist} → lowest b ≡ some A → After page m t (evaluated page m b A) b′ → After page m (suc t) b b′
-
--- Drive: the state is the one after exactly as many evaluations as it counts; it counts no more than the allowance, and fewer only at rest
-pub record Exact (page : Page) (m : List Bool) (k : ℕ) (b : Worklist) (d : Driven) : Type 0 where
-  pub after : After page m (d .taken) b (d .state)
-  pub allowed : d .taken ≤ k
-  pub short : d .taken < k → status (d .state) ≡ rest
-
-drive-from-exact : (page : Page) (m : List Bool) (k : ℕ) (o : Option ℕ) (b : Worklist) → lowest b ≡ o → Exact page m k b (driveFrom page m k o b)
-unfolding driveFrom
-drive-from-exact page m zero o b e = record { after = none-yet; allowed = omega arith; short = λ l. absurd (omega arith) }
-drive-from-exact page m (suc k) none b e = record { after = none-yet; allowed = omega arith; short = λ l. ap statusAs e }
-drive-from-exact page m (suc k) (some A) b e =
-    let r = drive-from-exact page m k (lowest (evaluated page m b A)) (evaluated page m b A) refl in
-    record { after = one-then e (r .after); allowed = omega (arith, r .allowed); short = λ l. r .short (omega arith) }
-
-pub drive-exact : (page : Page) (m : List Bool) (k : ℕ) (b : Worklist) → Exact page m k b (driven page m k b)
-drive-exact page m k b = drive-from-exact page m k (lowest b) b refl
-
--- A refusal changes no lent number, and a value call changes none: the area is encoded again as it was.
-kept-unless : (o : Option ℕ) (b : Worklist) (w : Outcome) (k : ℕ) → ((j : ℕ) → w .answer ≢ refused j) → unless o b w .answer ≡ refused k → unless o b w .state ≡ b
-kept-unless none b w k h e = absurd (h k e)
-kept-unless (some j) b w k h e = refl
-
-not-refused : (t : Bool) (k : ℕ) → cond t changed unchanged ≢ refused k
-not-refused true k e = let z : _≡_ {A = ℕ} 0 1 = cc in omega arith
-not-refused false k e = let z : _≡_ {A = ℕ} 0 1 = cc in omega arith
-
-valued-not : (p : Interval) (s : Status) (k : ℕ) → valued p s ≢ refused k
-valued-not p s k e = let z : _≡_ {A = ℕ} 0 1 = cc in omega arith
-
-refused-state : (page : Page) (m : List Bool) (b : Worklist) (c : Call) (k : ℕ) → outcome page m b c .answer ≡ refused k → outcome page m b c .state ≡ b
-unfolding outcome
-refused-state page m b (evaluate A) k e =
-    kept-unless (firstOf (cause (leb (page .conditions) A) 15 ∷ cause (not (member (b .waiting) A)) 16 ∷ [])) b
-    (record { answer = cond (changes page b A) changed unchanged; state = evaluated page m b A }) k (λ j. not-refused (changes page b A) j) e
-refused-state page m b (drive n) k e = absurd (let z : _≡_ {A = ℕ} 0 1 = cc in omega arith)
-refused-state page m b (value A) k e =
-    kept-unless (firstOf (cause (leb (page .conditions) A) 15 ∷ cause (not (member m A)) 17 ∷ [])) b
-    (record { answer = valued (intervalOf (b .intervals) A) (status b); state = b }) k (λ j. valued-not (intervalOf (b .intervals) A) (status b) j) e
-
-value-state : (page : Page) (m : List Bool) (b : Worklist) (c : ℕ) → outcome page m b (value c) .state ≡ b
-unfolding outcome
-value-state page m b c = go (firstOf (cause (leb (page .conditions) c) 15 ∷ cause (not (member m c)) 17 ∷ []))
-  where
-    go : (o : Option ℕ) → unless o b (record { answer = valued (intervalOf (b .intervals) c) (status b); state = b }) .state ≡ b
-    go none = refl
-    go (some k) = refl
-
-module _ (a r : List ℕ) (c : Call) where
-  abbrev causes : List Cause
-  causes = cause (not (sound a)) 10 ∷ cause (not (runSound (pageOf a) r)) 14 ∷ []
-
-  abbrev done : Outcome
-  done = outcome (pageOf a) (reachedOf (pageOf a) r) (worklistOf (pageOf a) r) c
-
-  -- where the state is kept, so is the area
-  keeps : (o : Option ℕ) → firstOf causes ≡ o → (o ≡ none → done .state ≡ worklistOf (pageOf a) r) → leftAs o (pageOf a) r done .run ≡ r
-  keeps (some k) e h = refl
-  keeps none e h =
-      ap (λ (b : Worklist). runOf (pageOf a) (reachedOf (pageOf a) r) b ++ drop (3 * pageOf a .conditions) r) (h refl)
-      ∙ reencoded (pageOf a) r (not-false (runSound (pageOf a) r) (no-cause-holds causes e .1 .0))
-
-  answer-none : (o : Option ℕ) (k : ℕ) → leftAs o (pageOf a) r done .answer ≡ refused k → o ≡ none → done .answer ≡ refused k
-  answer-none none k e h = e
-  answer-none (some j) k e h = absurd (let z : _≡_ {A = ℕ} 0 1 = cc in omega arith)
-
-  pub refused-keeps : (k : ℕ) → operation a r c .answer ≡ refused k → operation a r c .run ≡ r
+module _ (a r : List ℕ) where
+  pub page-unsound : sound a ≡ false → (k : Call) → operation a r k ≡ record { answer = refused 10; run = r }
   unfolding operation
-  refused-keeps k e = keeps (firstOf causes) refl (λ h. refused-state (pageOf a) _ _ c k (answer-none (firstOf causes) k e h))
+  page-unsound e k = rw e
 
-pub value-keeps : (a r : List ℕ) (c : ℕ) → operation a r (value c) .run ≡ r
-unfolding operation
-value-keeps a r c = keeps a r (value c) (firstOf (causes a r (value c))) refl (λ h. value-state (pageOf a) _ _ c)
+  module _ (ok : sound a ≡ true) where
+    pub run-unsound : runSound (pageOf a) r ≡ false → (k : Call) → operation a r k ≡ record { answer = refused 14; run = r }
+    unfolding operation
+    run-unsound e k = rw (ok, e)
 
--- A closed call leaves one result and one content of each slice.
-ends-same : (n : ℕ) (C D : Assign) → ((c : ℕ) → c < n → C c ≡ D c) → (qs : List ℕ) → allUnder n qs ≡ true → ends C qs ≡ ends D qs
-unfolding allUnder
-ends-same n C D h [] u = refl
-ends-same n C D h (q ∷ qs) u =
-    let b = both-true (ltb q n) (allUnder n qs) u in
-    ap₂ {C = List ℕ} (λ (p : Interval) (l : List ℕ). p .low ∷ p .high ∷ l) (h q (ltb-true q n (b .0))) (ends-same n C D h qs (b .1))
+    module _ (rs : runSound (pageOf a) r ≡ true) where
+      abbrev page : Page
+      page = pageOf a
 
-pub closed-call-one : (code code′ : ℕ) (a qs s w s₁ w₁ s₂ w₂ : List ℕ) → ClosedOf code a qs s w s₁ w₁ → ClosedOf code′ a qs s w s₂ w₂
-    → (code ≡ code′) × (s₁ ≡ s₂) × (w₁ ≡ w₂)
-unfolding ClosedOf
-closed-call-one code code′ a qs s w s₁ w₁ s₂ w₂ p q = go (firstOf (closedCauses a qs s w)) refl p q
-  where
-    go : (o : Option ℕ) → firstOf (closedCauses a qs s w) ≡ o → ClosedAs o code a qs s w s₁ w₁ → ClosedAs o code′ a qs s w s₂ w₂
-        → (code ≡ code′) × (s₁ ≡ s₂) × (w₁ ≡ w₂)
-    go (some k) e p q = (p .0 ∙ sym (q .0), p .1 ∙ sym (q .1), p .2 ∙ sym (q .2))
-    go none e p q =
-        let h = no-cause-holds (closedCauses a qs s w) e in
-        let v = sound-proper a (not-false (sound a) (h .0)) in
-        let u = not-false (allUnder (pageOf a .conditions) qs) (h .1 .1 .0) in (
-          p .0 ∙ sym (q .0),
-          p .1 .cleared ∙ sym (q .1 .cleared),
-          p .1 .written ∙ ap (λ (l : List ℕ). l ++ drop (2 * length qs) w) (ends-same (pageOf a .conditions) (p .1 .reading) (q .1 .reading) (closed-one (pageOf a) v (p .1 .is-closed) (q .1 .is-closed)) qs u) ∙ sym (q .1 .written),
-        )
+      abbrev m : List Bool
+      m = reachedOf (pageOf a) r
+
+      abbrev b : Worklist
+      b = worklistOf (pageOf a) r
+
+      -- with no cause before 15, the outcome on the state held
+      works : (k : Call) {o : Outcome} → outcome page m b k ≡ o → operation a r k ≡ record { answer = o .answer; run = runOf page m (o .state) ++ drop (3 * page .conditions) r }
+      unfolding operation
+      works k e = rw (ok, rs) (rw e)
+
+      -- an outcome that leaves the state leaves the area
+      keeps : (k : Call) (x : Answer) → outcome page m b k ≡ record { answer = x; state = b } → operation a r k ≡ record { answer = x; run = r }
+      keeps k x e = works k e ∙ ap (λ (l : List ℕ). record { answer = x; run = l }) (reencoded page r rs)
+
+      module _ (c : ℕ) where
+        pub evaluate-beyond : pageOf a .conditions ≤ c → operation a r (evaluate c) ≡ record { answer = refused 15; run = r }
+        unfolding outcome
+        evaluate-beyond h = keeps (evaluate c) (refused 15) (rw (le-leb (page .conditions) c h))
+
+        pub value-beyond : pageOf a .conditions ≤ c → operation a r (value c) ≡ record { answer = refused 15; run = r }
+        unfolding outcome
+        value-beyond h = keeps (value c) (refused 15) (rw (le-leb (page .conditions) c h))
+
+        module _ (l : c < pageOf a .conditions) where
+          pub evaluate-idle : markAt r c ≢ 2 → operation a r (evaluate c) ≡ record { answer = refused 16; run = r }
+          unfolding outcome
+          evaluate-idle h = keeps (evaluate c) (refused 16) (rw (lt-leb (page .conditions) c l, waits-at page r c l ∙ ne-eqb (markAt r c) 2 h))
+
+          pub evaluate-done : markAt r c ≡ 2
+              → operation a r (evaluate c)
+              ≡ record {
+                answer = cond (changes (pageOf a) (worklistOf (pageOf a) r) c) changed unchanged;
+                run = runOf (pageOf a) (reachedOf (pageOf a) r) (evaluated (pageOf a) (reachedOf (pageOf a) r) (worklistOf (pageOf a) r) c) ++ drop (3 * pageOf a .conditions) r;
+              }
+          unfolding outcome
+          evaluate-done h = works (evaluate c) (rw (lt-leb (page .conditions) c l, waits-at page r c l ∙ eq-eqb (markAt r c) 2 h))
+
+          pub value-unreached : markAt r c ≤ 0 → operation a r (value c) ≡ record { answer = refused 17; run = r }
+          unfolding outcome
+          value-unreached h = keeps (value c) (refused 17) (rw (lt-leb (page .conditions) c l, reached-at page r c l ∙ lt-leb 1 (markAt r c) (omega arith)))
+
+          pub value-done : 0 < markAt r c → operation a r (value c) ≡ record { answer = valued (intervalAt r c) (status (worklistOf (pageOf a) r)); run = r }
+          unfolding outcome
+          value-done h =
+              keeps (value c) (valued (intervalAt r c) (status b))
+              (rw (lt-leb (page .conditions) c l, reached-at page r c l ∙ le-leb 1 (markAt r c) (omega arith), held-at page r c l))
+
+      pub drive-done : (k : ℕ)
+          → operation a r (drive k)
+          ≡ record {
+            answer = drove (driven (pageOf a) (reachedOf (pageOf a) r) k (worklistOf (pageOf a) r) .taken) (status (driven (pageOf a) (reachedOf (pageOf a) r) k (worklistOf (pageOf a) r) .state));
+            run = runOf (pageOf a) (reachedOf (pageOf a) r) (driven (pageOf a) (reachedOf (pageOf a) r) k (worklistOf (pageOf a) r) .state) ++ drop (3 * pageOf a .conditions) r;
+          }
+      unfolding outcome
+      drive-done k = works (drive k) refl

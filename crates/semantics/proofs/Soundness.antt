@@ -24,7 +24,8 @@ pub both-true : (a b : Bool) → (a && b) ≡ true → (a ≡ true) × (b ≡ tr
 both-true true b e = (refl, e)
 both-true false b e = absurd (false≢true e)
 
-subject-of : (k : ℕ) → conditionOf (literalOf k) ≡ k / 2
+-- the condition of a literal's number
+pub subject-of : (k : ℕ) → conditionOf (literalOf k) ≡ k / 2
 subject-of k = go (eqb (k % 2) 0)
   where
     go : (t : Bool) → conditionOf (cond t (positive (k / 2)) (negative (k / 2))) ≡ k / 2

@@ -1,0 +1,98 @@
+-- Which condition the R lines of an area name, literal by literal and line by line, in the code's own terms. Assumes nothing.
+use mathlib.Core.Path.{_≡_, refl, sym, _∙_, ap}
+use mathlib.Core.Logic.{_≢_, _⊎_, inl, inr, ⊎-elim}
+use mathlib.Core.Bool.{Bool, true, false, cond, _&&_, _||_, and-false}
+use mathlib.Core.List.{List, _∷_, map}
+use Prim.Native.Nat.{ℕ, _+_, _-_, _/_, _%_, _≤_, _<_}
+use native.Mathlib.Omega.{arith}
+use lib.Dec.{eqb, ltb}
+use lib.ListN.{getD, take, drop}
+use borrow.Author.Tests.{eq-eqb, ne-eqb, lt-ltb, le-ltb}
+use Rattle.semantics.specs.Area.{Kind, factKind, ruleKind, queryKind, noKind, kind, literalOf, lineAs, lineAt, pageOf, sound, countOf}
+use Rattle.semantics.specs.Page.{positive, negative, conditionOf, Line, mentions, linesName, names}
+use Rattle.page.specs.Lines.{Next, lineNames}
+use Rattle.page.proofs.Scan.{part-cons, Remaining, remaining-next, rule-kind, fact-kind, over-five, line-at}
+use Rattle.page.proofs.Scanning.{Scanning, linesLeft, scanning-first, lines-first, scanning-moved, lines-moved, lines-none}
+
+-- c is the condition of one of the literals
+abbrev pub codesName : ℕ → List ℕ → Bool
+codesName c xs = mentions (map literalOf xs) c
+
+condition-of : (x : ℕ) → conditionOf (literalOf x) ≡ x / 2
+condition-of x = go (eqb (x % 2) 0)
+  where
+    go : (t : Bool) → conditionOf (cond t (positive (x / 2)) (negative (x / 2))) ≡ x / 2
+    go true = refl
+    go false = refl
+
+-- literals that name c
+module _ (a : List ℕ) (from m c : ℕ) {j : ℕ} (s : Remaining (codesName c) a from m j) where
+  pub codes-last : m ≤ j → ltb j m ≡ codesName c (take m (drop from a))
+  unfolding mentions
+  codes-last h = let e : m - j ≡ 0 = omega arith in le-ltb j m h ∙ sym (s .is ∙ rw e)
+
+  pub codes-break : j < m → getD a (from + j) 0 / 2 ≡ c → ltb j m ≡ codesName c (take m (drop from a))
+  unfolding mentions
+  codes-break l h =
+      lt-ltb j m l
+      ∙ sym (s .is ∙ rw (part-cons a (from + j) (m - j) (omega (arith, s .in-area)) (omega arith), condition-of (getD a (from + j) 0), eq-eqb (getD a (from + j) 0 / 2) c h))
+
+  pub codes-next : j < m → getD a (from + j) 0 / 2 ≢ c → Remaining (codesName c) a from m (j + 1)
+  unfolding mentions
+  codes-next l h =
+      remaining-next (codesName c) a from m s l
+      (rw (part-cons a (from + j) (m - j) (omega (arith, s .in-area)) (omega arith), condition-of (getD a (from + j) 0), ne-eqb (getD a (from + j) 0 / 2) c h))
+
+-- the line at a place names c if it is a rule whose literals do
+module _ (a : List ℕ) (at c : ℕ) where
+  pub line-rule : 1 ≤ getD a (at + 1) 0 → getD a (at + 1) 0 ≤ 5 → lineNames (lineAt (drop at a)) c ≡ codesName c (take (getD a (at + 3) 0) (drop (at + 4) a))
+  line-rule l u = rw (line-at a at, rule-kind (getD a (at + 1) 0) l u .1)
+
+  pub line-fact : getD a (at + 1) 0 < 1 → lineNames (lineAt (drop at a)) c ≡ false
+  line-fact h = rw (line-at a at, fact-kind (getD a (at + 1) 0) (omega arith))
+
+  pub line-over : 5 < getD a (at + 1) 0 → lineNames (lineAt (drop at a)) c ≡ false
+  line-over h = rw (line-at a at) (⊎-elim (λ e. rw e) (λ e. rw e) (over-five (getD a (at + 1) 0) h))
+
+-- lines that begin with the one at a place: it is of the head and names c, or those behind it decide
+pub lines-name : (a : List ℕ) (at head c : ℕ) (ls : List Line)
+    → linesName (lineAt (drop at a) ∷ ls) head c ≡ ((eqb (getD a at 0) head && lineNames (lineAt (drop at a)) c) || linesName ls head c)
+unfolding linesName
+lines-name a at head c ls = rw (line-at a at) (go (kind (getD a (at + 1) 0)) (getD a at 0) (getD a (at + 2) 0) (getD a (at + 3) 0) _)
+  where
+    go : (t : Kind) (d x y : ℕ) (lits : List ℕ) → linesName (lineAs t d x y lits ∷ ls) head c ≡ ((eqb d head && lineNames (lineAs t d x y lits) c) || linesName ls head c)
+    go factKind d x y lits = rw (and-false (eqb d head))
+    go (ruleKind op) d x y lits = refl
+    go queryKind d x y lits = rw (and-false (eqb d head))
+    go noKind d x y lits = rw (and-false (eqb d head))
+
+-- the state of the loop behind k lines: the answer is that of the lines still to come
+module _ (a : List ℕ) (head c : ℕ) where
+  pub record Naming (at k : ℕ) : Type 0 where
+    pub scan : Scanning a at k
+    pub is : names (pageOf a) head c ≡ linesName (linesLeft a at k) head c
+
+  pub naming-first : sound a ≡ true → {at k : ℕ} → (at ≡ 4) × (k ≡ 0) → Naming at k
+  naming-first e {at} {k} z =
+      rw (z .0, z .1) (record { scan = scanning-first a e; is = ap (λ (ls : List Line). linesName ls head c) (sym (lines-first a)) })
+
+  module _ {at k : ℕ} (s : Naming at k) (l : k < countOf a) where
+    here : {at′ k′ : ℕ} → Next a at k at′ k′
+        → names (pageOf a) head c ≡ ((eqb (getD a at 0) head && lineNames (lineAt (drop at a)) c) || linesName (linesLeft a at′ k′) head c)
+    here {at′} {k′} m =
+        s .is ∙ ap (λ (ls : List Line). linesName ls head c) (lines-moved a (s .scan) l m) ∙ lines-name a at head c (linesLeft a at′ k′)
+
+    pub naming-found : getD a at 0 ≡ head → lineNames (lineAt (drop at a)) c ≡ true → names (pageOf a) head c ≡ true
+    naming-found h e = here (record { place = refl; count = refl }) ∙ rw (eq-eqb (getD a at 0) head h, e)
+
+    other : (getD a at 0 ≢ head) ⊎ (lineNames (lineAt (drop at a)) c ≡ false) → (eqb (getD a at 0) head && lineNames (lineAt (drop at a)) c) ≡ false
+    other (inl n) = rw (ne-eqb (getD a at 0) head n)
+    other (inr e) = ap (λ (t : Bool). eqb (getD a at 0) head && t) e ∙ and-false (eqb (getD a at 0) head)
+
+    pub naming-next : {at′ k′ : ℕ} → (getD a at 0 ≢ head) ⊎ (lineNames (lineAt (drop at a)) c ≡ false) → Next a at k at′ k′ → Naming at′ k′
+    naming-next {at′} {k′} h m =
+        record { scan = scanning-moved a (s .scan) l m; is = here m ∙ ap (λ (t : Bool). t || linesName (linesLeft a at′ k′) head c) (other h) }
+
+  pub naming-last : {at k : ℕ} → Naming at k → countOf a ≤ k → names (pageOf a) head c ≡ false
+  unfolding linesName
+  naming-last {at} {k} s l = s .is ∙ rw (lines-none a at k l)

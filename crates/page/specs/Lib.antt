@@ -1,0 +1,5 @@
+-- What the contracts of `page` cite besides the definitions of `semantics`.
+-- the cursor over the lines
+pub mod Lines
+-- the body value, step by step
+pub mod Graded

@@ -1,0 +1,90 @@
+-- "The greatest used length is 12,292": no sound area uses more, and one uses as much. Assumes nothing.
+use mathlib.Core.Path.{_≡_, refl, ap}
+use mathlib.Core.Bool.{true}
+use mathlib.Core.List.{List, [], _∷_, _++_}
+use Prim.Native.Nat.{ℕ, zero, suc, _+_, _*_, _-_, _≤_}
+use native.Mathlib.Omega.{arith}
+use lib.ListN.{length, getD, drop}
+use borrow.Author.Needs.{needs}
+use borrow.Author.Tests.{leb-true, eqb-true}
+use Rattle.semantics.specs.Area.{Kind, factKind, ruleKind, queryKind, noKind, kind, spanAs, span, literalsAt, every, fieldTests, lineTests, headTests, linesOk, sound, firstLine, topOf, conditionsOf, countOf, usedOf, lineCodes, areaOf}
+use Rattle.semantics.specs.Grade.{M}
+use Rattle.semantics.specs.Page.{positive, Line, rule, Page, AllInRange, Proper}
+use Rattle.semantics.proofs.Soundness.{both-true, Every, every-true}
+use Rattle.semantics.proofs.ExactAreas.{proper-sound}
+
+-- an entry takes at most 12 numbers: four, and eight literals
+short-span : (top n : ℕ) (t : Kind) (x y : ℕ) (lits : List ℕ) → Every (fieldTests top n t x y lits) → spanAs t y ≤ 12
+short-span top n factKind x y lits h = omega arith
+short-span top n (ruleKind op) x y lits h = omega (arith, leb-true y 8 (h .1 .1 .1 .0))
+short-span top n queryKind x y lits h = omega arith
+short-span top n noKind x y lits h = omega arith
+
+short-lines : (top n k left : ℕ) (p : List ℕ) → linesOk top n k left p ≡ true → left ≤ 12 * k
+unfolding linesOk span
+short-lines top n zero left p e = omega (arith, eqb-true left 0 e)
+short-lines top n (suc k) left p e =
+    let b = both-true (every (lineTests top n left p)) (linesOk top n k (left - span p) (drop (span p) p)) e in
+    let h = every-true (lineTests top n left p) (b .0) in
+    omega (
+      arith,
+      short-span top n (kind (getD p 1 0)) (getD p 2 0) (getD p 3 0) (literalsAt p) (h .1 .1),
+      short-lines top n k (left - span p) (drop (span p) p) (b .1),
+    )
+
+pub used-most : (a : List ℕ) → sound a ≡ true → usedOf a ≤ 12292
+unfolding sound
+used-most a e =
+    let b = both-true (every (headTests a)) (linesOk (topOf a) (conditionsOf a) (countOf a) (usedOf a - firstLine) (drop firstLine a)) e in
+    let h = every-true (headTests a) (b .0) in
+    omega (
+      arith,
+      leb-true (countOf a) 1024 (h .1 .1 .1 .1 .1 .1 .1 .0),
+      short-lines (topOf a) (conditionsOf a) (countOf a) (usedOf a - firstLine) (drop firstLine a) (b .1),
+    )
+
+-- as much: k rules of eight literals
+abbrev longest : Line
+longest =
+    let l = positive 0 in
+    rule 0 1 M (l ∷ l ∷ l ∷ l ∷ l ∷ l ∷ l ∷ l ∷ [])
+
+rules : ℕ → List Line
+rules zero = []
+rules (suc k) = longest ∷ rules k
+
+length-rules : (k : ℕ) → length (rules k) ≡ k
+unfolding rules
+length-rules zero = refl
+length-rules (suc k) = ap suc (length-rules k)
+
+length-codes : (k : ℕ) → length (lineCodes (rules k)) ≡ 12 * k
+unfolding lineCodes rules
+length-codes zero = omega arith
+length-codes (suc k) = omega (arith, length-codes k)
+
+ranged-rules : (k : ℕ) → AllInRange 1 1 (rules k)
+unfolding rules
+ranged-rules zero = tt
+ranged-rules (suc k) = (search needs, ranged-rules k)
+
+abbrev rules-page : ℕ → Page
+rules-page k = record { top = 1; conditions = 1; lines = rules k }
+
+proper-rules : (k : ℕ) → k ≤ 1024 → Proper (rules-page k)
+proper-rules k h =
+    record {
+      top-least = omega arith;
+      top-most = omega arith;
+      conditions-least = omega arith;
+      conditions-most = omega arith;
+      few-lines = omega (arith, length-rules k);
+      ranged = ranged-rules k;
+    }
+
+used-rules : (k : ℕ) → usedOf (areaOf (rules-page k) ++ []) ≡ 4 + 12 * k
+unfolding areaOf
+used-rules k = ap (λ (n : ℕ). 4 + n) (length-codes k)
+
+pub used-attained : (a : List ℕ) × (sound a ≡ true) × (usedOf a ≡ 12292)
+used-attained = (areaOf (rules-page 1024) ++ [], proper-sound (rules-page 1024) [] (proper-rules 1024 (omega arith)), used-rules 1024)
