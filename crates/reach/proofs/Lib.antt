@@ -1,0 +1,14 @@
+-- marking, one condition or several
+pub mod Adding
+-- what queries, literals and lines name
+pub mod Naming
+-- a scan over the lines that marks what they name
+pub mod Following
+-- the passes, until one adds nothing
+pub mod Passes
+-- R and E
+pub mod Counting
+-- the run area that an opening writes
+pub mod Writing
+-- the refusals of an opening; 10, 11 and 12 are those of the closed reading too
+pub mod Refusals

@@ -1,0 +1,4 @@
+-- sets of conditions as 512 marks
+pub mod Marks
+-- the answer of an opening, and the run area that it writes
+pub mod Opening

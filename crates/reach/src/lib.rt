@@ -1,0 +1,295 @@
+ghost use mathlib.Core.Path.{_≡_};
+ghost use mathlib.Core.Bool.{true, _&&_};
+ghost use mathlib.Core.List.{map};
+ghost use Prim.Native.Nat.{_≤_, _+_, _<_, _*_};
+ghost use lib.Dec.{eqb, leb};
+ghost use lib.ListN.{length, getD, take, drop};
+ghost use Rattle.semantics.specs.Area.{sound, lineAt, lineTests, every, allUnder, kind, spanAs, literalOf, pageOf, topOf, conditionsOf};
+ghost use Rattle.fixpoint.specs.ChaoticIteration.{DependencyClosed};
+ghost use Rattle.fixpoint.specs.Sum.{count};
+ghost use Rattle.semantics.specs.Operation.{openOf};
+ghost use Rattle.semantics.specs.Page.{mentions, names};
+ghost use Rattle.semantics.specs.Reading.{countE};
+ghost use Rattle.semantics.specs.RunArea.{markOf};
+ghost use Rattle.semantics.specs.Table.{member, listed};
+ghost use Rattle.page.specs.Graded.{RuleAt};
+ghost use Rattle.reach.specs.Opening.{openingOf, accepted, cellSet, Written};
+ghost use Rattle.reach.specs.Marks.{ClosureMarks, Below, Adds, lineNames, namedBy, Passed, Spread};
+
+// Marks c; answers how many marks are new.
+fn mark(marks: &mut [bool], c: usize) -> u32
+    requires { ⌜ (length (now marks) ≡ 512) × (c < 512) ⌝ }
+    ensures { λ r. ⌜ Adds (eqb c) (now (marks .entry)) (now (marks .exit)) r ⌝ }
+{
+    if marks[c] {
+        return 0;
+    }
+    marks[c] = true;
+    1
+}
+
+// Marks the queries; answers how many marks are new.
+fn mark_queries(queries: &[u16], marks: &mut [bool]) -> u32
+    requires { ⌜ (length (now marks) ≡ 512) × (allUnder 512 (now queries) ≡ true) ⌝ }
+    ensures { λ r. ⌜ Adds (λ c. listed c (now (queries .entry))) (now (marks .entry)) (now (marks .exit)) r ⌝ }
+{
+    let mut new: u32 = 0;
+    let mut i: usize = 0;
+    while i < queries.len() {
+        new += mark(marks, queries[i] as usize);
+        i += 1;
+    }
+    new
+}
+
+// Marks the conditions that the literals of the rule at `at` name; answers how many marks are new.
+fn mark_literals(a: &[u16], at: usize, marks: &mut [bool]) -> u32
+    requires { ⌜ RuleAt (topOf (now a)) (conditionsOf (now a)) (now a) at × (conditionsOf (now a) ≤ 512) × (length (now marks) ≡ 512) ⌝ }
+    ensures { λ r. ⌜ Adds (mentions (map literalOf (take (getD (now (a .entry)) (at + 3) 0) (drop (at + 4) (now (a .entry)))))) (now (marks .entry)) (now (marks .exit)) r ⌝ }
+{
+    let y = a[at + 3];
+    let mut new: u32 = 0;
+    let mut j: u16 = 0;
+    while j < y {
+        let code = a[at + 4 + j as usize];
+        new += mark(marks, (code / 2) as usize);
+        j += 1;
+    }
+    new
+}
+
+// Marks the conditions that the line at `at` names, if it is an R line of a condition of the set; answers how many marks are new.
+fn mark_line(a: &[u16], at: usize, left: usize, heads: &[bool], marks: &mut [bool]) -> u32
+    requires { ⌜ (at + left ≤ length (now a)) × (conditionsOf (now a) ≤ 512) × (every (lineTests (topOf (now a)) (conditionsOf (now a)) left (drop at (now a))) ≡ true) × (length (now heads) ≡ 512) × (length (now marks) ≡ 512) ⌝ }
+    ensures { λ r. ⌜ Adds (lineNames (now (heads .entry)) (lineAt (drop at (now (a .entry))))) (now (marks .entry)) (now (marks .exit)) r ⌝ }
+{
+    let c = a[at] as usize;
+    let k = a[at + 1];
+    if heads[c] {
+        match k {
+            1..=5 => mark_literals(a, at, marks),
+            _ => 0,
+        }
+    } else {
+        0
+    }
+}
+
+// How many numbers the entry at `at` takes.
+fn span_at(a: &[u16], at: usize) -> usize
+    requires { ⌜ at + 4 ≤ length (now a) ⌝ }
+    ensures { λ r. ⌜ r ≡ spanAs (kind (getD (now (a .entry)) (at + 1) 0)) (getD (now (a .entry)) (at + 3) 0) ⌝ }
+{
+    let k = a[at + 1];
+    match k {
+        1..=5 => 4 + a[at + 3] as usize,
+        _ => 4,
+    }
+}
+
+// Marks every condition that an R line of a condition of the set names, in one scan over the lines; answers how many marks are new.
+fn mark_named(a: &[u16], heads: &[bool], marks: &mut [bool]) -> u32
+    requires { ⌜ (sound (now a) ≡ true) × (length (now heads) ≡ 512) × (length (now marks) ≡ 512) ⌝ }
+    ensures { λ r. ⌜ Adds (namedBy (pageOf (now (a .entry))) (now (heads .entry))) (now (marks .entry)) (now (marks .exit)) r ⌝ }
+{
+    let count = a[2];
+    let used = a[3] as usize;
+    let mut at: usize = 4;
+    let mut k: u16 = 0;
+    let mut new: u32 = 0;
+    while k < count {
+        new += mark_line(a, at, used - at, heads, marks);
+        at += span_at(a, at);
+        k += 1;
+    }
+    new
+}
+
+// One pass: adds every condition that an R line of those found before names; answers how many are new.
+fn pass(a: &[u16], before: &[bool], after: &mut [bool]) -> u32
+    requires { ⌜ (sound (now a) ≡ true) × Below (conditionsOf (now a)) (now before) × (now after ≡ now before) ⌝ }
+    ensures { λ r. ⌜ Passed (pageOf (now (a .entry))) (now (before .entry)) (now (after .exit)) r ⌝ }
+{
+    mark_named(a, before, after)
+}
+
+// The passes, until one adds nothing.
+fn all_passes(a: &[u16], first: [bool; 512]) -> [bool; 512]
+    requires { ⌜ (sound (now a) ≡ true) × Below (conditionsOf (now a)) first ⌝ }
+    ensures { λ r. ⌜ Spread (pageOf (now (a .entry))) first r ⌝ }
+{
+    let mut marks = first;
+    loop {
+        let before = marks;
+        if pass(a, &before, &mut marks) == 0 {
+            return marks;
+        }
+    }
+}
+
+// The marks of the closure of the queries.
+pub fn closure_of(a: &[u16], queries: &[u16]) -> [bool; 512]
+    requires { ⌜ (sound (now a) ≡ true) × (allUnder (conditionsOf (now a)) (now queries) ≡ true) ⌝ }
+    ensures { λ r. ⌜ ClosureMarks (pageOf (now (a .entry))) (now (queries .entry)) r ⌝ }
+{
+    let mut marks = [false; 512];
+    mark_queries(queries, &mut marks);
+    all_passes(a, marks)
+}
+
+// How many of the first n conditions are marked.
+fn count_marks(marks: &[bool], n: u16) -> u32
+    requires { ⌜ n ≤ length (now marks) ⌝ }
+    ensures { λ r. ⌜ (r ≡ count n (member (now (marks .entry)))) × (r ≤ n) ⌝ }
+{
+    let mut r: u32 = 0;
+    let mut c: u16 = 0;
+    while c < n {
+        if marks[c as usize] {
+            r += 1;
+        }
+        c += 1;
+    }
+    r
+}
+
+// How many conditions the R lines of c name.
+fn named_by(a: &[u16], c: u16) -> u32
+    requires { ⌜ (sound (now a) ≡ true) × (c < conditionsOf (now a)) ⌝ }
+    ensures { λ r. ⌜ (r ≡ count (conditionsOf (now (a .entry))) (names (pageOf (now (a .entry))) c)) × (r ≤ 512) ⌝ }
+{
+    let mut head = [false; 512];
+    let mut named = [false; 512];
+    head[c as usize] = true;
+    mark_named(a, &head, &mut named)
+}
+
+// E, where the marks are those of a set that names only itself.
+fn count_edges(a: &[u16], marks: &[bool]) -> u32
+    requires { ⌜ (sound (now a) ≡ true) × (length (now marks) ≡ 512) × DependencyClosed (conditionsOf (now a)) (names (pageOf (now a))) (member (now marks)) ⌝ }
+    ensures { λ r. ⌜ (r ≡ countE (pageOf (now (a .entry))) (now (marks .entry))) × (r ≤ 512 * 512) ⌝ }
+{
+    let n = a[1];
+    let mut r: u32 = 0;
+    let mut c: u16 = 0;
+    while c < n {
+        if marks[c as usize] {
+            r += named_by(a, c);
+        }
+        c += 1;
+    }
+    r
+}
+
+// R + top × E.
+fn bound_of(reached: u32, top: u16, edges: u32) -> u32
+    requires { ⌜ (reached ≤ 512) × (top ≤ 200) × (edges ≤ 512 * 512) ⌝ }
+    ensures { λ r. ⌜ r ≡ reached + top * edges ⌝ }
+{
+    reached + top as u32 * edges
+}
+
+// The mark of a condition at the start: it waits if it is reached.
+fn first_mark(reached: bool) -> u16
+    ensures { λ r. ⌜ r ≡ markOf reached reached ⌝ }
+{
+    if reached {
+        return 2;
+    }
+    0
+}
+
+// Writes low, high and mark of c.
+fn write_cell(run: &mut [u16], c: usize, high: u16, mark: u16)
+    requires { ⌜ 3 * c + 3 ≤ length (now run) ⌝ }
+    ensures { λ _. ⌜ now (run .exit) ≡ cellSet (now (run .entry)) c high mark ⌝ }
+{
+    run[3 * c] = 0;
+    run[3 * c + 1] = high;
+    run[3 * c + 2] = mark;
+}
+
+// Writes n conditions: each holds [0;top], and waits if it is marked.
+fn write_run(run: &mut [u16], n: u16, top: u16, marks: &[bool])
+    requires { ⌜ (3 * n ≤ length (now run)) × (n ≤ length (now marks)) ⌝ }
+    ensures { λ _. ⌜ Written n top (now (marks .entry)) (now (run .entry)) (now (run .exit)) ⌝ }
+{
+    let mut c: u16 = 0;
+    while c < n {
+        let k = c as usize;
+        write_cell(run, k, top, first_mark(marks[k]));
+        c += 1;
+    }
+}
+
+// Refusal 11: whether a list has 1 to 16 queries.
+pub fn count_ok(queries: &[u16]) -> bool
+    ensures { λ r. ⌜ r ≡ (leb 1 (length (now (queries .entry))) && leb (length (now (queries .entry))) 16) ⌝ }
+{
+    if queries.len() < 1 {
+        return false;
+    }
+    queries.len() <= 16
+}
+
+// Refusal 12: whether every query is below n.
+pub fn all_below(queries: &[u16], n: u16) -> bool
+    ensures { λ r. ⌜ r ≡ allUnder n (now (queries .entry)) ⌝ }
+{
+    let mut i: usize = 0;
+    while i < queries.len() {
+        if n <= queries[i] {
+            return false;
+        }
+        i += 1;
+    }
+    true
+}
+
+pub enum OpenAnswer {
+    Refused(u32),
+    Opened {
+        reached: u32,
+        edges: u32,
+        bound: u32,
+    },
+}
+
+// The work of an opening that no cause refuses.
+fn open_accepted(page: &[u16], queries: &[u16], run: &mut [u16]) -> OpenAnswer
+    requires { ⌜ (sound (now page) ≡ true) × (allUnder (conditionsOf (now page)) (now queries) ≡ true) × (3 * conditionsOf (now page) ≤ length (now run)) ⌝ }
+    ensures answer { λ r. ⌜ openingOf r ≡ accepted (now (page .entry)) (now (queries .entry)) (now (run .entry)) .answer ⌝ }
+    ensures left { λ _. ⌜ now (run .exit) ≡ accepted (now (page .entry)) (now (queries .entry)) (now (run .entry)) .run ⌝ }
+{
+    let top = page[0];
+    let n = page[1];
+    let marks = closure_of(page, queries);
+    let reached = count_marks(&marks, n);
+    let edges = count_edges(page, &marks);
+    write_run(run, n, top, &marks);
+    OpenAnswer::Opened {
+        reached,
+        edges,
+        bound: bound_of(reached, top, edges),
+    }
+}
+
+// Open a run.
+pub fn open_run(page: &[u16], queries: &[u16], run: &mut [u16]) -> OpenAnswer
+    ensures answer { λ r. ⌜ openingOf r ≡ openOf (now (page .entry)) (now (queries .entry)) (now (run .entry)) .answer ⌝ }
+    ensures left { λ _. ⌜ now (run .exit) ≡ openOf (now (page .entry)) (now (queries .entry)) (now (run .entry)) .run ⌝ }
+{
+    if !page::page_sound(page) {
+        return OpenAnswer::Refused(10);
+    }
+    if !count_ok(queries) {
+        return OpenAnswer::Refused(11);
+    }
+    if !all_below(queries, page[1]) {
+        return OpenAnswer::Refused(12);
+    }
+    if run.len() < 3 * page[1] as usize {
+        return OpenAnswer::Refused(13);
+    }
+    open_accepted(page, queries, run)
+}

@@ -1,0 +1,131 @@
+-- A drive, evaluation by evaluation, in the code's own terms. Assumes nothing.
+use mathlib.Core.Path.{_≡_, refl, sym, _∙_, ap, ap₂}
+use mathlib.Core.Bool.{Bool, true}
+use mathlib.Core.List.{List, _++_}
+use mathlib.Core.Option.{none, some}
+use Prim.Native.Nat.{ℕ, suc, _+_, _*_, _-_, _≤_, _<_}
+use native.Mathlib.Omega.{arith}
+use lib.ListN.{length, drop}
+use Rattle.semantics.specs.Area.{sound, pageOf, conditionsOf}
+use Rattle.semantics.specs.Call.{Answer, drove, drive}
+use Rattle.semantics.specs.Operation.{Left, operation}
+use Rattle.semantics.specs.Page.{Page}
+use Rattle.semantics.specs.RunArea.{markAt, runOf, worklistOf, reachedOf, runSound}
+use Rattle.semantics.specs.Worklist.{Worklist, evaluated, lowest, Status, rest, spent, statusAs, status, Driven, oneMore, driven}
+use Rattle.semantics.proofs.Areas.{Encodable, sound-encodable, state-back, reached-back, rest-back, reencoded, waits-at}
+use Rattle.semantics.proofs.Drives.{driven-none, driven-spent, driven-next}
+use Rattle.semantics.proofs.Operations.{drive-done}
+use Rattle.semantics.proofs.Soundness.{sound-proper}
+use Rattle.semantics.proofs.Steps.{encodable-evaluated}
+use borrow.Author.Tests.{eq-eqb}
+use Rattle.worklist.specs.Cells.{Lowest}
+use Rattle.worklist.specs.Evaluation.{Evaluated}
+use Rattle.worklist.proofs.Head.{conditions-is}
+use Rattle.run.specs.Answers.{Answered}
+use Rattle.run.proofs.Answering.{rest-of, waits-of}
+
+module _ (a run₀ : List ℕ) (allowance : ℕ) where
+  abbrev page : Page
+  page = pageOf a
+
+  abbrev m : List Bool
+  m = reachedOf (pageOf a) run₀
+
+  -- the whole drive, and the one from an area on
+  abbrev whole : Driven
+  whole = driven (pageOf a) (reachedOf (pageOf a) run₀) allowance (worklistOf (pageOf a) run₀)
+
+  abbrev onward : List ℕ → ℕ → Driven
+  onward run taken = driven (pageOf a) (reachedOf (pageOf a) run₀) (allowance - taken) (worklistOf (pageOf a) run)
+
+  -- After so many evaluations: the whole drive is these and the one from here on.
+  pub record Driving (run : List ℕ) (taken : ℕ) : Type 0 where
+    pub page-sound : sound a ≡ true
+    pub start-sound : runSound (pageOf a) run₀ ≡ true
+    pub run-sound : runSound (pageOf a) run ≡ true
+    pub same-length : length run ≡ length run₀
+    pub reached : reachedOf (pageOf a) run ≡ reachedOf (pageOf a) run₀
+    pub beyond : drop (3 * pageOf a .conditions) run ≡ drop (3 * pageOf a .conditions) run₀
+    pub within : taken ≤ allowance
+    pub count : driven (pageOf a) (reachedOf (pageOf a) run₀) allowance (worklistOf (pageOf a) run₀) .taken
+        ≡ taken + driven (pageOf a) (reachedOf (pageOf a) run₀) (allowance - taken) (worklistOf (pageOf a) run) .taken
+    pub state : driven (pageOf a) (reachedOf (pageOf a) run₀) allowance (worklistOf (pageOf a) run₀) .state
+        ≡ driven (pageOf a) (reachedOf (pageOf a) run₀) (allowance - taken) (worklistOf (pageOf a) run) .state
+
+  pub driving-first : sound a ≡ true → runSound (pageOf a) run₀ ≡ true → Driving run₀ 0
+  driving-first ok rs =
+      let z : allowance - 0 ≡ allowance = omega arith in
+      record {
+        page-sound = ok;
+        start-sound = rs;
+        run-sound = rs;
+        same-length = refl;
+        reached = refl;
+        beyond = refl;
+        within = omega arith;
+        count = rw z (omega arith);
+        state = rw z;
+      }
+
+  module _ {run : List ℕ} {taken : ℕ} (s : Driving run taken) {c : ℕ} (low : Lowest (conditionsOf a) run c) where
+    -- the run is at rest, or the allowance is used: the drive ends here
+    ends : onward run taken ≡ record { taken = 0; state = worklistOf page run } → {x : Status} → status (worklistOf page run) ≡ x
+        → Answered (operation a run₀ (drive allowance)) (drove taken x) run
+    ends e {x} q =
+        let d = drive-done a run₀ (s .page-sound) (s .start-sound) allowance in
+        let n : whole .taken ≡ taken = s .count ∙ ap (λ (o : Driven). taken + o .taken) e ∙ omega arith in
+        let t : whole .state ≡ worklistOf page run = s .state ∙ ap (λ (o : Driven). o .state) e in
+        record {
+          answer-is = sym (ap (λ (l : Left). l .answer) d ∙ ap₂ drove n (ap status t ∙ q));
+          run-is = sym (ap (λ (l : Left). l .run) d ∙ ap (λ (b : Worklist). runOf page m b ++ drop (3 * page .conditions) run₀) t
+              ∙ ap₂ (λ (k : List Bool) (z : List ℕ). runOf page k (worklistOf page run) ++ z) (sym (s .reached)) (sym (s .beyond))
+              ∙ reencoded page run (s .run-sound));
+        }
+
+    pub driving-rests : conditionsOf a ≤ c → Answered (operation a run₀ (drive allowance)) (drove taken rest) run
+    driving-rests l =
+        let e = rest-of a run low l in
+        ends (driven-none page m (worklistOf page run) (allowance - taken) e) (ap statusAs e)
+
+    module _ (l : c < conditionsOf a) where
+      pub driving-spends : allowance ≤ taken → Answered (operation a run₀ (drive allowance)) (drove taken spent) run
+      driving-spends k = ends (driven-spent page m (worklistOf page run) (allowance - taken) (omega arith)) (ap statusAs (waits-of a run low l))
+
+      -- one evaluation of the lowest waiting condition
+      pub driving-next : taken < allowance → {run′ : List ℕ} {t : Bool} → Evaluated (pageOf a) c run run′ t → length run′ ≡ length run → Driving run′ (taken + 1)
+      driving-next k {run′} v len =
+          record {
+            page-sound = s .page-sound;
+            start-sound = s .start-sound;
+            run-sound = v .run-sound;
+            same-length = len ∙ s .same-length;
+            reached = ap (reachedOf page) (v .area) ∙ reached-back page (reachedOf page run) next fits tail ∙ s .reached;
+            beyond = ap (drop (3 * page .conditions)) (v .area) ∙ rest-back page (reachedOf page run) next fits tail ∙ s .beyond;
+            within = omega arith;
+            count = s .count ∙ ap (λ (o : Driven). taken + o .taken) step ∙ omega arith;
+            state = s .state ∙ ap (λ (o : Driven). o .state) step;
+          }
+        where
+          here : Worklist
+          here = worklistOf (pageOf a) run
+
+          next : Worklist
+          next = evaluated (pageOf a) (reachedOf (pageOf a) run) (worklistOf (pageOf a) run) c
+
+          tail : List ℕ
+          tail = drop (3 * pageOf a .conditions) run
+
+          inside : c < page .conditions
+          inside = rw (conditions-is a) l
+
+          fits : Encodable page (reachedOf page run) next
+          fits = encodable-evaluated page (sound-proper a (s .page-sound)) (reachedOf page run) here (sound-encodable page run (s .run-sound)) c inside (waits-at page run c inside ∙ eq-eqb (markAt run c) 2 (low .found l))
+
+          held : worklistOf page run′ ≡ evaluated page m here c
+          held = ap (worklistOf page) (v .area) ∙ state-back page (reachedOf page run) next fits tail ∙ ap (λ (k : List Bool). evaluated page k here c) (s .reached)
+
+          step : onward run taken ≡ oneMore (onward run′ (taken + 1))
+          step =
+              let e : allowance - taken ≡ suc (allowance - (taken + 1)) = omega arith in
+              ap (λ (j : ℕ). driven page m j here) e ∙ driven-next page m here (allowance - (taken + 1)) c (waits-of a run low l)
+              ∙ ap (λ (b : Worklist). oneMore (driven page m (allowance - (taken + 1)) b)) (sym held)

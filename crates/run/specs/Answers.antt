@@ -1,0 +1,42 @@
+-- The answers of evaluate, drive and value in document 01's words. Assumes nothing.
+use mathlib.Core.Path.{_≡_}
+use mathlib.Core.Bool.{Bool, true, false}
+use mathlib.Core.List.{List}
+use Prim.Native.Nat.{ℕ}
+use Rattle.fixpoint.specs.Interval.{Interval}
+use Rattle.semantics.specs.Call.{Answer, refused, unchanged, changed, drove, valued}
+use Rattle.semantics.specs.Operation.{Left}
+use Rattle.semantics.specs.Worklist.{Status, rest, spent}
+use Rattle.run.specs.declared.EvaluateAnswer.{EvaluateAnswer}
+use Rattle.run.specs.declared.EvaluateAnswer.the-variants as evaluated
+use Rattle.run.specs.declared.ValueAnswer.{ValueAnswer}
+use Rattle.run.specs.declared.ValueAnswer.the-variants as valued-as
+use Rattle.run.specs.declared.DriveAnswer.{DriveAnswer}
+use Rattle.run.specs.declared.DriveAnswer.the-variants as driven
+
+-- the number of a refusal, unchanged or changed
+abbrev pub evaluateAnswerOf : EvaluateAnswer → Answer
+evaluateAnswerOf (evaluated.Refused k) = refused k
+evaluateAnswerOf evaluated.Unchanged = unchanged
+evaluateAnswerOf evaluated.Changed = changed
+
+-- at rest or not
+abbrev pub statusIf : Bool → Status
+statusIf true = rest
+statusIf false = spent
+
+-- the number of a refusal, or the interval and whether the whole run is at rest
+abbrev pub valueAnswerOf : ValueAnswer → Answer
+valueAnswerOf (valued-as.Refused k) = refused k
+valueAnswerOf (valued-as.Held l h r) = valued (record { low = l; high = h }) (statusIf r)
+
+-- the number of a refusal, or the count taken and `rest` or `spent`
+abbrev pub driveAnswerOf : DriveAnswer → Answer
+driveAnswerOf (driven.Refused k) = refused k
+driveAnswerOf (driven.Rest k) = drove k rest
+driveAnswerOf (driven.Spent k) = drove k spent
+
+-- an operation answers so and leaves the run area so
+pub record Answered (left : Left) (answer : Answer) (run : List ℕ) : Type 0 where
+  pub answer-is : answer ≡ left .answer
+  pub run-is : run ≡ left .run

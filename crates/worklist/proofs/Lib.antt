@@ -1,0 +1,9 @@
+-- soundness of a run area
+pub mod Head
+pub mod Soundness
+-- the dependants of a condition
+pub mod Naming
+pub mod Stores
+pub mod Marking
+-- an evaluation
+pub mod Evaluation
