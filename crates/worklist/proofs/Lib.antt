@@ -2,7 +2,6 @@
 pub mod Head
 pub mod Soundness
 -- the dependants of a condition
-pub mod Naming
 pub mod Stores
 pub mod Marking
 -- an evaluation

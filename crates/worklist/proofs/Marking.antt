@@ -13,9 +13,10 @@ use Rattle.semantics.proofs.Soundness.{every-true}
 use Rattle.page.proofs.Scanning.{Scanning, linesLeft, scanning-first, lines-first, entry-ok, step, lines-on, scanning-next, lines-none}
 use Rattle.page.proofs.Scan.{entry-head}
 use Rattle.worklist.specs.Cells.{DependantsMarked}
-use Rattle.worklist.specs.Naming.{lineNames, marked}
+use Rattle.page.specs.Lines.{lineNames}
+use Rattle.worklist.specs.Naming.{marked}
 use Rattle.worklist.proofs.Head.{conditions-is}
-use Rattle.worklist.proofs.Naming.{names-on}
+use Rattle.page.proofs.Naming.{lines-name}
 use Rattle.worklist.proofs.Stores.{marked-length, marked-apart, marked-beyond, marked-mark}
 
 -- the mark of a condition that is a dependant if a test holds
@@ -82,7 +83,7 @@ module _ (a : List ℕ) (c : ℕ) (run₀ : List ℕ) where
           intervals = λ h. marked-apart t d run h ∙ s .intervals h;
           marks = λ h. s .marks h
               ∙ ap (λ (ls : List Line). dependant (linesName ls h c) (markAt run h)) (lines-on a (s .scan) l)
-              ∙ ap (λ (b : Bool). dependant b (markAt run h)) (names-on a at (linesLeft a (at + step a (s .scan) l) (k + 1)) h c)
+              ∙ ap (λ (b : Bool). dependant b (markAt run h)) (lines-name a at h c (linesLeft a (at + step a (s .scan) l) (k + 1)))
               ∙ dependant-or (eqb d h && t) (linesName (linesLeft a (at + step a (s .scan) l) (k + 1)) h c) (markAt run h)
               ∙ ap (dependant (linesName (linesLeft a (at + step a (s .scan) l) (k + 1)) h c)) (sym (marked-mark t d run head-fits h));
           beyond = marked-beyond t d run (conditionsOf a) head-in ∙ s .beyond;

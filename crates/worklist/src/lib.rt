@@ -1,15 +1,14 @@
 ghost use mathlib.Core.Path.{_≡_};
 ghost use mathlib.Core.Bool.{true, cond, not};
-ghost use mathlib.Core.List.{map};
 ghost use Prim.Native.Nat.{ℕ, _≤_, _+_, _<_, _*_};
-ghost use lib.ListN.{length, getD, take, drop};
+ghost use lib.ListN.{length, getD, drop};
 ghost use Rattle.fixpoint.specs.ChaoticIteration.{same};
 ghost use Rattle.fixpoint.specs.Interval.{Interval};
-ghost use Rattle.semantics.specs.Area.{sound, pageOf, every, kind, spanAs, literalOf, lineAt};
-ghost use Rattle.semantics.specs.Page.{mentions};
+ghost use Rattle.semantics.specs.Area.{sound, pageOf, every, lineAt};
 ghost use Rattle.semantics.specs.RunArea.{intervalAt, markAt, cellTests, runSound};
+ghost use Rattle.page.specs.Lines.{EntryIn, lineNames};
 ghost use Rattle.worklist.specs.Cells.{Lowest, DependantsMarked};
-ghost use Rattle.worklist.specs.Naming.{lineNames, marked};
+ghost use Rattle.worklist.specs.Naming.{marked};
 ghost use Rattle.worklist.specs.Evaluation.{stored, Evaluated};
 
 // Whether the cell of c (low, high, mark) is sound.
@@ -77,33 +76,6 @@ pub fn lowest_waiting(run: &[u16], n: u16) -> u16
     c
 }
 
-// Whether one of the m literals from `from` on is of c.
-fn literals_name(a: &[u16], from: usize, m: u16, c: u16) -> bool
-    requires { ⌜ from + m ≤ length (now a) ⌝ }
-    ensures { λ r. ⌜ r ≡ mentions (map literalOf (take m (drop from (now (a .entry))))) c ⌝ }
-{
-    let mut j: u16 = 0;
-    while j < m {
-        if a[from + j as usize] / 2 == c {
-            return true;
-        }
-        j += 1;
-    }
-    false
-}
-
-// Whether the entry at `at` is a rule that names c.
-fn entry_names(a: &[u16], at: usize, c: u16) -> bool
-    requires { ⌜ at + spanAs (kind (getD (now a) (at + 1) 0)) (getD (now a) (at + 3) 0) ≤ length (now a) ⌝ }
-    ensures { λ r. ⌜ r ≡ lineNames (lineAt (drop at (now (a .entry)))) c ⌝ }
-{
-    let k = a[at + 1];
-    match k {
-        1..=5 => literals_name(a, at + 4, a[at + 3], c),
-        _ => false,
-    }
-}
-
 // The condition h waits if it is reached.
 fn mark_waiting(run: &mut [u16], h: u16)
     requires { ⌜ 3 * h + 3 ≤ length (now run) ⌝ }
@@ -117,11 +89,11 @@ fn mark_waiting(run: &mut [u16], h: u16)
 
 // The head of the entry at `at` waits if the entry is a rule that names c and the head is reached.
 fn mark_head(a: &[u16], at: usize, run: &mut [u16], c: u16)
-    requires { ⌜ at + spanAs (kind (getD (now a) (at + 1) 0)) (getD (now a) (at + 3) 0) ≤ length (now a) ⌝ }
+    requires { ⌜ EntryIn (now a) at ⌝ }
     requires { ⌜ 3 * getD (now a) at 0 + 3 ≤ length (now run) ⌝ }
     ensures { λ r. ⌜ now (run .exit) ≡ cond (lineNames (lineAt (drop at (now (a .entry)))) c) (marked (getD (now (a .entry)) at 0) (now (run .entry))) (now (run .entry)) ⌝ }
 {
-    if entry_names(a, at, c) {
+    if page::line_names(a, at, c) {
         mark_waiting(run, a[at]);
     }
 }

@@ -9,8 +9,6 @@ use Rattle.semantics.specs.Area.{allUnder}
 use Rattle.reach.proofs.Naming.{under-on, under-none}
 use Rattle.reach.proofs.all_below.Statement.{statement}
 use Rattle.reach.proofs.all_below.Tie as tie
-use Rattle.reach.proofs.all_below.Reads as reads
-use Rattle.reach.proofs.all_below.Lts as lts
 
 abbrev Inv-loop : tie.InvT-loop
 Inv-loop queries n i₀ i = (i ≤ length queries) × (allUnder n queries ≡ allUnder n (drop i queries))

@@ -9,9 +9,6 @@ use Rattle.reach.proofs.Adding.{count-most}
 use Rattle.reach.proofs.Passes.{Passing, passing-first, passing-next, passing-last, still-below}
 use Rattle.reach.proofs.all_passes.Statement.{statement}
 use Rattle.reach.proofs.all_passes.Tie as tie
-use Rattle.reach.proofs.all_passes.Reads as reads
-use Rattle.reach.proofs.all_passes.Lts as lts
-use Rattle.reach.proofs.pass.Reads as pass-reads
 
 abbrev Inv-loop : tie.InvT-loop
 Inv-loop a marks₀ marks = Passing (pageOf a) marks₀ marks

@@ -4,8 +4,6 @@ use native.Mathlib.Omega.{arith}
 use borrow.Author.Needs.{needs}
 use Rattle.reach.proofs.bound_of.Statement.{statement}
 use Rattle.reach.proofs.bound_of.Tie as tie
-use Rattle.reach.proofs.bound_of.Reads as reads
-use Rattle.reach.proofs.bound_of.Lts as lts
 
 mul-result : tie.Need-mul-result
 mul-result c = omega (arith, mul-le-mul (c .pre .1) (c .pre .2))

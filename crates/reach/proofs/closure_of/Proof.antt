@@ -4,10 +4,6 @@ use borrow.Author.Needs.{needs}
 use Rattle.reach.proofs.Passes.{queries-few, first-below, closure-marked}
 use Rattle.reach.proofs.closure_of.Statement.{statement}
 use Rattle.reach.proofs.closure_of.Tie as tie
-use Rattle.reach.proofs.closure_of.Reads as reads
-use Rattle.reach.proofs.closure_of.Lts as lts
-use Rattle.reach.proofs.all_passes.Reads as all-passes-reads
-use Rattle.reach.proofs.mark_queries.Reads as mark-queries-reads
 
 slice-aggregate-mark-queries : tie.Need-slice-aggregate-mark-queries
 slice-aggregate-mark-queries c = search needs

@@ -9,9 +9,6 @@ use Rattle.reach.proofs.Counting.{Tallying, tallying-first, tallying-in
 use Rattle.reach.proofs.Following.{conditions-few}
 use Rattle.reach.proofs.count_edges.Statement.{statement}
 use Rattle.reach.proofs.count_edges.Tie as tie
-use Rattle.reach.proofs.count_edges.Reads as reads
-use Rattle.reach.proofs.count_edges.Lts as lts
-use Rattle.reach.proofs.named_by.Reads as named-by-reads
 
 abbrev Inv-loop : tie.InvT-loop
 Inv-loop a marks n r₀ c₀ r c = (c ≤ n) × (n ≤ 512) × Tallying (pageOf a) marks c r

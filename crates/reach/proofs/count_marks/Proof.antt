@@ -8,8 +8,6 @@ use Rattle.semantics.specs.Table.{member}
 use Rattle.reach.proofs.Counting.{sum-none, count-in, count-out}
 use Rattle.reach.proofs.count_marks.Statement.{statement}
 use Rattle.reach.proofs.count_marks.Tie as tie
-use Rattle.reach.proofs.count_marks.Reads as reads
-use Rattle.reach.proofs.count_marks.Lts as lts
 
 abbrev Inv-loop : tie.InvT-loop
 Inv-loop marks n r₀ c₀ r c = (c ≤ n) × (r ≤ c) × (r ≡ count c (member marks))

@@ -3,8 +3,6 @@ use lib.ListN.{length}
 use borrow.Author.Tests.{le-leb, lt-leb}
 use Rattle.reach.proofs.count_ok.Statement.{statement}
 use Rattle.reach.proofs.count_ok.Tie as tie
-use Rattle.reach.proofs.count_ok.Reads as reads
-use Rattle.reach.proofs.count_ok.Lts as lts
 
 returns : tie.Need-returns
 returns c = rw (lt-leb 1 (length (c .before .args .queries .now)) (c .if1 .taken))

@@ -4,8 +4,6 @@ use mathlib.Core.Bool.{Bool}
 use Rattle.semantics.specs.RunArea.{markOf}
 use Rattle.reach.proofs.first_mark.Statement.{statement}
 use Rattle.reach.proofs.first_mark.Tie as tie
-use Rattle.reach.proofs.first_mark.Reads as reads
-use Rattle.reach.proofs.first_mark.Lts as lts
 
 returns : tie.Need-returns
 returns c = ap (λ (t : Bool). markOf t t) (sym (c .if1 .taken))

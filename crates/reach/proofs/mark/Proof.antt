@@ -4,8 +4,6 @@ use borrow.Author.Needs.{needs}
 use Rattle.reach.proofs.Adding.{adds-new, adds-there}
 use Rattle.reach.proofs.mark.Statement.{statement}
 use Rattle.reach.proofs.mark.Tie as tie
-use Rattle.reach.proofs.mark.Reads as reads
-use Rattle.reach.proofs.mark.Lts as lts
 
 slice-read-if1 : tie.Need-slice-read-if1
 slice-read-if1 c = omega arith

@@ -8,9 +8,6 @@ use Rattle.reach.proofs.Adding.{adds-none, adds-as}
 use Rattle.reach.proofs.Naming.{head-in, names-other, names-fact, names-query, names-rule}
 use Rattle.reach.proofs.mark_line.Statement.{statement}
 use Rattle.reach.proofs.mark_line.Tie as tie
-use Rattle.reach.proofs.mark_line.Reads as reads
-use Rattle.reach.proofs.mark_line.Lts as lts
-use Rattle.reach.proofs.mark_literals.Reads as mark-literals-reads
 
 mul-c : tie.Need-mul-c
 mul-c c = search needs

@@ -12,9 +12,6 @@ use Rattle.reach.proofs.Adding.{Adding, adding-first, adding-next, addi
 use Rattle.reach.proofs.Naming.{mentions-on, mentions-none}
 use Rattle.reach.proofs.mark_literals.Statement.{statement}
 use Rattle.reach.proofs.mark_literals.Tie as tie
-use Rattle.reach.proofs.mark_literals.Reads as reads
-use Rattle.reach.proofs.mark_literals.Lts as lts
-use Rattle.reach.proofs.mark.Reads as mark-reads
 
 abbrev Inv-loop : tie.InvT-loop
 Inv-loop a at marks₀ y new₀ j₀ marks new j = (j ≤ y)

@@ -7,10 +7,6 @@ use Rattle.reach.proofs.Adding.{adding-few, adds-few}
 use Rattle.reach.proofs.Following.{conditions-few, Following, following-first, following-next, following-last}
 use Rattle.reach.proofs.mark_named.Statement.{statement}
 use Rattle.reach.proofs.mark_named.Tie as tie
-use Rattle.reach.proofs.mark_named.Reads as reads
-use Rattle.reach.proofs.mark_named.Lts as lts
-use Rattle.reach.proofs.mark_line.Reads as mark-line-reads
-use Rattle.reach.proofs.span_at.Reads as span-at-reads
 
 abbrev Inv-loop : tie.InvT-loop
 Inv-loop a heads marks₀ count used at₀ k₀ new₀ marks at k new = Following a heads marks₀ marks at k new

@@ -9,9 +9,6 @@ use Rattle.reach.proofs.Adding.{Adding, adding-first, adding-next, addi
 use Rattle.reach.proofs.Naming.{under-at, listed-on, listed-none}
 use Rattle.reach.proofs.mark_queries.Statement.{statement}
 use Rattle.reach.proofs.mark_queries.Tie as tie
-use Rattle.reach.proofs.mark_queries.Reads as reads
-use Rattle.reach.proofs.mark_queries.Lts as lts
-use Rattle.reach.proofs.mark.Reads as mark-reads
 
 abbrev Inv-loop : tie.InvT-loop
 Inv-loop queries marks₀ new₀ i₀ marks new i = (i ≤ length queries) × Adding (λ c. listed c queries) (λ c. listed c (drop i queries)) marks₀ marks new

@@ -6,9 +6,6 @@ use Rattle.reach.proofs.Counting.{named-count}
 use Rattle.reach.proofs.Following.{conditions-few}
 use Rattle.reach.proofs.named_by.Statement.{statement}
 use Rattle.reach.proofs.named_by.Tie as tie
-use Rattle.reach.proofs.named_by.Reads as reads
-use Rattle.reach.proofs.named_by.Lts as lts
-use Rattle.reach.proofs.mark_named.Reads as mark-named-reads
 
 array-write-head : tie.Need-array-write-head
 array-write-head c = omega (arith, conditions-few (c .before .args .a .now) (c .before .pre .0))

@@ -9,13 +9,6 @@ use Rattle.reach.proofs.Following.{conditions-few}
 use Rattle.reach.proofs.Writing.{accepted-answer, accepted-run}
 use Rattle.reach.proofs.open_accepted.Statement.{statement}
 use Rattle.reach.proofs.open_accepted.Tie as tie
-use Rattle.reach.proofs.open_accepted.Reads as reads
-use Rattle.reach.proofs.open_accepted.Lts as lts
-use Rattle.reach.proofs.bound_of.Reads as bound-of-reads
-use Rattle.reach.proofs.closure_of.Reads as closure-of-reads
-use Rattle.reach.proofs.count_edges.Reads as count-edges-reads
-use Rattle.reach.proofs.count_marks.Reads as count-marks-reads
-use Rattle.reach.proofs.write_run.Reads as write-run-reads
 
 shared-slice-read-top : tie.Need-shared-slice-read-top
 shared-slice-read-top c =

@@ -12,12 +12,6 @@ use Rattle.reach.proofs.Following.{conditions-few}
 use Rattle.reach.proofs.Refusals.{open-10, open-11, open-12, open-13, open-none}
 use Rattle.reach.proofs.open_run.Statement.{statement}
 use Rattle.reach.proofs.open_run.Tie as tie
-use Rattle.reach.proofs.open_run.Reads as reads
-use Rattle.reach.proofs.open_run.Lts as lts
-use Rattle.page.proofs.page_sound.Reads as page-sound-reads
-use Rattle.reach.proofs.all_below.Reads as all-below-reads
-use Rattle.reach.proofs.count_ok.Reads as count-ok-reads
-use Rattle.reach.proofs.open_accepted.Reads as open-accepted-reads
 
 -- past each test its cause does not hold
 abbrev at-1 : tie.Else1 → tie.Start

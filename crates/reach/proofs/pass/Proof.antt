@@ -3,9 +3,6 @@ use borrow.Author.Needs.{needs}
 use Rattle.reach.proofs.Passes.{pass-done}
 use Rattle.reach.proofs.pass.Statement.{statement}
 use Rattle.reach.proofs.pass.Tie as tie
-use Rattle.reach.proofs.pass.Reads as reads
-use Rattle.reach.proofs.pass.Lts as lts
-use Rattle.reach.proofs.mark_named.Reads as mark-named-reads
 
 mark-named-requires : tie.Need-mark-named-requires
 mark-named-requires c κs = search needs

@@ -7,8 +7,6 @@ use Rattle.page.proofs.Scan.{span-rule, span-none, span-over}
 use borrow.Author.Needs.{needs}
 use Rattle.reach.proofs.span_at.Statement.{statement}
 use Rattle.reach.proofs.span_at.Tie as tie
-use Rattle.reach.proofs.span_at.Reads as reads
-use Rattle.reach.proofs.span_at.Lts as lts
 
 add-k : tie.Need-add-k
 add-k c = search needs

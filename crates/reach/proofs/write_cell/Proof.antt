@@ -4,8 +4,6 @@ use borrow.Author.Needs.{needs}
 use lib.ListN.{length-set}
 use Rattle.reach.proofs.write_cell.Statement.{statement}
 use Rattle.reach.proofs.write_cell.Tie as tie
-use Rattle.reach.proofs.write_cell.Reads as reads
-use Rattle.reach.proofs.write_cell.Lts as lts
 
 mul-run : tie.Need-mul-run
 mul-run c = search needs

@@ -7,10 +7,6 @@ use Rattle.reach.specs.Opening.{Written}
 use Rattle.reach.proofs.Writing.{written-first, written-next}
 use Rattle.reach.proofs.write_run.Statement.{statement}
 use Rattle.reach.proofs.write_run.Tie as tie
-use Rattle.reach.proofs.write_run.Reads as reads
-use Rattle.reach.proofs.write_run.Lts as lts
-use Rattle.reach.proofs.first_mark.Reads as first-mark-reads
-use Rattle.reach.proofs.write_cell.Reads as write-cell-reads
 
 abbrev Inv-loop : tie.InvT-loop
 Inv-loop run₀ n top marks c₀ run c = (c ≤ n) × Written c top marks run₀ run

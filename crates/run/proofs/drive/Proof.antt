@@ -14,12 +14,6 @@ use Rattle.run.proofs.Answering.{refused-10, refused-14}
 use Rattle.run.proofs.Driving.{Driving, driving-first, driving-rests, driving-spends, driving-next}
 use Rattle.run.proofs.drive.Statement.{statement}
 use Rattle.run.proofs.drive.Tie as tie
-use Rattle.run.proofs.drive.Reads as reads
-use Rattle.run.proofs.drive.Lts as lts
-use Rattle.page.proofs.page_sound.Reads as page-sound-reads
-use Rattle.worklist.proofs.lowest_waiting.Reads as lowest-waiting-reads
-use Rattle.worklist.proofs.run_sound.Reads as run-sound-reads
-use Rattle.worklist.proofs.step.Reads as step-reads
 
 abbrev Inv-loop : tie.InvT-loop
 Inv-loop page run₀ allowance n taken₀ run taken = Driving page run₀ allowance run taken
@@ -33,80 +27,64 @@ page-ok c = sym (c .before .page-sound .ensures) ∙ not-false (c .before .page-
 run-ok : (c : tie.Else2 Inv-loop μ-loop) → runSound (pageOf (c .before .before .before .before .before .before .before .args .page .now)) (c .before .before .before .before .before .before .before .args .run .now) ≡ true
 run-ok c = sym (c .before .run-sound .ensures) ∙ not-false (c .before .run-sound .result) (c .if2 .left)
 
--- src/lib.rt:79:9
 page-sound-requires : tie.Need-page-sound-requires Inv-loop μ-loop
 page-sound-requires c κs = tt
 
--- src/lib.rt:80:9
 returns : tie.Need-returns Inv-loop μ-loop
 returns c =
     let z = c .before .before .before .before .args in
     refused-10 (z .page .now) (z .run .now) (sym (c .before .page-sound .ensures) ∙ not-true (c .before .page-sound .result) (c .if1 .taken)) (drive (z .allowance))
 
--- src/lib.rt:82:9
 run-sound-requires : tie.Need-run-sound-requires Inv-loop μ-loop
 run-sound-requires c κs = page-ok (c .before)
 
--- src/lib.rt:83:9
 same-length : tie.Need-same-length Inv-loop μ-loop
 same-length c = search needs
 
--- src/lib.rt:83:9
 returns-2 : tie.Need-returns-2 Inv-loop μ-loop
 returns-2 c =
     let z = c .before .before .before .before .before .before .before .args in
     refused-14 (z .page .now) (z .run .now) (page-ok (c .before .before .before)) (sym (c .before .run-sound .ensures) ∙ not-true (c .before .run-sound .result) (c .if2 .taken)) (drive (z .allowance))
 
--- src/lib.rt:85:13
 shared-slice-read-n : tie.Need-shared-slice-read-n Inv-loop μ-loop
 shared-slice-read-n c = omega (arith, head-of (c .before .before .before .before .before .before .before .before .args .page .now) (page-ok (c .before .before .before .before)))
 
--- src/lib.rt:87:5
 loop-holds : tie.Need-loop-holds Inv-loop μ-loop
 loop-holds c =
     let z = c .before .before .before .before .before .before .before .before .args in
     driving-first (z .page .now) (z .run .now) (z .allowance) (page-ok (c .before .before .before .before)) (run-ok (c .before))
 
--- src/lib.rt:88:13
 lowest-waiting-requires : tie.Need-lowest-waiting-requires Inv-loop μ-loop
 lowest-waiting-requires c κs = long-of (c .before .before .before .before .before .before .before .before .before .before .args .page .now) (c .before .loop .run) (c .before .loop .inv .run-sound)
 
--- src/lib.rt:90:13
 same-length-2 : tie.Need-same-length-2 Inv-loop μ-loop
 same-length-2 c = c .before .before .before .loop .inv .same-length
 
--- src/lib.rt:90:13
 returns-3 : tie.Need-returns-3 Inv-loop μ-loop
 returns-3 c =
     let z = c .before .before .before .before .before .before .before .before .before .before .before .before .args in
     driving-rests (z .page .now) (z .run .now) (z .allowance) (c .before .before .before .loop .inv) (c .before .lowest-waiting .ensures) (c .if3 .taken)
 
--- src/lib.rt:93:13
 same-length-3 : tie.Need-same-length-3 Inv-loop μ-loop
 same-length-3 c = c .before .before .before .before .loop .inv .same-length
 
--- src/lib.rt:93:13
 returns-4 : tie.Need-returns-4 Inv-loop μ-loop
 returns-4 c =
     let z = c .before .before .before .before .before .before .before .before .before .before .before .before .before .args in
     driving-spends (z .page .now) (z .run .now) (z .allowance) (c .before .before .before .before .loop .inv) (c .before .before .lowest-waiting .ensures) (c .before .if3 .left) (c .if4 .taken)
 
--- src/lib.rt:95:9
 step-requires : tie.Need-step-requires Inv-loop μ-loop
 step-requires c κs =
     let s = c .before .before .before .before .before .loop .inv in
     let low = c .before .before .before .lowest-waiting .ensures in
     (s .page-sound, (s .run-sound, (c .before .before .if3 .left, low .found (c .before .before .if3 .left))))
 
--- src/lib.rt:96:9
 add-taken : tie.Need-add-taken Inv-loop μ-loop
 add-taken c = omega (arith, c .before .before .before .before .if4 .left, c .before .before .before .before .before .before .before .before .before .before .before .before .before .before .before .before .before .fits .allowance)
 
--- src/lib.rt:87:5
 loop-less : tie.Need-loop-less Inv-loop μ-loop
 loop-less c = omega (arith, c .before .before .before .before .if4 .left)
 
--- src/lib.rt:87:5
 loop-again : tie.Need-loop-again Inv-loop μ-loop
 loop-again c =
     let z = c .before .before .before .before .before .before .before .before .before .before .before .before .before .before .before .before .before .args in

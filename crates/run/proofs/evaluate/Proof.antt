@@ -12,13 +12,7 @@ use Rattle.worklist.proofs.Head.{head-of}
 use Rattle.run.proofs.Answering.{refused-10, refused-14, evaluate-15, evaluate-16, evaluate-answers}
 use Rattle.run.proofs.evaluate.Statement.{statement}
 use Rattle.run.proofs.evaluate.Tie as tie
-use Rattle.run.proofs.evaluate.Reads as reads
-use Rattle.run.proofs.evaluate.Lts as lts
-use Rattle.page.proofs.page_sound.Reads as page-sound-reads
-use Rattle.worklist.proofs.run_sound.Reads as run-sound-reads
-use Rattle.worklist.proofs.step.Reads as step-reads
 
--- src/lib.rt:17:9
 page-ok : (c : tie.Else1) → sound (c .before .before .before .before .args .page .now) ≡ true
 page-ok c = sym (c .before .page-sound .ensures) ∙ not-false (c .before .page-sound .result) (c .if1 .left)
 
@@ -28,97 +22,76 @@ run-ok c = sym (c .before .run-sound .ensures) ∙ not-false (c .before .run-sou
 page-sound-requires : tie.Need-page-sound-requires
 page-sound-requires c κs = search needs
 
--- src/lib.rt:18:9
 returns : tie.Need-returns
 returns c =
     let z = c .before .before .before .before .args in
     refused-10 (z .page .now) (z .run .now) (sym (c .before .page-sound .ensures) ∙ not-true (c .before .page-sound .result) (c .if1 .taken)) (evaluate (z .condition))
 
--- src/lib.rt:20:9
 run-sound-requires : tie.Need-run-sound-requires
 run-sound-requires c κs = page-ok (c .before)
 
--- src/lib.rt:21:9
 same-length : tie.Need-same-length
 same-length c = search needs
 
--- src/lib.rt:21:9
 returns-2 : tie.Need-returns-2
 returns-2 c =
     let z = c .before .before .before .before .before .before .before .args in
     refused-14 (z .page .now) (z .run .now) (page-ok (c .before .before .before)) (sym (c .before .run-sound .ensures) ∙ not-true (c .before .run-sound .result) (c .if2 .taken)) (evaluate (z .condition))
 
--- src/lib.rt:23:13
 shared-slice-read-n : tie.Need-shared-slice-read-n
 shared-slice-read-n c = omega (arith, head-of (c .before .before .before .before .before .before .before .before .args .page .now) (page-ok (c .before .before .before .before)))
 
--- src/lib.rt:24:8
 cast-if3 : tie.Need-cast-if3
 cast-if3 c = omega (arith, head-of (c .before .before .before .before .before .before .before .before .args .page .now) (page-ok (c .before .before .before .before)))
 
--- src/lib.rt:25:9
 same-length-2 : tie.Need-same-length-2
 same-length-2 c = search needs
 
--- src/lib.rt:25:9
 returns-3 : tie.Need-returns-3
 returns-3 c =
     let z = c .before .before .before .before .before .before .before .before .before .args in
     evaluate-15 (z .page .now) (z .run .now) (page-ok (c .before .before .before .before .before)) (run-ok (c .before .before)) (z .condition) (c .if3 .taken)
 
--- src/lib.rt:27:13
 cast-c : tie.Need-cast-c
 cast-c c = omega (arith, head-of (c .before .before .before .before .before .before .before .before .before .args .page .now) (page-ok (c .before .before .before .before .before)))
 
--- src/lib.rt:28:16
 cast-if4 : tie.Need-cast-if4
 cast-if4 c = search needs
 
--- src/lib.rt:28:12
 mul-if4 : tie.Need-mul-if4
 mul-if4 c = search needs
 
--- src/lib.rt:28:12
 add-if4 : tie.Need-add-if4
 add-if4 c = search needs
 
--- src/lib.rt:28:8
 mul-if4-2 : tie.Need-mul-if4-2
 mul-if4-2 c = search needs
 
--- src/lib.rt:28:8
 slice-read-if4 : tie.Need-slice-read-if4
 slice-read-if4 c = omega (arith, long-of (c .before .before .before .before .before .before .before .before .before .before .args .page .now) (c .before .before .before .before .before .before .before .before .before .before .args .run .now) (run-ok (c .before .before .before)))
 
--- src/lib.rt:29:9
 same-length-3 : tie.Need-same-length-3
 same-length-3 c = search needs
 
--- src/lib.rt:29:9
 returns-4 : tie.Need-returns-4
 returns-4 c =
     let z = c .before .before .before .before .before .before .before .before .before .before .before .args in
     evaluate-16 (z .page .now) (z .run .now) (page-ok (c .before .before .before .before .before .before .before)) (run-ok (c .before .before .before .before)) (z .condition) (omega arith) (c .if4 .taken)
 
--- src/lib.rt:31:8
 step-requires : tie.Need-step-requires
 step-requires c κs = (page-ok (c .before .before .before .before .before .before .before .before), (run-ok (c .before .before .before .before .before), (omega arith, omega arith)))
 
--- src/lib.rt:32:9
 same-length-4 : tie.Need-same-length-4
 same-length-4 c = search needs
 
--- src/lib.rt:32:9
 returns-5 : tie.Need-returns-5
 returns-5 c =
     let z = c .before .before .before .before .before .before .before .before .before .before .before .before .before .before .before .before .args in
     evaluate-answers (z .page .now) (z .run .now) (page-ok (c .before .before .before .before .before .before .before .before .before .before .before .before)) (run-ok (c .before .before .before .before .before .before .before .before .before)) (z .condition) (omega arith) (omega arith) (c .before .before .before .step .ensures) (ap (λ (t : Bool). cond t changed unchanged) (c .if5 .taken))
 
--- src/lib.rt:14:1
 same-length-5 : tie.Need-same-length-5
 same-length-5 c = search needs
 
--- src/lib.rt:14:1
 returns-6 : tie.Need-returns-6
 returns-6 c =
     let z = c .before .before .before .before .before .before .before .before .before .before .before .before .before .before .before .before .args in

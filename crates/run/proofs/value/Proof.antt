@@ -13,11 +13,6 @@ use Rattle.worklist.proofs.Head.{head-of}
 use Rattle.run.proofs.Answering.{refused-10, refused-14, value-15, value-17, value-answers, status-of}
 use Rattle.run.proofs.value.Statement.{statement}
 use Rattle.run.proofs.value.Tie as tie
-use Rattle.run.proofs.value.Reads as reads
-use Rattle.run.proofs.value.Lts as lts
-use Rattle.page.proofs.page_sound.Reads as page-sound-reads
-use Rattle.worklist.proofs.lowest_waiting.Reads as lowest-waiting-reads
-use Rattle.worklist.proofs.run_sound.Reads as run-sound-reads
 
 page-ok : (c : tie.Else1) → sound (c .before .before .before .before .args .page .now) ≡ true
 page-ok c = sym (c .before .page-sound .ensures) ∙ not-false (c .before .page-sound .result) (c .if1 .left)
@@ -25,87 +20,68 @@ page-ok c = sym (c .before .page-sound .ensures) ∙ not-false (c .before .page-
 run-ok : (c : tie.Else2) → runSound (pageOf (c .before .before .before .before .before .before .args .page .now)) (c .before .before .before .before .before .before .args .run .now) ≡ true
 run-ok c = sym (c .before .run-sound .ensures) ∙ not-false (c .before .run-sound .result) (c .if2 .left)
 
--- src/lib.rt:47:9
 page-sound-requires : tie.Need-page-sound-requires
 page-sound-requires c κs = search needs
 
--- src/lib.rt:48:9
 returns : tie.Need-returns
 returns c =
     let z = c .before .before .before .before .args in
     refused-10 (z .page .now) (z .run .now) (sym (c .before .page-sound .ensures) ∙ not-true (c .before .page-sound .result) (c .if1 .taken)) (value (z .condition)) .answer-is
 
--- src/lib.rt:50:9
 run-sound-requires : tie.Need-run-sound-requires
 run-sound-requires c κs = page-ok c
 
--- src/lib.rt:51:9
 returns-2 : tie.Need-returns-2
 returns-2 c =
     let z = c .before .before .before .before .before .before .args in
     refused-14 (z .page .now) (z .run .now) (page-ok (c .before .before)) (sym (c .before .run-sound .ensures) ∙ not-true (c .before .run-sound .result) (c .if2 .taken)) (value (z .condition)) .answer-is
 
--- src/lib.rt:53:13
 shared-slice-read-n : tie.Need-shared-slice-read-n
 shared-slice-read-n c = omega (arith, head-of (c .before .before .before .before .before .before .before .args .page .now) (page-ok (c .before .before .before)))
 
--- src/lib.rt:54:8
 cast-if3 : tie.Need-cast-if3
 cast-if3 c = omega (arith, head-of (c .before .before .before .before .before .before .before .args .page .now) (page-ok (c .before .before .before)))
 
--- src/lib.rt:55:9
 returns-3 : tie.Need-returns-3
 returns-3 c =
     let z = c .before .before .before .before .before .before .before .before .args in
     value-15 (z .page .now) (z .run .now) (page-ok (c .before .before .before .before)) (run-ok (c .before .before)) (z .condition) (c .if3 .taken)
 
--- src/lib.rt:57:14
 mul-at : tie.Need-mul-at
 mul-at c = search needs
 
--- src/lib.rt:58:12
 add-if4 : tie.Need-add-if4
 add-if4 c = search needs
 
--- src/lib.rt:58:8
 mul-if4 : tie.Need-mul-if4
 mul-if4 c = search needs
 
--- src/lib.rt:58:8
 shared-slice-read-if4 : tie.Need-shared-slice-read-if4
 shared-slice-read-if4 c = omega (arith, long-of (c .before .before .before .before .before .before .before .before .before .args .page .now) (c .before .before .before .before .before .before .before .before .before .args .run .now) (run-ok (c .before .before .before)))
 
--- src/lib.rt:59:9
 returns-4 : tie.Need-returns-4
 returns-4 c =
     let z = c .before .before .before .before .before .before .before .before .before .before .args in
     value-17 (z .page .now) (z .run .now) (page-ok (c .before .before .before .before .before .before)) (run-ok (c .before .before .before .before)) (z .condition) (omega arith) (omega arith)
 
--- src/lib.rt:62:14
 mul-t11 : tie.Need-mul-t11
 mul-t11 c = search needs
 
--- src/lib.rt:62:14
 shared-slice-read-t9 : tie.Need-shared-slice-read-t9
 shared-slice-read-t9 c = omega (arith, long-of (c .before .before .before .before .before .before .before .before .before .before .before .args .page .now) (c .before .before .before .before .before .before .before .before .before .before .before .args .run .now) (run-ok (c .before .before .before .before .before)))
 
--- src/lib.rt:63:19
 add-t12 : tie.Need-add-t12
 add-t12 c = search needs
 
--- src/lib.rt:63:15
 mul-t15 : tie.Need-mul-t15
 mul-t15 c = search needs
 
--- src/lib.rt:63:15
 shared-slice-read-t17 : tie.Need-shared-slice-read-t17
 shared-slice-read-t17 c = omega (arith, long-of (c .before .before .before .before .before .before .before .before .before .before .before .before .args .page .now) (c .before .before .before .before .before .before .before .before .before .before .before .before .args .run .now) (run-ok (c .before .before .before .before .before .before)))
 
--- src/lib.rt:64:15
 lowest-waiting-requires : tie.Need-lowest-waiting-requires
 lowest-waiting-requires c κs = omega (arith, long-of (c .before .before .before .before .before .before .before .before .before .before .before .before .args .page .now) (c .before .before .before .before .before .before .before .before .before .before .before .before .args .run .now) (run-ok (c .before .before .before .before .before .before)))
 
--- src/lib.rt:44:1
 returns-5 : tie.Need-returns-5
 returns-5 c =
     let z = c .before .before .before .before .before .before .before .before .before .before .before .before .before .args in

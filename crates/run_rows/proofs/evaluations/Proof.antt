@@ -6,12 +6,6 @@ use lib.ListN.{length}
 use borrow.Author.Needs.{needs}
 use Rattle.run_rows.proofs.evaluations.Statement.{statement}
 use Rattle.run_rows.proofs.evaluations.Tie as tie
-use Rattle.run_rows.proofs.evaluations.Reads as reads
-use Rattle.run_rows.proofs.evaluations.Lts as lts
-use Rattle.run.proofs.evaluate.Reads as evaluate-reads
-use Rattle.run.proofs.value.Reads as value-reads
-use Rattle.run_rows.proofs.show_evaluate.Reads as show-evaluate-reads
-use Rattle.run_rows.proofs.show_value.Reads as show-value-reads
 
 abbrev Inv-loop : tie.InvT-loop
 Inv-loop page area₀ times taken₀ area taken = length area ≡ length area₀
@@ -19,43 +13,33 @@ Inv-loop page area₀ times taken₀ area taken = length area ≡ length area₀
 abbrev μ-loop : tie.MeasureT-loop
 μ-loop page area₀ times taken₀ area taken = times - taken
 
--- src/main.rt:60:5
 loop-holds : tie.Need-loop-holds Inv-loop μ-loop
 loop-holds c = search needs
 
--- src/main.rt:61:23
 evaluate-requires : tie.Need-evaluate-requires Inv-loop μ-loop
 evaluate-requires c κs = tt
 
--- src/main.rt:61:9
 show-evaluate-requires : tie.Need-show-evaluate-requires Inv-loop μ-loop
 show-evaluate-requires c κs = tt
 
--- src/main.rt:62:20
 value-requires : tie.Need-value-requires Inv-loop μ-loop
 value-requires c κs = tt
 
--- src/main.rt:62:9
 show-value-requires : tie.Need-show-value-requires Inv-loop μ-loop
 show-value-requires c κs = tt
 
--- src/main.rt:63:9
 add-taken : tie.Need-add-taken Inv-loop μ-loop
 add-taken c = search needs
 
--- src/main.rt:60:5
 loop-less : tie.Need-loop-less Inv-loop μ-loop
 loop-less c = search needs
 
--- src/main.rt:60:5
 loop-again : tie.Need-loop-again Inv-loop μ-loop
 loop-again c = search needs
 
--- src/main.rt:58:1
 same-length : tie.Need-same-length Inv-loop μ-loop
 same-length c = search needs
 
--- src/main.rt:58:1
 returns : tie.Need-returns Inv-loop μ-loop
 returns c = search needs
 

@@ -4,15 +4,11 @@ use borrow.Author.Tests.{eq-eqb, ne-eqb}
 use Rattle.fixpoint.specs.ChaoticIteration.{same}
 use Rattle.worklist.proofs.differs.Statement.{statement}
 use Rattle.worklist.proofs.differs.Tie as tie
-use Rattle.worklist.proofs.differs.Reads as reads
-use Rattle.worklist.proofs.differs.Lts as lts
 
--- src/lib.rt:150:9
 returns : tie.Need-returns
 unfolding same
 returns c = rw (ne-eqb (c .before .args .low) (c .before .args .new-low) (c .if1 .taken))
 
--- src/lib.rt:146:1
 returns-2 : tie.Need-returns-2
 unfolding same
 returns-2 c = rw (eq-eqb (c .before .args .low) (c .before .args .new-low) (c .if1 .left))

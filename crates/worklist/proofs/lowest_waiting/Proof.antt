@@ -8,8 +8,6 @@ use borrow.Author.Needs.{needs}
 use Rattle.semantics.specs.RunArea.{markAt}
 use Rattle.worklist.proofs.lowest_waiting.Statement.{statement}
 use Rattle.worklist.proofs.lowest_waiting.Tie as tie
-use Rattle.worklist.proofs.lowest_waiting.Reads as reads
-use Rattle.worklist.proofs.lowest_waiting.Lts as lts
 
 abbrev Inv-loop : tie.InvT-loop
 Inv-loop run n k₀ k = (k ≤ n) × ((j : ℕ) → j < k → markAt run j ≢ 2)
@@ -17,47 +15,36 @@ Inv-loop run n k₀ k = (k ≤ n) × ((j : ℕ) → j < k → markAt run j ≢ 2
 abbrev μ-loop : tie.MeasureT-loop
 μ-loop run n k₀ k = n - k
 
--- src/lib.rt:65:9
 loop-holds : tie.Need-loop-holds Inv-loop μ-loop
 loop-holds c = (omega arith, below-none _)
 
--- src/lib.rt:69:20
 cast-if2 : tie.Need-cast-if2 Inv-loop μ-loop
 cast-if2 c = omega arith
 
--- src/lib.rt:69:16
 mul-if2 : tie.Need-mul-if2 Inv-loop μ-loop
 mul-if2 c = omega arith
 
--- src/lib.rt:69:16
 add-if2 : tie.Need-add-if2 Inv-loop μ-loop
 add-if2 c = omega arith
 
--- src/lib.rt:69:12
 mul-if2-2 : tie.Need-mul-if2-2 Inv-loop μ-loop
 mul-if2-2 c = omega arith
 
--- src/lib.rt:69:12
 shared-slice-read-if2 : tie.Need-shared-slice-read-if2 Inv-loop μ-loop
 shared-slice-read-if2 c = omega arith
 
--- src/lib.rt:72:9
 add-k : tie.Need-add-k Inv-loop μ-loop
 add-k c = omega arith
 
--- src/lib.rt:65:9
 loop-less : tie.Need-loop-less Inv-loop μ-loop
 loop-less c = omega arith
 
--- src/lib.rt:65:9
 loop-again : tie.Need-loop-again Inv-loop μ-loop
 loop-again c = (omega arith, below-more _ _ (c .before .before .before .loop .inv .1) (c .if2 .left))
 
--- src/lib.rt:60:1
 returns : tie.Need-returns Inv-loop μ-loop
 returns c = record { within = omega arith; below = c .before .loop .inv .1; found = λ l. absurd (omega arith) }
 
--- src/lib.rt:60:1
 returns-2 : tie.Need-returns-2 Inv-loop μ-loop
 returns-2 c = record { within = omega arith; below = c .before .before .before .loop .inv .1; found = λ l. c .if2 .taken }
 

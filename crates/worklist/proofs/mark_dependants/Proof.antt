@@ -8,10 +8,6 @@ use Rattle.worklist.proofs.Head.{head-of}
 use Rattle.worklist.proofs.Marking.{Marking, marking-first, head-fits, marking-next, marking-last}
 use Rattle.worklist.proofs.mark_dependants.Statement.{statement}
 use Rattle.worklist.proofs.mark_dependants.Tie as tie
-use Rattle.worklist.proofs.mark_dependants.Reads as reads
-use Rattle.worklist.proofs.mark_dependants.Lts as lts
-use Rattle.page.proofs.span_of.Reads as span-of-reads
-use Rattle.worklist.proofs.mark_head.Reads as mark-head-reads
 
 abbrev Inv-loop : tie.InvT-loop
 Inv-loop a run₀ c count at₀ passed₀ run at passed = Marking a c run₀ run at passed
@@ -23,76 +19,60 @@ abbrev μ-loop : tie.MeasureT-loop
 four-in : (c : tie.In-loop Inv-loop μ-loop) → c .before .loop .at + 4 ≤ length (c .before .before .before .before .before .args .a .now)
 four-in c = room (c .before .before .before .before .before .args .a .now) (c .before .loop .inv .scan) (omega arith)
 
--- src/lib.rt:132:17
 shared-slice-read-count : tie.Need-shared-slice-read-count Inv-loop μ-loop
 shared-slice-read-count c = omega (arith, head-of (c .before .before .before .args .a .now) (c .before .before .before .pre .0))
 
--- src/lib.rt:135:5
 loop-holds : tie.Need-loop-holds Inv-loop μ-loop
 loop-holds c = marking-first (c .before .before .before .args .a .now) (c .before .before .before .args .c) (c .before .before .before .args .run .now) (c .before .before .before .pre .0) (c .before .before .before .pre .1)
 
--- src/lib.rt:136:9
 mark-head-requires : tie.Need-mark-head-requires Inv-loop μ-loop
 mark-head-requires c κs =
     let z = c .before .before .before .before .before .before .args in
     let s = c .before .before .loop .inv in
-    (next-in (z .a .now) (s .scan) (omega arith), head-fits (z .a .now) (z .c) (z .run .now) s (omega arith))
+    (record { four = room (z .a .now) (s .scan) (omega arith); whole = next-in (z .a .now) (s .scan) (omega arith) }, head-fits (z .a .now) (z .c) (z .run .now) s (omega arith))
 
--- src/lib.rt:137:31
 add-span-of : tie.Need-add-span-of Inv-loop μ-loop
 add-span-of c = omega (arith, four-in (c .before .before .before .before), c .before .before .before .before .before .before .before .before .before .good)
 
--- src/lib.rt:137:29
 mul-span-of : tie.Need-mul-span-of Inv-loop μ-loop
 mul-span-of c = omega (arith, four-in (c .before .before .before .before), c .before .before .before .before .before .before .before .before .before .good)
 
--- src/lib.rt:137:29
 shared-slice-read-span-of : tie.Need-shared-slice-read-span-of Inv-loop μ-loop
 shared-slice-read-span-of c = omega (arith, four-in (c .before .before .before .before .before), c .before .before .before .before .before .before .before .before .before .before .good)
 
--- src/lib.rt:137:42
 add-span-of-2 : tie.Need-add-span-of-2 Inv-loop μ-loop
 add-span-of-2 c = omega (arith, four-in (c .before .before .before .before .before), c .before .before .before .before .before .before .before .before .before .before .good)
 
--- src/lib.rt:137:40
 mul-span-of-2 : tie.Need-mul-span-of-2 Inv-loop μ-loop
 mul-span-of-2 c = omega (arith, four-in (c .before .before .before .before .before), c .before .before .before .before .before .before .before .before .before .before .good)
 
--- src/lib.rt:137:40
 shared-slice-read-span-of-2 : tie.Need-shared-slice-read-span-of-2 Inv-loop μ-loop
 shared-slice-read-span-of-2 c = omega (arith, four-in (c .before .before .before .before .before .before), c .before .before .before .before .before .before .before .before .before .before .before .good)
 
--- src/lib.rt:137:15
 span-of-requires : tie.Need-span-of-requires Inv-loop μ-loop
 span-of-requires c κs = tt
 
--- src/lib.rt:137:9
 add-at : tie.Need-add-at Inv-loop μ-loop
 add-at c =
     let z = c .before .before .before .before .before .before .before .before .before .before .before .before .args in
     let s = c .before .before .before .before .before .before .before .before .loop .inv in
     omega (arith, c .before .before .before .before .before .before .before .before .before .before .before .before .good, c .span-of .ensures, next-in (z .a .now) (s .scan) (omega arith))
 
--- src/lib.rt:138:9
 add-passed : tie.Need-add-passed Inv-loop μ-loop
 add-passed c = omega (arith, head-of (c .before .before .before .before .before .before .before .before .before .before .before .before .args .a .now) (c .before .before .before .before .before .before .before .before .before .before .before .before .pre .0))
 
--- src/lib.rt:135:5
 loop-less : tie.Need-loop-less Inv-loop μ-loop
 loop-less c = omega arith
 
--- src/lib.rt:135:5
 loop-again : tie.Need-loop-again Inv-loop μ-loop
 loop-again c =
     let z = c .before .before .before .before .before .before .before .before .before .before .before .before .args in
     let s = c .before .before .before .before .before .before .before .before .loop .inv in
     marking-next (z .a .now) (z .c) (z .run .now) s (omega arith) (c .before .before .before .before .before .mark-head .ensures) (c .span-of .ensures)
 
--- src/lib.rt:127:1
 same-length : tie.Need-same-length Inv-loop μ-loop
 same-length c = c .before .loop .inv .same-length
 
--- src/lib.rt:127:1
 returns : tie.Need-returns Inv-loop μ-loop
 returns c =
     let z = c .before .before .before .before .before .args in

@@ -9,48 +9,37 @@ use Rattle.semantics.specs.Area.{kind}
 use Rattle.page.proofs.Scan.{span-four}
 use Rattle.worklist.proofs.mark_head.Statement.{statement}
 use Rattle.worklist.proofs.mark_head.Tie as tie
-use Rattle.worklist.proofs.mark_head.Reads as reads
-use Rattle.worklist.proofs.mark_head.Lts as lts
-use Rattle.worklist.proofs.entry_names.Reads as entry-names-reads
-use Rattle.worklist.proofs.mark_waiting.Reads as mark-waiting-reads
 
--- src/lib.rt:121:8
-entry-names-requires : tie.Need-entry-names-requires
-entry-names-requires c κs = search needs
+line-names-requires : tie.Need-line-names-requires
+line-names-requires c κs = search needs
 
--- src/lib.rt:122:27
 mul-mark-waiting : tie.Need-mul-mark-waiting
 mul-mark-waiting c = search needs
 
--- src/lib.rt:122:27
 shared-slice-read-mark-waiting : tie.Need-shared-slice-read-mark-waiting
 shared-slice-read-mark-waiting c =
     let z = c .before .before .before .before .before .before .args in
     omega (arith, span-four (kind (getD (z .a .now) (z .at + 1) 0)) (getD (z .a .now) (z .at + 3) 0))
 
--- src/lib.rt:122:9
 mark-waiting-requires : tie.Need-mark-waiting-requires
 mark-waiting-requires c κs = search needs
 
--- src/lib.rt:116:1
 same-length : tie.Need-same-length
 same-length c = search needs
 
--- src/lib.rt:116:1
 returns : tie.Need-returns
 returns c =
     let b = c .before .before .before .before .before in
-    rw (sym (b .before .entry-names .ensures) ∙ b .if1 .taken) (c .before .before .mark-waiting .ensures)
+    rw (sym (b .before .line-names .ensures) ∙ b .if1 .taken) (c .before .before .mark-waiting .ensures)
 
--- src/lib.rt:116:1
 returns-2 : tie.Need-returns-2
-returns-2 c = rw (sym (c .before .entry-names .ensures) ∙ c .if1 .left)
+returns-2 c = rw (sym (c .before .line-names .ensures) ∙ c .if1 .left)
 
 pub mark-head-spec : {M : Type 1} → statement M
 mark-head-spec =
     tie.close
     (tie.spec
-    entry-names-requires
+    line-names-requires
     mul-mark-waiting
     shared-slice-read-mark-waiting
     mark-waiting-requires

@@ -12,9 +12,6 @@ use Rattle.worklist.proofs.Head.{head-of}
 use Rattle.worklist.proofs.Soundness.{run-short, run-bad, run-ok}
 use Rattle.worklist.proofs.run_sound.Statement.{statement}
 use Rattle.worklist.proofs.run_sound.Tie as tie
-use Rattle.worklist.proofs.run_sound.Reads as reads
-use Rattle.worklist.proofs.run_sound.Lts as lts
-use Rattle.worklist.proofs.cell_ok.Reads as cell-ok-reads
 
 abbrev Inv-loop : tie.InvT-loop
 Inv-loop a run top n c₀ c = (c ≤ n) × (3 * n ≤ length run) × ((k : ℕ) → k < c → every (cellTests top (intervalAt run k) (markAt run k)) ≡ true)
@@ -22,57 +19,45 @@ Inv-loop a run top n c₀ c = (c ≤ n) × (3 * n ≤ length run) × ((k : ℕ) 
 abbrev μ-loop : tie.MeasureT-loop
 μ-loop a run top n c₀ c = n - c
 
--- src/lib.rt:44:15
 shared-slice-read-top : tie.Need-shared-slice-read-top Inv-loop μ-loop
 shared-slice-read-top c = omega (arith, head-of (c .before .before .before .args .a .now) (c .before .before .before .pre))
 
--- src/lib.rt:45:13
 shared-slice-read-n : tie.Need-shared-slice-read-n Inv-loop μ-loop
 shared-slice-read-n c = omega (arith, head-of (c .before .before .before .before .args .a .now) (c .before .before .before .before .pre))
 
--- src/lib.rt:46:24
 cast-if1 : tie.Need-cast-if1 Inv-loop μ-loop
 cast-if1 c = omega (arith, head-of (c .before .before .before .before .args .a .now) (c .before .before .before .before .pre))
 
--- src/lib.rt:46:20
 mul-if1 : tie.Need-mul-if1 Inv-loop μ-loop
 mul-if1 c = omega (arith, head-of (c .before .before .before .before .args .a .now) (c .before .before .before .before .pre))
 
--- src/lib.rt:47:9
 returns : tie.Need-returns Inv-loop μ-loop
 returns c =
     let z = c .before .before .before .before .before .args in
     run-short (z .a .now) (z .run .now) (c .if1 .taken)
 
--- src/lib.rt:50:5
 loop-holds : tie.Need-loop-holds Inv-loop μ-loop
 loop-holds c = (omega arith, omega arith, below-none _)
 
--- src/lib.rt:51:13
 cell-ok-requires : tie.Need-cell-ok-requires Inv-loop μ-loop
 cell-ok-requires c κs = omega arith
 
--- src/lib.rt:52:13
 returns-2 : tie.Need-returns-2 Inv-loop μ-loop
 returns-2 c =
     let z = c .before .before .before .before .before .before .before .before .before .args in
     run-bad (z .a .now) (z .run .now) (omega arith) (c .before .before .before .loop .c) (omega arith) (sym (c .before .cell-ok .ensures) ∙ not-true (c .before .cell-ok .result) (c .if2 .taken))
 
--- src/lib.rt:54:9
 add-c : tie.Need-add-c Inv-loop μ-loop
 add-c c =
     omega (arith, head-of (c .before .before .before .before .before .before .before .before .before .args .a .now) (c .before .before .before .before .before .before .before .before .before .pre))
 
--- src/lib.rt:50:5
 loop-less : tie.Need-loop-less Inv-loop μ-loop
 loop-less c = omega arith
 
--- src/lib.rt:50:5
 loop-again : tie.Need-loop-again Inv-loop μ-loop
 loop-again c =
     (omega arith, omega arith, below-more _ _ (c .before .before .before .loop .inv .2) (sym (c .before .cell-ok .ensures) ∙ not-false (c .before .cell-ok .result) (c .if2 .left)))
 
--- src/lib.rt:40:1
 returns-3 : tie.Need-returns-3 Inv-loop μ-loop
 returns-3 c =
     let z = c .before .before .before .before .before .before .before .args in

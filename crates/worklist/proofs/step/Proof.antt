@@ -4,72 +4,52 @@ use borrow.Author.Needs.{needs}
 use Rattle.worklist.proofs.Evaluation.{graded-of, long-of, evaluated-changed, evaluated-same}
 use Rattle.worklist.proofs.step.Statement.{statement}
 use Rattle.worklist.proofs.step.Tie as tie
-use Rattle.worklist.proofs.step.Reads as reads
-use Rattle.worklist.proofs.step.Lts as lts
-use Rattle.page.proofs.body.Reads as body-reads
-use Rattle.worklist.proofs.differs.Reads as differs-reads
-use Rattle.worklist.proofs.mark_dependants.Reads as mark-dependants-reads
-use Rattle.worklist.proofs.store_cell.Reads as store-cell-reads
 
--- src/lib.rt:174:14
 mul-at : tie.Need-mul-at
 mul-at c = search needs
 
--- src/lib.rt:175:15
 mul-low : tie.Need-mul-low
 mul-low c = search needs
 
--- src/lib.rt:175:15
 slice-read-low : tie.Need-slice-read-low
 slice-read-low c = omega (arith, long-of (c .before .before .before .args .a .now) (c .before .before .before .args .run .now) (c .before .before .before .pre .1 .0))
 
--- src/lib.rt:176:20
 add-high : tie.Need-add-high
 add-high c = search needs
 
--- src/lib.rt:176:16
 mul-high : tie.Need-mul-high
 mul-high c = search needs
 
--- src/lib.rt:176:16
 slice-read-high : tie.Need-slice-read-high
 slice-read-high c = omega (arith, long-of (c .before .before .before .before .args .a .now) (c .before .before .before .before .args .run .now) (c .before .before .before .before .pre .1 .0))
 
--- src/lib.rt:177:9
 body-requires : tie.Need-body-requires
 body-requires c κs =
     let s = c .before .before .before .before .before in
     (s .pre .0, graded-of (s .args .a .now) (s .args .run .now) (s .pre .0) (s .pre .1 .0))
 
--- src/lib.rt:180:9
 differs-requires : tie.Need-differs-requires
 differs-requires c κs = search needs
 
--- src/lib.rt:181:5
 store-cell-requires : tie.Need-store-cell-requires
 store-cell-requires c κs = omega (arith, long-of (c .before .before .before .before .before .before .before .before .args .a .now) (c .before .before .before .before .before .before .before .before .args .run .now) (c .before .before .before .before .before .before .before .before .pre .1 .0), c .before .before .before .before .before .before .before .before .pre)
 
--- src/lib.rt:183:9
 mark-dependants-requires : tie.Need-mark-dependants-requires
 mark-dependants-requires c κs =
     let s = c .before .before .before .before .before .before .before .before .before .before .before .before .before in
     (s .pre .0, omega (arith, long-of (s .args .a .now) (s .args .run .now) (s .pre .1 .0), c .before .before .before .before .store-cell .kept))
 
--- src/lib.rt:167:1
 same-length : tie.Need-same-length
 same-length c = search needs
 
--- src/lib.rt:167:1
 returns : tie.Need-returns
 returns c =
     let s = c .before .before .before .before .before .before .before .before .before .before .before .before .before .before .before .before in
     evaluated-changed (s .args .a .now) (s .args .run .now) (s .pre .0) (s .pre .1 .0) (s .args .c) (s .pre .1 .1 .0) (s .pre .1 .1 .1) (c .before .before .before .before .before .before .before .before .before .before .body .ensures) (c .before .before .before .before .before .before .before .before .before .differs .ensures) (c .before .before .before .before .before .before .before .store-cell .ensures) (c .before .before .before .before .if1 .taken) (c .before .before .mark-dependants .ensures)
 
--- src/lib.rt:167:1
 same-length-2 : tie.Need-same-length-2
 same-length-2 c = search needs
 
--- src/lib.rt:167:1
 returns-2 : tie.Need-returns-2
 returns-2 c =
     let s = c .before .before .before .before .before .before .before .before .before .before .before .before in
