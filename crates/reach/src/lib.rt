@@ -210,7 +210,7 @@ fn write_cell(run: &mut [u16], c: usize, high: u16, mark: u16)
 }
 
 // Writes n conditions: each holds [0;top], and waits if it is marked.
-fn write_run(run: &mut [u16], n: u16, top: u16, marks: &[bool])
+pub fn write_run(run: &mut [u16], n: u16, top: u16, marks: &[bool])
     requires { ⌜ (3 * n ≤ length (now run)) × (n ≤ length (now marks)) ⌝ }
     ensures { λ _. ⌜ Written n top (now (marks .entry)) (now (run .entry)) (now (run .exit)) ⌝ }
 {

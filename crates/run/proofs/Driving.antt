@@ -2,12 +2,11 @@
 use mathlib.Core.Path.{_≡_, refl, sym, _∙_, ap, ap₂}
 use mathlib.Core.Bool.{Bool, true}
 use mathlib.Core.List.{List, _++_}
-use mathlib.Core.Option.{none, some}
 use Prim.Native.Nat.{ℕ, suc, _+_, _*_, _-_, _≤_, _<_}
 use native.Mathlib.Omega.{arith}
 use lib.ListN.{length, drop}
 use Rattle.semantics.specs.Area.{sound, pageOf, conditionsOf}
-use Rattle.semantics.specs.Call.{Answer, drove, drive}
+use Rattle.semantics.specs.Call.{drove, drive}
 use Rattle.semantics.specs.Operation.{Left, operation}
 use Rattle.semantics.specs.Page.{Page}
 use Rattle.semantics.specs.RunArea.{markAt, runOf, worklistOf, reachedOf, runSound}

@@ -3,7 +3,6 @@ use mathlib.Core.Path.{_≡_}
 use mathlib.Core.Bool.{Bool, true, false}
 use mathlib.Core.List.{List}
 use Prim.Native.Nat.{ℕ}
-use Rattle.fixpoint.specs.Interval.{Interval}
 use Rattle.semantics.specs.Call.{Answer, refused, unchanged, changed, drove, valued}
 use Rattle.semantics.specs.Operation.{Left}
 use Rattle.semantics.specs.Worklist.{Status, rest, spent}

@@ -2,8 +2,8 @@
 use mathlib.Core.Path.{_≡_, refl, sym, _∙_, ap}
 use mathlib.Core.Logic.{_≢_}
 use mathlib.Core.Bool.{Bool, true, false}
-use mathlib.Core.List.{List, [], _∷_}
-use mathlib.Core.Option.{Option, none, some}
+use mathlib.Core.List.{List}
+use mathlib.Core.Option.{none, some}
 use Prim.Native.Nat.{ℕ, zero, suc, _+_, _≤_, _<_}
 use native.Mathlib.Nat.{add-zero, zero-add}
 use native.Mathlib.Omega.{arith}
@@ -12,7 +12,7 @@ use borrow.Author.Tests.{eq-eqb, ne-eqb}
 use Rattle.semantics.specs.Page.{Page}
 use Rattle.semantics.specs.RunArea.{markAt, worklistOf}
 use Rattle.semantics.specs.Table.{tableFrom}
-use Rattle.semantics.specs.Worklist.{Worklist, evaluated, lowestFrom, lowest, Driven, oneMore, driveFrom, driven}
+use Rattle.semantics.specs.Worklist.{Worklist, evaluated, lowestFrom, lowest, oneMore, driveFrom, driven}
 
 -- the first of n numbers from k on for which p holds
 module _ (p : ℕ → Bool) where

@@ -1,20 +1,17 @@
 -- What evaluate, drive and value answer and leave on areas, cause by cause. Assumes nothing.
-use mathlib.Core.Path.{_≡_, refl, sym, _∙_, ap, ap₂}
+use mathlib.Core.Path.{_≡_, refl, _∙_, ap}
 use mathlib.Core.Logic.{_≢_}
-use mathlib.Core.Bool.{Bool, true, false, not, cond}
+use mathlib.Core.Bool.{Bool, true, false, cond}
 use mathlib.Core.List.{List, _++_}
 use Prim.Native.Nat.{ℕ, _*_, _≤_, _<_}
 use native.Mathlib.Omega.{arith}
-use lib.Dec.{eqb, leb}
 use lib.ListN.{drop}
 use borrow.Author.Tests.{le-leb, lt-leb, eq-eqb, ne-eqb}
-use Rattle.fixpoint.specs.Interval.{Interval}
 use Rattle.semantics.specs.Area.{sound, pageOf}
 use Rattle.semantics.specs.Call.{Call, evaluate, drive, value, Answer, refused, changed, unchanged, drove, valued, Outcome, outcome}
-use Rattle.semantics.specs.Operation.{Left, operation}
+use Rattle.semantics.specs.Operation.{operation}
 use Rattle.semantics.specs.Page.{Page}
 use Rattle.semantics.specs.RunArea.{runOf, intervalAt, markAt, worklistOf, reachedOf, runSound}
-use Rattle.semantics.specs.Table.{intervalOf, member}
 use Rattle.semantics.specs.Worklist.{Worklist, changes, evaluated, status, driven}
 use Rattle.semantics.proofs.Areas.{held-at, waits-at, reached-at, reencoded}
 

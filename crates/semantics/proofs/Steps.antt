@@ -1,18 +1,18 @@
 -- An evaluation keeps a state one that a sound run area can hold. Assumes nothing.
-use mathlib.Core.Path.{_≡_, refl, sym, _∙_, ap, subst}
+use mathlib.Core.Path.{_≡_, sym, _∙_, ap}
 use mathlib.Core.Logic.{_≢_, inl, inr}
-use mathlib.Core.Bool.{Bool, true, false, not, _&&_, _||_, true≢false, false≢true}
+use mathlib.Core.Bool.{Bool, true, false, not, _&&_, _||_, true≢false}
 use mathlib.Core.List.{List}
 use Prim.Native.Nat.{ℕ, _≤_, _<_}
 use native.Mathlib.Decide.{ℕ-discrete}
 use native.Mathlib.Omega.{arith}
 use lib.Dec.{eqb}
-use lib.ListN.{length, getD, set, length-set}
+use lib.ListN.{length-set}
 use lib.Seq.{getD-set-same, getD-set-other}
 use Rattle.fixpoint.specs.Interval.{Interval, Ordered, Within, Assign}
 use Rattle.semantics.specs.Body.{T}
 use Rattle.semantics.specs.Page.{Page, names, Proper}
-use Rattle.semantics.specs.Table.{intervalOf, member, table}
+use Rattle.semantics.specs.Table.{intervalOf, member}
 use Rattle.semantics.specs.Worklist.{Worklist, changes, waitingAfter, evaluated}
 use Rattle.fixpoint.proofs.PlainReading.{agrees-consistent}
 use Rattle.semantics.proofs.Areas.{Encodable}

@@ -1,5 +1,5 @@
 -- An evaluation on a run area, from the numbers that the code leaves to the area of the next state. Assumes nothing.
-use mathlib.Core.Path.{_≡_, refl, sym, _∙_, ap, ap₂, subst}
+use mathlib.Core.Path.{_≡_, refl, sym, _∙_, ap}
 use mathlib.Core.Logic.{_≢_}
 use mathlib.Core.Bool.{Bool, true, false, not, cond, _&&_, _||_, or-true, or-false, and-true, and-false}
 use mathlib.Core.List.{List, _++_}
@@ -11,14 +11,13 @@ use lib.ListN.{length, getD, set, drop, length-set}
 use lib.Seq.{getD-set-same, getD-set-other, drop-set-lt}
 use borrow.Author.Tests.{eq-eqb, ne-eqb, le-leb, leb-true}
 use Rattle.fixpoint.specs.ChaoticIteration.{same}
-use Rattle.fixpoint.specs.Interval.{Interval, Assign}
 use Rattle.fixpoint.proofs.KnowledgeOrder.{pair-eq}
 use Rattle.semantics.specs.Area.{sound, pageOf, topOf, conditionsOf}
 use Rattle.semantics.specs.Body.{T}
 use Rattle.semantics.specs.Page.{Page, names, Proper}
 use Rattle.semantics.specs.RunArea.{markOf, runOf, intervalAt, markAt, worklistOf, reachedOf, runSound}
 use Rattle.semantics.specs.Table.{intervalOf, member}
-use Rattle.semantics.specs.Worklist.{Worklist, changes, waitingAfter, evaluated}
+use Rattle.semantics.specs.Worklist.{Worklist, changes, evaluated}
 use Rattle.semantics.proofs.Areas.{from-cells, mark-back, run-long, cell-sound, held-at, waits-at, reached-at, sound-encodable, area-sound}
 use Rattle.semantics.proofs.Readings.{page-system}
 use Rattle.semantics.proofs.Soundness.{sound-proper}
@@ -132,7 +131,7 @@ module _ (a run : List ℕ) (ok : sound a ≡ true) (rs : runSound (pageOf a) ru
   waiting = waits-at page run c l ∙ eq-eqb (markAt run c) 2 two
 
   -- the numbers after the cell is stored and, if t says so, the dependants are marked
-  record Left (t : Bool) (out : List ℕ) : Type 0 where
+  record Written (t : Bool) (out : List ℕ) : Type 0 where
     same-length : length out ≡ length run
     intervals : (h : ℕ) → h < pageOf a .conditions → intervalAt out h ≡ intervalAt (stored c low high 1 run) h
     marks : (h : ℕ) → h < pageOf a .conditions → markAt out h ≡ cond (t && (leb 1 (markAt (stored c low high 1 run) h) && names (pageOf a) h c)) 2 (markAt (stored c low high 1 run) h)
@@ -169,7 +168,7 @@ module _ (a run : List ℕ) (ok : sound a ≡ true) (rs : runSound (pageOf a) ru
       woken-mark (t && (leb 1 (markAt put h) && names page h c)) (markAt put h) (s .small)
       ∙ rw (s .waits, s .reached, e) (ap (λ (x : Bool). markOf x (member m h)) (sym (waits-after page w m b (sound-encodable page run rs) c l waiting h k)))
 
-  evaluated-area : (t : Bool) → t ≡ changes page b c → (out : List ℕ) → Left t out → Evaluated (pageOf a) c run out t
+  evaluated-area : (t : Bool) → t ≡ changes page b c → (out : List ℕ) → Written t out → Evaluated (pageOf a) c run out t
   unfolding runOf
   evaluated-area t e out s =
       record { answer = e; area = area; run-sound = rw area (area-sound page m (evaluated page m b c) (encodable-evaluated page w m b (sound-encodable page run rs) c l waiting) (drop (3 * page .conditions) run)) }

@@ -1,22 +1,21 @@
 -- The scan that marks the dependants of a condition, in the code's own terms. Assumes nothing.
-use mathlib.Core.Path.{_≡_, refl, sym, _∙_, ap, subst}
+use mathlib.Core.Path.{_≡_, refl, sym, _∙_, ap}
 use mathlib.Core.Bool.{Bool, true, false, cond, _&&_, _||_}
-use mathlib.Core.List.{List, []}
+use mathlib.Core.List.{List}
 use Prim.Native.Nat.{ℕ, _+_, _*_, _≤_, _<_}
 use native.Mathlib.Omega.{arith}
 use lib.Dec.{eqb, leb}
 use lib.ListN.{length, getD, drop}
-use Rattle.semantics.specs.Area.{sound, pageOf, lineAt, lineTests, topOf, conditionsOf, countOf, usedOf}
+use Rattle.semantics.specs.Area.{sound, pageOf, lineAt, topOf, conditionsOf, countOf}
 use Rattle.semantics.specs.Page.{Line, names, linesName}
 use Rattle.semantics.specs.RunArea.{intervalAt, markAt}
-use Rattle.semantics.proofs.Soundness.{every-true}
-use Rattle.page.proofs.Scanning.{Scanning, linesLeft, scanning-first, lines-first, entry-ok, step, lines-on, scanning-next, lines-none}
+use Rattle.page.specs.Lines.{Next, lineNames}
+use Rattle.page.proofs.Naming.{lines-name}
+use Rattle.page.proofs.Scanning.{Scanning, linesLeft, scanning-first, lines-first, entry-ok, scanning-moved, lines-moved, lines-none}
 use Rattle.page.proofs.Scan.{entry-head}
 use Rattle.worklist.specs.Cells.{DependantsMarked}
-use Rattle.page.specs.Lines.{lineNames}
-use Rattle.worklist.specs.Naming.{marked}
+use Rattle.worklist.specs.Marks.{marked}
 use Rattle.worklist.proofs.Head.{conditions-is}
-use Rattle.page.proofs.Naming.{lines-name}
 use Rattle.worklist.proofs.Stores.{marked-length, marked-apart, marked-beyond, marked-mark}
 
 -- the mark of a condition that is a dependant if a test holds
@@ -52,16 +51,17 @@ module _ (a : List ℕ) (c : ℕ) (run₀ : List ℕ) where
     pub marks : (h : ℕ) → dependant (names (pageOf a) h c) (markAt run₀ h) ≡ dependant (linesName (linesLeft a at k) h c) (markAt run h)
     pub beyond : drop (3 * conditionsOf a) run ≡ drop (3 * conditionsOf a) run₀
 
-  pub marking-first : sound a ≡ true → 3 * conditionsOf a ≤ length run₀ → Marking run₀ 4 0
-  marking-first e l =
-      record {
+  pub marking-first : sound a ≡ true → 3 * conditionsOf a ≤ length run₀ → {at k : ℕ} → (at ≡ 4) × (k ≡ 0) → Marking run₀ at k
+  marking-first e l q =
+      rw (q .0, q .1)
+      (record {
         scan = scanning-first a e;
         long = l;
         same-length = refl;
         intervals = λ h. refl;
         marks = λ h. ap (λ (ls : List Line). dependant (linesName ls h c) (markAt run₀ h)) (sym (lines-first a));
         beyond = refl;
-      }
+      })
 
   module _ {run : List ℕ} {at k : ℕ} (s : Marking run at k) (l : k < countOf a) where
     -- the head of the entry is a condition
@@ -71,21 +71,22 @@ module _ (a : List ℕ) (c : ℕ) (run₀ : List ℕ) where
     pub head-fits : 3 * getD a at 0 + 3 ≤ length run
     head-fits = omega (arith, head-in, s .long, s .same-length)
 
-    pub marking-next : {run′ : List ℕ} {r : ℕ} → run′ ≡ cond (lineNames (lineAt (drop at a)) c) (marked (getD a at 0) run) run → r ≡ step a (s .scan) l → Marking run′ (at + r) (k + 1)
-    marking-next {run′} {r} e q =
+    pub marking-next : {run′ : List ℕ} {at′ k′ : ℕ} → run′ ≡ cond (lineNames (lineAt (drop at a)) c) (marked (getD a at 0) run) run → Next a at k at′ k′ → Marking run′ at′ k′
+    marking-next {run′} {at′} {k′} e q =
         let t = lineNames (lineAt (drop at a)) c in
         let d = getD a at 0 in
-        rw (e, q)
+        let ls = linesLeft a at′ k′ in
+        rw e
         (record {
-          scan = scanning-next a (s .scan) l;
+          scan = scanning-moved a (s .scan) l q;
           long = s .long;
           same-length = marked-length t d run ∙ s .same-length;
           intervals = λ h. marked-apart t d run h ∙ s .intervals h;
           marks = λ h. s .marks h
-              ∙ ap (λ (ls : List Line). dependant (linesName ls h c) (markAt run h)) (lines-on a (s .scan) l)
-              ∙ ap (λ (b : Bool). dependant b (markAt run h)) (lines-name a at h c (linesLeft a (at + step a (s .scan) l) (k + 1)))
-              ∙ dependant-or (eqb d h && t) (linesName (linesLeft a (at + step a (s .scan) l) (k + 1)) h c) (markAt run h)
-              ∙ ap (dependant (linesName (linesLeft a (at + step a (s .scan) l) (k + 1)) h c)) (sym (marked-mark t d run head-fits h));
+              ∙ ap (λ (ls : List Line). dependant (linesName ls h c) (markAt run h)) (lines-moved a (s .scan) l q)
+              ∙ ap (λ (b : Bool). dependant b (markAt run h)) (lines-name a at h c ls)
+              ∙ dependant-or (eqb d h && t) (linesName ls h c) (markAt run h)
+              ∙ ap (dependant (linesName ls h c)) (sym (marked-mark t d run head-fits h));
           beyond = marked-beyond t d run (conditionsOf a) head-in ∙ s .beyond;
         })
 

@@ -1,16 +1,15 @@
 -- The soundness of a run area, cell by cell, in the code's own terms. Assumes nothing.
-use mathlib.Core.Path.{_≡_, refl, sym, _∙_, ap}
+use mathlib.Core.Path.{_≡_, refl, sym, _∙_}
 use mathlib.Core.Logic.{_≢_}
-use mathlib.Core.Bool.{Bool, true, false, _&&_, false≢true, and-true}
+use mathlib.Core.Bool.{Bool, true, false, false≢true, and-true}
 use mathlib.Core.List.{List}
 use Prim.Native.Nat.{ℕ, _*_, _≤_, _<_}
 use native.Mathlib.Omega.{arith}
-use lib.Dec.{eqb, leb}
+use lib.Dec.{eqb}
 use lib.ListN.{length}
 use borrow.Author.Tests.{le-leb, lt-leb, eq-eqb, ne-eqb}
 use Rattle.fixpoint.specs.Interval.{Interval}
 use Rattle.fixpoint.specs.ChaoticIteration.{same}
-use Rattle.fixpoint.specs.KnowledgeOrder.{unknown}
 use Rattle.semantics.specs.Area.{every, pageOf, topOf, conditionsOf}
 use Rattle.semantics.specs.RunArea.{intervalAt, markAt, cellTests, runSound}
 use Rattle.semantics.specs.Table.{allBelow}

@@ -1,3 +1,3 @@
 pub mod Cells
-pub mod Naming
+pub mod Marks
 pub mod Evaluation

@@ -8,7 +8,7 @@ ghost use Rattle.semantics.specs.Area.{sound, pageOf, every, lineAt};
 ghost use Rattle.semantics.specs.RunArea.{intervalAt, markAt, cellTests, runSound};
 ghost use Rattle.page.specs.Lines.{EntryIn, lineNames};
 ghost use Rattle.worklist.specs.Cells.{Lowest, DependantsMarked};
-ghost use Rattle.worklist.specs.Naming.{marked};
+ghost use Rattle.worklist.specs.Marks.{marked};
 ghost use Rattle.worklist.specs.Evaluation.{stored, Evaluated};
 
 // Whether the cell of c (low, high, mark) is sound.
@@ -77,7 +77,7 @@ pub fn lowest_waiting(run: &[u16], n: u16) -> u16
 }
 
 // The condition h waits if it is reached.
-fn mark_waiting(run: &mut [u16], h: u16)
+pub fn mark_waiting(run: &mut [u16], h: u16)
     requires { ⌜ 3 * h + 3 ≤ length (now run) ⌝ }
     ensures { λ r. ⌜ now (run .exit) ≡ marked h (now (run .entry)) ⌝ }
 {
@@ -105,12 +105,11 @@ pub fn mark_dependants(a: &[u16], run: &mut [u16], c: u16)
     ensures { λ r. ⌜ DependantsMarked (pageOf (now (a .entry))) c (now (run .entry)) (now (run .exit)) ⌝ }
 {
     let count = a[2];
-    let mut at: usize = 4;
-    let mut passed: u16 = 0;
-    while passed < count {
+    let mut line = page::Cursor::first();
+    while line.passed < count {
+        let at = line.at;
         mark_head(a, at, run, c);
-        at += page::span_of(a[at + 1], a[at + 3]);
-        passed += 1;
+        line = line.next(a);
     }
 }
 

@@ -1,7 +1,6 @@
 -- `run_rows::evaluations` is safe and ends. The loop's invariant: the area keeps its length. Assumes nothing.
 use Prim.Native.Nat.{_-_}
 use mathlib.Core.Path.{_≡_}
-use native.Mathlib.Omega.{arith}
 use lib.ListN.{length}
 use borrow.Author.Needs.{needs}
 use Rattle.run_rows.proofs.evaluations.Statement.{statement}

@@ -1,5 +1,4 @@
 -- `worklist::differs` meets its contract. Assumes nothing.
-use native.Mathlib.Omega.{arith}
 use borrow.Author.Tests.{eq-eqb, ne-eqb}
 use Rattle.fixpoint.specs.ChaoticIteration.{same}
 use Rattle.worklist.proofs.differs.Statement.{statement}

@@ -1,10 +1,8 @@
 -- `worklist::lowest_waiting` meets its contract. The loop's invariant: no condition passed waits. Assumes nothing.
-use Prim.Native.Nat.{ℕ, _*_, _-_, _≤_, _<_}
+use Prim.Native.Nat.{ℕ, _-_, _≤_, _<_}
 use mathlib.Core.Logic.{_≢_}
 use native.Mathlib.Omega.{arith}
-use lib.ListN.{length}
 use borrow.Author.Count.{below-none, below-more}
-use borrow.Author.Needs.{needs}
 use Rattle.semantics.specs.RunArea.{markAt}
 use Rattle.worklist.proofs.lowest_waiting.Statement.{statement}
 use Rattle.worklist.proofs.lowest_waiting.Tie as tie

@@ -1,4 +1,4 @@
--- What marking one dependant does. Assumes nothing.
+-- What marking one dependant leaves in a run area. Assumes nothing.
 use mathlib.Core.Bool.{cond}
 use mathlib.Core.List.{List}
 use Prim.Native.Nat.{ℕ, _+_, _*_}
