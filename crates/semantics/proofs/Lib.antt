@@ -8,6 +8,9 @@ pub mod Soundness
 pub mod RoundTrip
 pub mod ExactAreas
 pub mod UsedLength
+-- the text of a page
+pub mod TestLists
+pub mod ReadLines
 -- the computed closure is what is reached
 pub mod Table
 pub mod Closure

@@ -11,6 +11,10 @@ pub mod Reading
 -- "Areas"
 pub mod Area
 pub mod RunArea
+-- "The page", its text, and what reading it answers
+pub mod Text
+pub mod Written
+pub mod ReadPage
 -- "The book of a run", and what each call answers
 pub mod Worklist
 pub mod Call

@@ -1,0 +1,272 @@
+-- The number that is the field at a place, by the classes of its bytes. Assumes nothing.
+use mathlib.Core.Path.{_≡_, refl, sym, _∙_, ap}
+use mathlib.Core.Bool.{Bool, true, false, not, cond, _&&_, _||_}
+use mathlib.Core.List.{List, [], _∷_}
+use Prim.Native.Nat.{ℕ, zero, suc, _+_, _*_, _-_, _≤_, _<_}
+use native.Mathlib.Omega.{arith}
+use native.Mathlib.Numerals.{add-one}
+use native.Mathlib.Decide.{ℕ-discrete}
+use mathlib.Core.Logic.{_⊎_, inl, inr, ⊎-elim}
+use lib.Dec.{eqb, leb}
+use lib.ListN.{length, getD, drop}
+use borrow.Author.Tests.{eq-eqb, ne-eqb, eqb-true, eqb-false, le-leb, lt-leb, leb-true, leb-false}
+use Rattle.semantics.proofs.TestLists.{fails, passes}
+use Rattle.semantics.specs.Text.{field, isDigit, allDigits, isNumber, valueFrom, valueOf}
+use Rattle.reader.specs.declared.field.Field.{Field}
+use Rattle.reader.specs.declared.field.Field.the-variants.{Number, Bad}
+use Rattle.reader.specs.Cursor.{fieldsAt, fieldAt, classOf, pick, numberTo}
+use Rattle.reader.proofs.Places.{comma-fields, newline-fields, other-fields}
+
+pub and-false : (t : Bool) {u : Bool} → u ≡ false → (t && u) ≡ false
+and-false true e = e
+and-false false e = refl
+
+or-true : (t : Bool) → (t || true) ≡ true
+or-true true = refl
+or-true false = refl
+
+pub both-true : (t u : Bool) → (t && u) ≡ true → (t ≡ true) × (u ≡ true)
+both-true true u e = (refl, e)
+both-true false u e = let z : _≡_ {A = ℕ} 0 1 = cc in absurd (omega arith)
+
+-- The class that each arm of `class_at` gives to the byte x, which is y.
+module _ {x y : ℕ} (e : x ≡ y) where
+  pub class-ends : (x ≡ 10) ⊎ (x ≡ 44) → 10 ≡ classOf y
+  unfolding classOf
+  class-ends (inl h) = ap classOf (sym h ∙ e)
+  class-ends (inr h) = ap classOf (sym h ∙ e)
+
+  pub class-digits : 48 ≤ x → x ≤ 57 → x - 48 ≡ classOf y
+  unfolding classOf
+  class-digits h l = rw (← e, le-leb 48 x h, le-leb x 57 l)
+
+  pub class-low : x < 48 → ((x ≡ 10) ⊎ (x ≡ 44) → ⊥) → 11 ≡ classOf y
+  unfolding classOf
+  class-low h n = rw (← e, lt-leb 48 x h, ne-eqb x 44 (λ z. n (inr z)), ne-eqb x 10 (λ z. n (inl z)))
+
+  pub class-high : 57 < x → 11 ≡ classOf y
+  unfolding classOf
+  class-high h = rw (← e, le-leb 48 x (omega arith), lt-leb x 57 h, ne-eqb x 44 (λ z. omega arith), ne-eqb x 10 (λ z. omega arith))
+
+-- What a class says of its byte.
+pub digit-least : (b : ℕ) → isDigit b ≡ true → (48 ≤ b) × (b ≤ 57)
+digit-least b e = let h = both-true (leb 48 b) (leb b 57) e in (leb-true 48 b (h .0), leb-true b 57 (h .1))
+
+class-digit : (b : ℕ) → classOf b ≤ 9 → isDigit b ≡ true
+unfolding classOf
+class-digit b = go (isDigit b) (eqb b 44 || eqb b 10)
+  where
+    go : (t u : Bool) → cond t (b - 48) (cond u 10 11) ≤ 9 → t ≡ true
+    go true u h = refl
+    go false true h = absurd (omega arith)
+    go false false h = absurd (omega arith)
+
+class-value : (b : ℕ) → isDigit b ≡ true → classOf b ≡ b - 48
+unfolding classOf
+class-value b e = rw e
+
+class-other : (b : ℕ) → 9 < classOf b → isDigit b ≡ false
+unfolding classOf
+class-other b = go (isDigit b) refl (eqb b 44 || eqb b 10)
+  where
+    go : (t : Bool) → isDigit b ≡ t → (u : Bool) → 9 < cond t (b - 48) (cond u 10 11) → t ≡ false
+    go true e u h = let l = digit-least b e in absurd (omega arith)
+    go false e u h = refl
+
+class-end : (b : ℕ) → classOf b ≡ 10 → (b ≡ 44) ⊎ (b ≡ 10)
+unfolding classOf
+class-end b = go (isDigit b) refl (eqb b 44) (eqb b 10) refl refl
+  where
+    go : (t : Bool) → isDigit b ≡ t → (u v : Bool) → eqb b 44 ≡ u → eqb b 10 ≡ v → cond t (b - 48) (cond (u || v) 10 11) ≡ 10 → (b ≡ 44) ⊎ (b ≡ 10)
+    go true e u v p q h = let l = digit-least b e in absurd (omega arith)
+    go false e true v p q h = inl (eqb-true b 44 p)
+    go false e false true p q h = inr (eqb-true b 10 q)
+    go false e false false p q h = absurd (omega arith)
+
+class-most : (b : ℕ) → (classOf b ≡ 10 → ⊥) → (classOf b ≡ 11 → ⊥) → classOf b ≤ 9
+unfolding classOf
+class-most b = go (isDigit b) refl (eqb b 44 || eqb b 10)
+  where
+    go : (t : Bool) → isDigit b ≡ t → (u : Bool) → (cond t (b - 48) (cond u 10 11) ≡ 10 → ⊥) → (cond t (b - 48) (cond u 10 11) ≡ 11 → ⊥) → cond t (b - 48) (cond u 10 11) ≤ 9
+    go true e u m n = let l = digit-least b e in omega arith
+    go false e true m n = absurd (m refl)
+    go false e false m n = absurd (n refl)
+
+-- The field at a place, byte by byte.
+pub field-end : (s : List ℕ) (i : ℕ) → classOf (getD s i 10) ≡ 10 → fieldAt s i ≡ []
+field-end s i e =
+    ⊎-elim (λ (h : getD s i 10 ≡ 44). ap (λ (fs : List (List ℕ)). field fs 0) (comma-fields s i h))
+    (λ (h : getD s i 10 ≡ 10). ap (λ (fs : List (List ℕ)). field fs 0) (newline-fields s i h))
+    (class-end (getD s i 10) e)
+
+pub field-more : (s : List ℕ) (i j : ℕ) → j ≡ i + 1 → (classOf (getD s i 10) ≡ 10 → ⊥) → fieldAt s i ≡ getD s i 10 ∷ fieldAt s j
+unfolding classOf
+field-more s i j q n =
+    rw q
+    (ap (λ (fs : List (List ℕ)). field fs 0)
+    (other-fields s i (λ (e : getD s i 10 ≡ 10). n (ap classOf e)) (λ (e : getD s i 10 ≡ 44). n (ap classOf e))))
+
+-- Which lists of bytes are numbers.
+not-digits : (f : List ℕ) (k : ℕ) → k < length f → isDigit (getD f k 0) ≡ false → allDigits f ≡ false
+not-digits [] k h e = absurd (omega arith)
+not-digits (b ∷ f) zero h e = rw e
+not-digits (b ∷ f) (suc k) h e = and-false (isDigit b) (not-digits f k (omega arith) e)
+
+not-digit : (f : List ℕ) (k : ℕ) → k < length f → isDigit (getD f k 0) ≡ false → isNumber f ≡ false
+unfolding isNumber
+not-digit f k h e =
+    fails (leb 1 (length f) ∷ leb (length f) 3 ∷ allDigits f ∷ (not (eqb (getD f 0 0) 48) || eqb (length f) 1) ∷ []) 2 (not-digits f k h e)
+
+not-long : (f : List ℕ) → 3 < length f → isNumber f ≡ false
+unfolding isNumber
+not-long f h =
+    fails (leb 1 (length f) ∷ leb (length f) 3 ∷ allDigits f ∷ (not (eqb (getD f 0 0) 48) || eqb (length f) 1) ∷ []) 1 (lt-leb (length f) 3 h)
+
+not-empty : isNumber [] ≡ false
+unfolding isNumber
+not-empty = refl
+
+not-leading : (b : ℕ) (f : List ℕ) → b ≡ 48 → 0 < length f → isNumber (b ∷ f) ≡ false
+unfolding isNumber
+not-leading b f e h =
+    fails (leb 1 (length (b ∷ f)) ∷ leb (length (b ∷ f)) 3 ∷ allDigits (b ∷ f) ∷ (not (eqb b 48) || eqb (length (b ∷ f)) 1) ∷ []) 3
+    (rw (eq-eqb b 48 e, ne-eqb (length (b ∷ f)) 1 (λ z. omega arith)))
+
+one-digit : (a : ℕ) → isDigit a ≡ true → isNumber (a ∷ []) ≡ true
+unfolding isNumber
+one-digit a p = rw (p, or-true)
+
+two-digits : (a b : ℕ) → isDigit a ≡ true → isDigit b ≡ true → (a ≡ 48 → ⊥) → isNumber (a ∷ b ∷ []) ≡ true
+unfolding isNumber
+two-digits a b p q n = rw (p, q, ne-eqb a 48 n)
+
+three-digits : (a b d : ℕ) → isDigit a ≡ true → isDigit b ≡ true → isDigit d ≡ true → (a ≡ 48 → ⊥) → isNumber (a ∷ b ∷ d ∷ []) ≡ true
+unfolding isNumber
+three-digits a b d p q r n = rw (p, q, r, ne-eqb a 48 n)
+
+value-one : (a : ℕ) → a - 48 ≡ valueOf (a ∷ [])
+unfolding valueOf
+value-one a = omega arith
+
+value-two : (a b : ℕ) → valueOf (a ∷ b ∷ []) ≡ (a - 48) * 10 + (b - 48)
+unfolding valueOf
+value-two a b = omega arith
+
+value-three : (a b d : ℕ) → valueOf (a ∷ b ∷ d ∷ []) ≡ ((a - 48) * 10 + (b - 48)) * 10 + (d - 48)
+unfolding valueOf
+value-three a b d = omega arith
+
+-- a number has at most three digits
+pub value-most : (f : List ℕ) → isNumber f ≡ true → valueOf f ≤ 999
+unfolding isNumber valueOf
+value-most f n =
+    let ts = leb 1 (length f) ∷ leb (length f) 3 ∷ allDigits f ∷ (not (eqb (getD f 0 0) 48) || eqb (length f) 1) ∷ [] in
+    go f (leb-true (length f) 3 (passes ts 1 n)) (passes ts 2 n)
+  where
+    go : (f : List ℕ) → length f ≤ 3 → allDigits f ≡ true → valueFrom 0 f ≤ 999
+    go [] l d = omega arith
+    go (a ∷ []) l d = omega (arith, digit-least a (both-true (isDigit a) true d .0))
+    go (a ∷ b ∷ []) l d =
+        let p = both-true (isDigit a) (isDigit b && true) d in
+        omega (arith, digit-least a (p .0), digit-least b (both-true (isDigit b) true (p .1) .0))
+    go (a ∷ b ∷ d ∷ []) l e =
+        let p = both-true (isDigit a) (isDigit b && (isDigit d && true)) e in
+        let q = both-true (isDigit b) (isDigit d && true) (p .1) in
+        omega (arith, digit-least a (p .0), digit-least b (q .0), digit-least d (both-true (isDigit d) true (q .1) .0))
+    go (a ∷ b ∷ d ∷ e ∷ f) l h = absurd (omega arith)
+
+-- The answer of the field reader.
+no-number : (s : List ℕ) (at : ℕ) (f : List ℕ) → fieldAt s at ≡ f → isNumber f ≡ false → Bad ≡ numberTo s at
+unfolding numberTo
+no-number s at f e n = rw (e, n)
+
+a-number : (s : List ℕ) (at : ℕ) (f : List ℕ) (v e : ℕ) → fieldAt s at ≡ f → isNumber f ≡ true → v ≡ valueOf f → e ≡ at + length f → Number v e ≡ numberTo s at
+unfolding numberTo
+a-number s at f v e q n p l = rw (q, n, p, l)
+
+-- By the classes A, B, D, E of the bytes at a place and after it: what the field reader answers.
+module _ (s : List ℕ) (at A : ℕ) (a : A ≡ classOf (getD s at 10)) where
+  pub none-first : 9 < A → Bad ≡ numberTo s at
+  none-first h = go (ℕ-discrete A 10)
+    where
+      go : Dec (A ≡ 10) → Bad ≡ numberTo s at
+      go (yes e) = no-number s at [] (field-end s at (sym a ∙ e)) not-empty
+      go (no n) =
+          no-number s at (getD s at 10 ∷ fieldAt s (at + 1)) (field-more s at (at + 1) refl (λ e. n (a ∙ e)))
+          (not-digit (getD s at 10 ∷ fieldAt s (at + 1)) 0 (omega arith) (class-other (getD s at 10) (rw (← a) h)))
+
+  module _ (B : ℕ) (b : B ≡ classOf (getD s (at + 1) 10)) where
+    pub one-number : A ≤ 9 → B ≡ 10 → Number A (at + 1) ≡ numberTo s at
+    one-number h e =
+        let p = class-digit (getD s at 10) (rw (← a) h) in
+        a-number s at (getD s at 10 ∷ []) A (at + 1)
+        (field-more s at (at + 1) refl (λ z. omega arith) ∙ ap (λ (f : List ℕ). getD s at 10 ∷ f) (field-end s (at + 1) (sym b ∙ e)))
+        (one-digit (getD s at 10) p)
+        (a ∙ class-value (getD s at 10) p ∙ value-one (getD s at 10))
+        refl
+
+    -- the field has two bytes or more
+    two-bytes : A ≤ 9 → (B ≡ 10 → ⊥) → fieldAt s at ≡ getD s at 10 ∷ getD s (at + 1) 10 ∷ fieldAt s (at + 2)
+    two-bytes h n =
+        field-more s at (at + 1) refl (λ z. omega arith)
+        ∙ ap (λ (f : List ℕ). getD s at 10 ∷ f) (field-more s (at + 1) (at + 2) (omega arith) (λ z. n (b ∙ z)))
+
+    pub none-second : A ≤ 9 → B ≡ 11 → Bad ≡ numberTo s at
+    none-second h e =
+        let f = getD s at 10 ∷ getD s (at + 1) 10 ∷ fieldAt s (at + 2) in
+        no-number s at f (two-bytes h (λ z. omega arith)) (not-digit f 1 (omega arith) (class-other (getD s (at + 1) 10) (rw (← b) (omega arith))))
+
+    pub none-leading : A ≡ 0 → (B ≡ 10 → ⊥) → Bad ≡ numberTo s at
+    none-leading h n =
+        let p = class-digit (getD s at 10) (rw (← a) (omega arith)) in
+        let l = digit-least (getD s at 10) p in
+        let z : getD s at 10 ≡ 48 = omega (arith, class-value (getD s at 10) p) in
+        no-number s at (getD s at 10 ∷ getD s (at + 1) 10 ∷ fieldAt s (at + 2)) (two-bytes (omega arith) n)
+        (not-leading (getD s at 10) (getD s (at + 1) 10 ∷ fieldAt s (at + 2)) z (omega arith))
+
+    module _ (h : A ≤ 9) (h₀ : A ≡ 0 → ⊥) (n : B ≡ 10 → ⊥) (m : B ≡ 11 → ⊥) (D : ℕ) (d : D ≡ classOf (getD s (at + 2) 10)) where
+      -- the first two bytes are digits, and the first is not `0`
+      first-digit : isDigit (getD s at 10) ≡ true
+      first-digit = class-digit (getD s at 10) (rw (← a) h)
+
+      second-digit : isDigit (getD s (at + 1) 10) ≡ true
+      second-digit = class-digit (getD s (at + 1) 10) (class-most (getD s (at + 1) 10) (λ e. n (b ∙ e)) (λ e. m (b ∙ e)))
+
+      not-zero : getD s at 10 ≡ 48 → ⊥
+      not-zero e = h₀ (omega (arith, class-value (getD s at 10) first-digit))
+
+      pub two-number : D ≡ 10 → Number (A * 10 + B) (at + 2) ≡ numberTo s at
+      two-number e =
+          a-number s at (getD s at 10 ∷ getD s (at + 1) 10 ∷ []) (A * 10 + B) (at + 2)
+          (two-bytes h n ∙ ap (λ (f : List ℕ). getD s at 10 ∷ getD s (at + 1) 10 ∷ f) (field-end s (at + 2) (sym d ∙ e)))
+          (two-digits (getD s at 10) (getD s (at + 1) 10) first-digit second-digit not-zero)
+          (rw (value-two (getD s at 10) (getD s (at + 1) 10))
+          (omega (arith, class-value (getD s at 10) first-digit, class-value (getD s (at + 1) 10) second-digit)))
+          refl
+
+      three-bytes : (D ≡ 10 → ⊥) → fieldAt s at ≡ getD s at 10 ∷ getD s (at + 1) 10 ∷ getD s (at + 2) 10 ∷ fieldAt s (at + 3)
+      three-bytes k =
+          two-bytes h n
+          ∙ ap (λ (f : List ℕ). getD s at 10 ∷ getD s (at + 1) 10 ∷ f) (field-more s (at + 2) (at + 3) (omega arith) (λ z. k (d ∙ z)))
+
+      pub none-third : D ≡ 11 → Bad ≡ numberTo s at
+      none-third e =
+          let f = getD s at 10 ∷ getD s (at + 1) 10 ∷ getD s (at + 2) 10 ∷ fieldAt s (at + 3) in
+          no-number s at f (three-bytes (λ z. omega arith)) (not-digit f 2 (omega arith) (class-other (getD s (at + 2) 10) (rw (← d) (omega arith))))
+
+      module _ (k : D ≡ 10 → ⊥) (k₁ : D ≡ 11 → ⊥) (E : ℕ) (e : E ≡ classOf (getD s (at + 3) 10)) where
+        pub three-number : E ≡ 10 → Number ((A * 10 + B) * 10 + D) (at + 3) ≡ numberTo s at
+        three-number g =
+            let third = class-digit (getD s (at + 2) 10) (class-most (getD s (at + 2) 10) (λ z. k (d ∙ z)) (λ z. k₁ (d ∙ z))) in
+            a-number s at (getD s at 10 ∷ getD s (at + 1) 10 ∷ getD s (at + 2) 10 ∷ []) ((A * 10 + B) * 10 + D) (at + 3)
+            (three-bytes k ∙ ap (λ (f : List ℕ). getD s at 10 ∷ getD s (at + 1) 10 ∷ getD s (at + 2) 10 ∷ f) (field-end s (at + 3) (sym e ∙ g)))
+            (three-digits (getD s at 10) (getD s (at + 1) 10) (getD s (at + 2) 10) first-digit second-digit third not-zero)
+            (rw (value-three (getD s at 10) (getD s (at + 1) 10) (getD s (at + 2) 10))
+            (omega (arith, class-value (getD s at 10) first-digit, class-value (getD s (at + 1) 10) second-digit, class-value (getD s (at + 2) 10) third)))
+            refl
+
+        pub none-longer : (E ≡ 10 → ⊥) → Bad ≡ numberTo s at
+        none-longer g =
+            no-number s at (getD s at 10 ∷ getD s (at + 1) 10 ∷ getD s (at + 2) 10 ∷ getD s (at + 3) 10 ∷ fieldAt s (at + 4))
+            (three-bytes k ∙ ap (λ (f : List ℕ). getD s at 10 ∷ getD s (at + 1) 10 ∷ getD s (at + 2) 10 ∷ f) (field-more s (at + 3) (at + 4) (omega arith) (λ z. g (e ∙ z))))
+            (not-long (getD s at 10 ∷ getD s (at + 1) 10 ∷ getD s (at + 2) 10 ∷ getD s (at + 3) 10 ∷ fieldAt s (at + 4)) (omega arith))

@@ -1,0 +1,50 @@
+-- What `two_numbers` answers. Assumes nothing.
+use mathlib.Core.Path.{_≡_, refl, sym, _∙_, ap, subst}
+use mathlib.Core.Bool.{Bool, true, false}
+use mathlib.Core.List.{List, [], _∷_}
+use mathlib.Core.Logic.{_⊎_, inl, inr, ⊎-elim}
+use Prim.Native.Nat.{ℕ, suc, _+_, _≤_, _<_}
+use native.Mathlib.Omega.{arith}
+use lib.Dec.{leb}
+use lib.ListN.{length, drop}
+use borrow.Author.Tests.{lt-leb}
+use Rattle.semantics.specs.Area.{every}
+use Rattle.semantics.specs.Text.{field, isNumber}
+use Rattle.semantics.proofs.TestLists.{fails}
+use Rattle.reader.specs.declared.field.Pair.{Pair}
+use Rattle.reader.specs.declared.field.Pair.the-variants.{Numbers, Bad}
+use Rattle.reader.specs.Cursor.{fieldsAt, fieldAt}
+use Rattle.reader.specs.Pairs.{pairTests, PairThen, PairAt}
+use Rattle.reader.proofs.Tokens.{NumberThen}
+
+module _ (s : List ℕ) (at : ℕ) where
+  pub no-first : (isNumber (fieldAt s at) ≡ false) ⊎ (length (fieldsAt (drop at s)) ≡ 1) → every (pairTests (fieldsAt (drop at s))) ≡ false
+  no-first (inl n) = fails (pairTests (fieldsAt (drop at s))) 0 n
+  no-first (inr l) = fails (pairTests (fieldsAt (drop at s))) 2 (lt-leb 3 (length (fieldsAt (drop at s))) (omega arith))
+
+  pub no-second : {v a : ℕ} → NumberThen s at v a → (isNumber (fieldAt s a) ≡ false) ⊎ (length (fieldsAt (drop a s)) ≡ 1) → every (pairTests (fieldsAt (drop at s))) ≡ false
+  no-second {v} {a} h (inl n) = rw (h .fields) (fails (pairTests (fieldAt s at ∷ fieldsAt (drop a s))) 1 n)
+  no-second {v} {a} h (inr l) =
+      rw (h .fields) (fails (pairTests (fieldAt s at ∷ fieldsAt (drop a s))) 2 (lt-leb 3 (suc (length (fieldsAt (drop a s)))) (omega arith)))
+
+  pub pair-then : {v a w e : ℕ} → NumberThen s at v a → NumberThen s a w e → PairThen s at v w e
+  pair-then {v} {a} {w} {e} h k =
+      record {
+        f = fieldAt s at;
+        g = fieldAt s a;
+        fields = h .fields ∙ ap (λ (fs : List (List ℕ)). fieldAt s at ∷ fs) (k .fields);
+        first = h .number;
+        second = k .number;
+        value = h .value;
+        value′ = k .value;
+        lines = h .lines ∙ k .lines;
+        ahead = omega (arith, h .ahead, k .ahead);
+        inside = k .inside;
+      }
+
+  -- the answer by its cases
+  pub pair-numbers : {r : Pair} → PairAt s at r → {v w e : ℕ} → r ≡ Numbers v w e → PairThen s at v w e
+  pair-numbers {r} p h = subst (PairAt s at) h p
+
+  pub pair-bad : {r : Pair} → PairAt s at r → r ≡ Bad → every (pairTests (fieldsAt (drop at s))) ≡ false
+  pair-bad {r} p h = subst (PairAt s at) h p

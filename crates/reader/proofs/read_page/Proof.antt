@@ -1,0 +1,56 @@
+-- `read_page` meets its contract, by the laws of `Results`. Assumes nothing.
+use borrow.Author.Needs.{needs}
+use mathlib.Core.Path.{_≡_}
+use native.Mathlib.Omega.{arith}
+use Rattle.reader.proofs.Results.{refused-text, accepted, too-short, room, read-whole}
+use Rattle.reader.proofs.read_page.Statement.{statement}
+use Rattle.reader.proofs.read_page.Tie as tie
+
+check-page-requires : tie.Need-check-page-requires
+check-page-requires c κs = search needs
+
+enum-known-checked : tie.Need-enum-known-checked
+enum-known-checked c = search needs
+
+enum-known-checked-2 : tie.Need-enum-known-checked-2
+enum-known-checked-2 c = search needs
+
+returns : tie.Need-returns
+returns c = too-short (c .before .before .before .before .before .before .before .args .bytes .now) (c .before .before .before .before .before .before .before .args .area .now) (c .before .before .before .before .check-page .ensures) (c .before .before .checked2 .given .1) (c .if1 .taken)
+
+cast-put-four : tie.Need-cast-put-four
+cast-put-four c = omega (arith, accepted (c .before .before .before .before .before .before .before .before .args .bytes .now) (c .before .before .before .before .before .before .before .before .args .area .now) (c .before .before .before .before .before .check-page .ensures) (c .before .before .before .checked2 .given .1) .few)
+
+cast-put-four-2 : tie.Need-cast-put-four-2
+cast-put-four-2 c = omega (arith, accepted (c .before .before .before .before .before .before .before .before .args .bytes .now) (c .before .before .before .before .before .before .before .before .args .area .now) (c .before .before .before .before .before .check-page .ensures) (c .before .before .before .checked2 .given .1) .short)
+
+put-four-requires : tie.Need-put-four-requires
+put-four-requires c κs = omega (arith, c .before .if1 .left, accepted (c .before .before .before .before .before .before .before .before .args .bytes .now) (c .before .before .before .before .before .before .before .before .args .area .now) (c .before .before .before .before .before .check-page .ensures) (c .before .before .before .checked2 .given .1) .used)
+
+write-lines-requires : tie.Need-write-lines-requires
+write-lines-requires c κs = (accepted (c .before .before .before .before .before .before .before .before .before .before .before .before .args .bytes .now) (c .before .before .before .before .before .before .before .before .before .before .before .before .args .area .now) (c .before .before .before .before .before .before .before .before .before .check-page .ensures) (c .before .before .before .before .before .before .before .checked2 .given .1) .formed, omega (arith, room (c .before .before .before .before .before .before .before .before .before .before .before .before .args .bytes .now) (c .before .before .before .before .before .before .before .before .before .before .before .before .args .area .now) (c .before .before .before .before .before .before .before .before .before .check-page .ensures) (c .before .before .before .before .before .before .before .checked2 .given .1) (c .before .before .before .before .before .if1 .left), c .before .before .before .put-four .kept .0))
+
+returns-2 : tie.Need-returns-2
+returns-2 c = refused-text (c .before .before .before .before .before .before .args .bytes .now) (c .before .before .before .before .before .before .args .area .now) (c .before .before .before .check-page .ensures) (c .before .checked .given .1)
+
+same-length : tie.Need-same-length
+same-length c = search needs
+
+returns-3 : tie.Need-returns-3
+returns-3 c = read-whole (c .before .before .before .before .before .before .before .before .before .before .before .before .before .before .before .args .bytes .now) (c .before .before .before .before .before .before .before .before .before .before .before .before .before .before .before .args .area .now) (c .before .before .before .before .before .before .before .before .before .before .before .before .check-page .ensures) (c .before .before .before .before .before .before .before .before .before .before .checked2 .given .1) (c .before .before .before .before .before .before .before .before .if1 .left) (c .before .before .before .before .before .before .put-four .ensures) (c .before .before .write-lines .ensures)
+
+pub read-page-spec : {M : Type 1} → statement M
+read-page-spec =
+    tie.close
+    (tie.spec
+    check-page-requires
+    enum-known-checked
+    enum-known-checked-2
+    returns
+    cast-put-four
+    cast-put-four-2
+    put-four-requires
+    write-lines-requires
+    returns-2
+    same-length
+    returns-3)

@@ -1,0 +1,6 @@
+pub mod Cursor
+pub mod Pairs
+pub mod Lines
+pub mod Checks
+pub mod Shown
+pub mod Answers

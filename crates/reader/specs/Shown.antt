@@ -1,0 +1,19 @@
+-- Where a line ends, and where the next begins. Assumes nothing.
+use mathlib.Core.Path.{_≡_}
+use mathlib.Core.List.{List, []}
+use Prim.Native.Nat.{ℕ, _-_, _≤_}
+use lib.ListN.{length, getD, take, drop}
+use Rattle.semantics.specs.Text.{textLines}
+use Rattle.reader.specs.Cursor.{linesAfter}
+
+-- the line at a place goes up to the place e, and the lines after it are those behind byte 10
+pub record LineEnd (s : List ℕ) (at e : ℕ) : Type 0 where
+  pub line : getD (textLines (drop at s)) 0 [] ≡ take (e - at) (drop at s)
+  pub ahead : at ≤ e
+  pub inside : e ≤ length s
+  pub lines : linesAfter (drop at s) ≡ linesAfter (drop e s)
+  pub ends : getD s e 10 ≡ 10
+
+pub record NextLine (s : List ℕ) (at e : ℕ) : Type 0 where
+  pub lines : linesAfter (drop at s) ≡ textLines (drop e s)
+  pub inside : e ≤ length s

@@ -1,0 +1,67 @@
+// Read a page, from its text to a page area, and show a line of it.
+mod check;
+mod field;
+mod line;
+mod show;
+mod write;
+
+ghost use mathlib.Core.Path.{_≡_};
+ghost use Rattle.semantics.specs.ReadPage.{readOf, lineOf};
+ghost use Rattle.reader.specs.Answers.{answerOf};
+use crate::check::Checked;
+use crate::check::check_page;
+use crate::show::line_end;
+use crate::show::next_line;
+use crate::write::put_four;
+use crate::write::write_lines;
+
+// The used length of a page that is read, or the number and the line of a refusal.
+pub enum ReadAnswer {
+    Read(usize),
+    Refused { number: u16, line: usize },
+}
+
+// Read a page. A refusal leaves the area as it is.
+pub fn read_page(bytes: &[u8], area: &mut [u16]) -> ReadAnswer
+    ensures answer { λ r. ⌜ answerOf r ≡ readOf (now (bytes .entry)) (now (area .entry)) .answer ⌝ }
+    ensures area { λ _. ⌜ now (area .exit) ≡ readOf (now (bytes .entry)) (now (area .entry)) .area ⌝ }
+{
+    let checked = check_page(bytes);
+    match checked {
+        Checked::Refused { number, line } => ReadAnswer::Refused { number, line },
+        Checked::Page {
+            top,
+            conditions,
+            count,
+            used,
+            from,
+        } => {
+            if area.len() < used {
+                return ReadAnswer::Refused { number: 6, line: 0 };
+            }
+            put_four(area, 0, top, conditions, count as u16, used as u16);
+            write_lines(bytes, from, area);
+            ReadAnswer::Read(used)
+        }
+    }
+}
+
+// Show a line, by its number from 1: the part of the caller's own bytes, empty where there is no such line.
+pub fn show_line(bytes: &[u8], number: usize) -> &[u8]
+    ensures { λ r. ⌜ now r ≡ lineOf (now (bytes .entry)) number ⌝ }
+{
+    if number == 0 {
+        return &bytes[0..0];
+    }
+    let mut at: usize = 0;
+    let mut left = number;
+    while 1 < left {
+        if bytes.len() <= at {
+            return &bytes[at..at];
+        }
+        at = next_line(bytes, at);
+        left -= 1;
+    }
+    let end = line_end(bytes, at);
+    &bytes[at..end]
+}
