@@ -73,7 +73,7 @@ proper-sound page z w =
     (lines-pass (page .top) (page .conditions) (4 + n - 4) (page .lines) z (w .ranged) (omega arith))
 
 -- a sound area is the area of its page
-code-literal : (x : ℕ) → codeOf (literalOf x) ≡ x
+pub code-literal : (x : ℕ) → codeOf (literalOf x) ≡ x
 code-literal x = go (eqb (x % 2) 0) refl
   where
     go : (t : Bool) → eqb (x % 2) 0 ≡ t → codeOf (cond t (positive (x / 2)) (negative (x / 2))) ≡ x

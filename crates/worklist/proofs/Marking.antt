@@ -19,10 +19,10 @@ use Rattle.worklist.proofs.Head.{conditions-is}
 use Rattle.worklist.proofs.Stores.{marked-length, marked-apart, marked-beyond, marked-mark}
 
 -- the mark of a condition that is a dependant if a test holds
-abbrev dependant : Bool → ℕ → ℕ
+abbrev pub dependant : Bool → ℕ → ℕ
 dependant t mark = cond (leb 1 mark && t) 2 mark
 
-dependant-or : (x r : Bool) (mark : ℕ) → dependant (x || r) mark ≡ dependant r (cond (x && leb 1 mark) 2 mark)
+pub dependant-or : (x r : Bool) (mark : ℕ) → dependant (x || r) mark ≡ dependant r (cond (x && leb 1 mark) 2 mark)
 dependant-or false r mark = refl
 dependant-or true r mark = go r (leb 1 mark) refl
   where
@@ -31,7 +31,7 @@ dependant-or true r mark = go r (leb 1 mark) refl
     go false true e = refl
     go r false e = rw e
 
-dependant-none : (t : Bool) (mark : ℕ) → t ≡ false → dependant t mark ≡ mark
+pub dependant-none : (t : Bool) (mark : ℕ) → t ≡ false → dependant t mark ≡ mark
 dependant-none t mark e = rw e (go (leb 1 mark))
   where
     go : (s : Bool) → cond (s && false) 2 mark ≡ mark

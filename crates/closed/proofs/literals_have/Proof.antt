@@ -1,0 +1,59 @@
+-- `closed::literals_have` meets its contract. The loop's invariant: no literal passed is `code`. Assumes nothing.
+use Prim.Native.Nat.{_-_}
+use native.Mathlib.Omega.{arith}
+use Rattle.closed.proofs.Reading.{Looking, looking-first, looking-found, looking-next, looking-last}
+use Rattle.closed.proofs.literals_have.Statement.{statement}
+use Rattle.closed.proofs.literals_have.Tie as tie
+
+abbrev Inv-loop : tie.InvT-loop
+Inv-loop a from m code j₀ j = Looking a from m code j
+
+abbrev μ-loop : tie.MeasureT-loop
+μ-loop a from m code j₀ j = m - j
+
+loop-holds : tie.Need-loop-holds Inv-loop μ-loop
+loop-holds c = looking-first _ _ _ _ (c .pre)
+
+cast-if1 : tie.Need-cast-if1 Inv-loop μ-loop
+cast-if1 c = omega arith
+
+add-if1 : tie.Need-add-if1 Inv-loop μ-loop
+add-if1 c = omega arith
+
+mul-if1 : tie.Need-mul-if1 Inv-loop μ-loop
+mul-if1 c = omega arith
+
+shared-slice-read-if1 : tie.Need-shared-slice-read-if1 Inv-loop μ-loop
+shared-slice-read-if1 c = omega arith
+
+returns : tie.Need-returns Inv-loop μ-loop
+returns c = looking-found _ _ _ _ (c .before .before .before .loop .inv) (omega arith) (c .if1 .taken)
+
+add-j : tie.Need-add-j Inv-loop μ-loop
+add-j c = omega arith
+
+loop-less : tie.Need-loop-less Inv-loop μ-loop
+loop-less c = omega arith
+
+loop-again : tie.Need-loop-again Inv-loop μ-loop
+loop-again c = looking-next _ _ _ _ (c .before .before .before .loop .inv) (omega arith) (c .if1 .left)
+
+returns-2 : tie.Need-returns-2 Inv-loop μ-loop
+returns-2 c = looking-last _ _ _ _ (c .before .loop .inv) (omega arith)
+
+pub literals-have-spec : {M : Type 1} → statement M
+literals-have-spec =
+    tie.close
+    (tie.spec
+    Inv-loop
+    μ-loop
+    loop-holds
+    cast-if1
+    add-if1
+    mul-if1
+    shared-slice-read-if1
+    returns
+    add-j
+    loop-less
+    loop-again
+    returns-2)

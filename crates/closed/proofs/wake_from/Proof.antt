@@ -1,0 +1,71 @@
+-- `closed::wake_from` meets its contract. Assumes nothing.
+use mathlib.Core.Path.{_∙_}
+use native.Mathlib.Omega.{arith}
+use lib.ListN.{length-set}
+use Rattle.semantics.specs.Area.{pageOf}
+use Rattle.worklist.proofs.Head.{head-of}
+use Rattle.closed.proofs.Waking.{woken-none, woken-some}
+use borrow.Author.Needs.{needs}
+use Rattle.closed.proofs.wake_from.Statement.{statement}
+use Rattle.closed.proofs.wake_from.Tie as tie
+
+shared-slice-read-at : tie.Need-shared-slice-read-at
+shared-slice-read-at c = omega (arith, head-of (c .before .before .before .args .a .now) (c .before .before .before .pre .0))
+
+cast-at : tie.Need-cast-at
+cast-at c = search needs
+
+mul-at : tie.Need-mul-at
+mul-at c = search needs
+
+add-at : tie.Need-add-at
+add-at c = search needs
+
+mul-if1 : tie.Need-mul-if1
+mul-if1 c = search needs
+
+slice-read-if1 : tie.Need-slice-read-if1
+slice-read-if1 c = search needs
+
+returns : tie.Need-returns
+returns c = unfold pageOf in woken-none (pageOf (c .before .before .before .before .before .args .a .now)) (c .before .before .before .before .before .args .c) (c .before .before .before .before .before .args .run .now) (c .if1 .taken)
+
+mul-run : tie.Need-mul-run
+mul-run c = search needs
+
+slice-write-run : tie.Need-slice-write-run
+slice-write-run c = search needs
+
+mul-mark-readers : tie.Need-mul-mark-readers
+mul-mark-readers c = omega (arith, head-of (c .before .before .before .before .before .before .args .a .now) (c .before .before .before .before .before .before .pre .0))
+
+add-mark-readers : tie.Need-add-mark-readers
+add-mark-readers c = omega (arith, head-of (c .before .before .before .before .before .before .args .a .now) (c .before .before .before .before .before .before .pre .0))
+
+mark-readers-requires : tie.Need-mark-readers-requires
+mark-readers-requires c κs = (c .before .before .before .before .before .before .pre .0, simp length-set (omega (arith, c .before .before .before .before .before .before .pre .1)))
+
+same-length : tie.Need-same-length
+same-length c = c .before .before .mark-readers .ensures .same-length ∙ simp length-set
+
+returns-2 : tie.Need-returns-2
+returns-2 c = unfold pageOf in woken-some (pageOf (c .before .before .before .before .before .before .before .before .before .args .a .now)) (c .before .before .before .before .before .before .before .before .before .args .c) (c .before .before .before .before .before .before .before .before .before .args .run .now) (c .before .before .before .before .before .before .before .before .before .pre .2) (c .before .before .before .before .before .before .before .before .before .pre .1) (c .before .before .mark-readers .ensures)
+
+pub wake-from-spec : {M : Type 1} → statement M
+wake-from-spec =
+    tie.close
+    (tie.spec
+    shared-slice-read-at
+    cast-at
+    mul-at
+    add-at
+    mul-if1
+    slice-read-if1
+    returns
+    mul-run
+    slice-write-run
+    mul-mark-readers
+    add-mark-readers
+    mark-readers-requires
+    same-length
+    returns-2)

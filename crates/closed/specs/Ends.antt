@@ -1,0 +1,53 @@
+-- The two ends of an interval, and which ends of which conditions an end of a body value reads. Assumes nothing.
+use mathlib.Core.Bool.{Bool, true, false, not, _&&_, _||_}
+use mathlib.Core.Path.{_≡_}
+use mathlib.Core.List.{List, [], _∷_}
+use Prim.Native.Nat.{ℕ, _+_, _*_, _-_, _<_}
+use lib.Dec.{eqb}
+use Rattle.fixpoint.specs.Interval.{Interval, Assign}
+use Rattle.fixpoint.specs.AlternatingFixpoint.{highs, lows}
+use Rattle.fixpoint.specs.Sum.{sum}
+use Rattle.semantics.specs.Area.{codeOf}
+use Rattle.semantics.specs.Page.{Literal, Line, fact, rule, query, Page}
+
+-- the high end, or the low end
+abbrev pub endOf : Bool → Interval → ℕ
+endOf true p = p .high
+endOf false p = p .low
+
+-- "a literal is 2 × condition, plus 1 if negated"
+abbrev pub literalCode : Bool → ℕ → ℕ
+literalCode true c = 2 * c + 1
+literalCode false c = 2 * c
+
+-- the literal with that code is one of the list
+unfoldable pub among : ℕ → List Literal → Bool
+among code [] = false
+among code (l ∷ ls) = eqb (codeOf l) code || among code ls
+
+-- some R line of a has that literal
+unfoldable pub linesRead : ℕ → List Line → ℕ → Bool
+linesRead code [] a = false
+linesRead code (fact d l h ∷ ls) a = linesRead code ls a
+linesRead code (rule d w op lits ∷ ls) a = (eqb d a && among code lits) || linesRead code ls a
+linesRead code (query r d ∷ ls) a = linesRead code ls a
+
+-- some R line of a has c, or where `negated` holds the negation of c, among its literals
+abbrev pub reads : Page → Bool → ℕ → ℕ → Bool
+reads page negated a c = linesRead (literalCode negated c) (page .lines) a
+
+-- an end of A's body value sees the same end of what A names plainly, and the other end of what A negates
+pub record EndLocal (n : ℕ) (T : Assign → ℕ → Interval) (names : ℕ → ℕ → Bool) (reads : Bool → ℕ → ℕ → Bool) : Type 0 where
+  pub named : (negated : Bool) (A B : ℕ) → reads negated A B ≡ true → names A B ≡ true
+  pub local-end : (e : Bool) (I J : Assign) (A : ℕ) → A < n → ((B : ℕ) → B < n → reads false A B ≡ true → endOf e (I B) ≡ endOf e (J B))
+      → ((B : ℕ) → B < n → reads true A B ≡ true → endOf (not e) (I B) ≡ endOf (not e) (J B)) → endOf e (T I A) ≡ endOf e (T J A)
+
+-- what the end e of c comes to while the other ends stay as K has them: the least high ends over the low ends of K, or the least low ends
+-- over its high ends
+abbrev pub settledEnd : Bool → (n top : ℕ) → (Assign → ℕ → Interval) → (ℕ → Bool) → Assign → ℕ → ℕ
+settledEnd true n top T free K c = highs n top T free K c .high
+settledEnd false n top T free K c = lows n top T free K c .low
+
+-- how far the ends e are from top, all together
+unfoldable pub room : Bool → ℕ → ℕ → Assign → ℕ
+room e n top I = sum n (λ c. top - endOf e (I c))
