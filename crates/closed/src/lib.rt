@@ -276,7 +276,7 @@ fn clear(scratch: &mut [u16], m: usize)
 
 // The answer of the closed reading: the number of the refusal, or that the work is done.
 pub enum ClosedAnswer {
-    Refused(u32),
+    Refused(u8),
     Done,
 }
 

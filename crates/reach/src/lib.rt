@@ -247,7 +247,7 @@ pub fn all_below(queries: &[u16], n: u16) -> bool
 }
 
 pub enum OpenAnswer {
-    Refused(u32),
+    Refused(u8),
     Opened {
         reached: u32,
         edges: u32,

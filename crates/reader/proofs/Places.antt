@@ -11,6 +11,7 @@ use lib.ListN.{length, getD, drop, drop-of-length-le, List·getD-eq-default}
 use lib.Seq.{drop-cons}
 use borrow.Author.Tests.{eq-eqb, ne-eqb}
 use Rattle.semantics.specs.Text.{parted, textLines, fieldsOf, field}
+use Rattle.semantics.specs.ReadPage.{startFrom}
 use Rattle.reader.specs.Cursor.{fieldsAt, linesAfter}
 
 parted-cons : (t : Bool) (b : ℕ) (parts : List (List ℕ)) → parted t b parts ≡ getD (parted t b parts) 0 [] ∷ drop 1 (parted t b parts)
@@ -100,3 +101,23 @@ module _ (s : List ℕ) (i : ℕ) where
   pub line-here : i < length s → textLines (drop i s) ≡ getD (textLines (drop i s)) 0 [] ∷ linesAfter (drop i s)
   unfolding linesAfter textLines
   line-here h = rw (drop-cons s i 10 h) (parted-cons (eqb (getD s i 10) 10) (getD s i 10) (textLines (drop (suc i) s)))
+
+  -- where the lines behind a place begin
+  pub other-start : (getD s i 10 ≡ 10 → ⊥) → (k : ℕ) → startFrom (drop i s) (suc k) ≡ suc (startFrom (drop (i + 1) s) (suc k))
+  unfolding startFrom
+  other-start n k =
+      let h : i < length s = within s i n in
+      rw (add-one, drop-cons s i 10 h, ne-eqb (getD s i 10) 10 n)
+
+  pub newline-start : i < length s → getD s i 10 ≡ 10 → (k : ℕ) → startFrom (drop i s) (suc k) ≡ suc (startFrom (drop (i + 1) s) k)
+  unfolding startFrom
+  newline-start h e k = rw (add-one, drop-cons s i 10 h, e)
+
+  pub end-start : length s ≤ i → (k : ℕ) → startFrom (drop i s) k ≡ 0
+  unfolding startFrom
+  end-start h k = rw (drop-of-length-le s h)
+
+pub first-start : (s : List ℕ) → startFrom s 0 ≡ 0
+unfolding startFrom
+first-start [] = refl
+first-start (b ∷ s) = refl

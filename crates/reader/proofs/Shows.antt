@@ -8,10 +8,10 @@ use native.Mathlib.Nat.{sub-self}
 use lib.ListN.{length, getD, take, drop, length-drop, drop-of-length-le, List·getD-eq-default}
 use lib.Seq.{take-suc, getD-drop}
 use Rattle.semantics.specs.Text.{textLines}
-use Rattle.semantics.specs.ReadPage.{lineOf}
+use Rattle.semantics.specs.ReadPage.{lineOf, startFrom, startOf}
 use Rattle.reader.specs.Cursor.{linesAfter}
-use Rattle.reader.specs.Shown.{LineEnd, NextLine}
-use Rattle.reader.proofs.Places.{byte-here, byte-past, line-here, newline-front, newline-lines, other-front, other-lines}
+use Rattle.reader.specs.Shown.{LineEnd, NextLine, LineAt}
+use Rattle.reader.proofs.Places.{byte-here, byte-past, line-here, newline-front, newline-lines, other-front, other-lines, other-start, newline-start, end-start, first-start}
 
 -- The line at a place has been followed as far as the place i.
 pub record Following (s : List ℕ) (at i : ℕ) : Type 0 where
@@ -19,9 +19,10 @@ pub record Following (s : List ℕ) (at i : ℕ) : Type 0 where
   pub lines : linesAfter (drop at s) ≡ linesAfter (drop i s)
   pub ahead : at ≤ i
   pub inside : i ≤ length s
+  pub starts : (k : ℕ) → startFrom (drop at s) (suc k) ≡ i - at + startFrom (drop i s) (suc k)
 
 pub following-first : (s : List ℕ) (at : ℕ) → at ≤ length s → Following s at at
-following-first s at h = record { line = rw sub-self; lines = refl; ahead = omega arith; inside = h }
+following-first s at h = record { line = rw sub-self; lines = refl; ahead = omega arith; inside = h; starts = λ k. omega arith }
 
 module _ (s : List ℕ) (at i : ℕ) (w : Following s at i) where
   pub following-next : i < length s → (getD s i 0 ≡ 10 → ⊥) → Following s at (i + 1)
@@ -37,6 +38,7 @@ module _ (s : List ℕ) (at i : ℕ) (w : Following s at i) where
         lines = w .lines ∙ other-lines s i m;
         ahead = omega (arith, w .ahead);
         inside = omega arith;
+        starts = λ k. omega (arith, w .ahead, w .starts k, other-start s i m k);
       }
 
   line-ends : getD s i 10 ≡ 10 → LineEnd s at i
@@ -47,6 +49,7 @@ module _ (s : List ℕ) (at i : ℕ) (w : Following s at i) where
         inside = w .inside;
         lines = w .lines;
         ends = e;
+        starts = w .starts;
       }
 
   pub at-newline : i < length s → getD s i 0 ≡ 10 → LineEnd s at i
@@ -57,48 +60,69 @@ module _ (s : List ℕ) (at i : ℕ) (w : Following s at i) where
 
 module _ (s : List ℕ) (at e : ℕ) (w : LineEnd s at e) where
   pub next-line : e < length s → NextLine s at (e + 1)
-  next-line h = record { lines = w .lines ∙ newline-lines s e (w .ends); inside = omega arith }
+  next-line h =
+      record {
+        lines = w .lines ∙ newline-lines s e (w .ends);
+        ahead = omega (arith, w .ahead);
+        inside = omega arith;
+        starts = λ k. omega (arith, w .ahead, w .starts k, newline-start s e h (w .ends) k);
+      }
 
   pub no-next-line : length s ≤ e → NextLine s at e
   no-next-line h =
       let k : length s ≤ e + 1 = omega arith in
       record {
         lines = w .lines ∙ newline-lines s e (w .ends) ∙ ap textLines (drop-of-length-le s k ∙ sym (drop-of-length-le s h));
+        ahead = w .ahead;
         inside = w .inside;
+        starts = λ j. omega (arith, w .starts j, end-start s e h (suc j), end-start s e h j);
       }
 
 -- The line with a number is `left` lines on, counted from 1, from the place `at`.
 pub record Seeking (s : List ℕ) (number at left : ℕ) : Type 0 where
   pub line : lineOf s number ≡ getD (textLines (drop at s)) (left - 1) []
+  pub begins : startOf s number ≡ at + startFrom (drop at s) (left - 1)
   pub inside : at ≤ length s
   pub least : 1 ≤ left
 
-pub no-line : (s : List ℕ) (number : ℕ) → number ≡ 0 → [] ≡ lineOf s number
+pub no-line : (s : List ℕ) (number : ℕ) → number ≡ 0 → LineAt s number 0 0
 unfolding lineOf
-no-line s number e = rw e
+no-line s number e = rw e (record { begins = sym (first-start s); line = refl; ahead = omega arith; inside = omega arith })
 
 pub seeking-first : (s : List ℕ) (number : ℕ) → (number ≡ 0 → ⊥) → Seeking s number 0 number
 unfolding lineOf
 seeking-first s zero n = absurd (n refl)
 seeking-first s (suc k) n =
     let e : suc k - 1 ≡ k = omega arith in
-    record { line = rw e; inside = omega arith; least = omega arith }
+    record { line = rw e; begins = omega arith; inside = omega arith; least = omega arith }
 
 module _ (s : List ℕ) (number at left : ℕ) (w : Seeking s number at left) where
-  pub seeking-past : length s ≤ at → [] ≡ lineOf s number
+  pub seeking-past : length s ≤ at → LineAt s number at at
   unfolding textLines
-  seeking-past h = sym (w .line ∙ rw (drop-of-length-le s h))
+  seeking-past h =
+      record {
+        begins = omega (arith, w .begins, end-start s at h (left - 1));
+        line = rw sub-self (sym (w .line ∙ rw (drop-of-length-le s h)));
+        ahead = omega arith;
+        inside = w .inside;
+      }
 
   pub seeking-next : 1 < left → at < length s → {e : ℕ} → NextLine s at e → Seeking s number e (left - 1)
   seeking-next l h {e} q =
       let k : left - 1 ≡ suc (left - 1 - 1) = omega arith in
       record {
         line = w .line ∙ ap (λ (j : ℕ). getD (textLines (drop at s)) j []) k ∙ rw (line-here s at h, q .lines);
+        begins = w .begins ∙ ap (λ (j : ℕ). at + startFrom (drop at s) j) k ∙ omega (arith, q .ahead, q .starts (left - 1 - 1));
         inside = q .inside;
         least = omega arith;
       }
 
-  pub seeking-last : left ≤ 1 → {e : ℕ} → LineEnd s at e → take (e - at) (drop at s) ≡ lineOf s number
+  pub seeking-last : left ≤ 1 → {e : ℕ} → LineEnd s at e → LineAt s number at e
   seeking-last l {e} q =
       let k : left - 1 ≡ 0 = omega (arith, w .least) in
-      sym (w .line ∙ rw k (q .line))
+      record {
+        begins = sym (w .begins ∙ rw k (omega (arith, first-start (drop at s))));
+        line = sym (w .line ∙ rw k (q .line));
+        ahead = q .ahead;
+        inside = q .inside;
+      }

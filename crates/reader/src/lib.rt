@@ -8,6 +8,7 @@ mod write;
 ghost use mathlib.Core.Path.{_≡_};
 ghost use Rattle.semantics.specs.ReadPage.{readOf, lineOf};
 ghost use Rattle.reader.specs.Answers.{answerOf};
+ghost use Rattle.reader.specs.Shown.{LineAt};
 use crate::check::Checked;
 use crate::check::check_page;
 use crate::show::line_end;
@@ -46,22 +47,38 @@ pub fn read_page(bytes: &[u8], area: &mut [u16]) -> ReadAnswer
     }
 }
 
-// Show a line, by its number from 1: the part of the caller's own bytes, empty where there is no such line.
-pub fn show_line(bytes: &[u8], number: usize) -> &[u8]
-    ensures { λ r. ⌜ now r ≡ lineOf (now (bytes .entry)) number ⌝ }
+// Where a line stands: from `start` up to `end`.
+pub struct Span {
+    pub start: usize,
+    pub end: usize,
+}
+
+// Where the line with a number stands, from 1. Where there is no such line the part is empty.
+pub fn find_line(bytes: &[u8], number: usize) -> Span
+    ensures { λ r. ⌜ LineAt (now (bytes .entry)) number (r .start) (r .end) ⌝ }
 {
     if number == 0 {
-        return &bytes[0..0];
+        return Span { start: 0, end: 0 };
     }
     let mut at: usize = 0;
     let mut left = number;
     while 1 < left {
         if bytes.len() <= at {
-            return &bytes[at..at];
+            return Span { start: at, end: at };
         }
         at = next_line(bytes, at);
         left -= 1;
     }
     let end = line_end(bytes, at);
-    &bytes[at..end]
+    Span { start: at, end }
+}
+
+// Show a line, by its number from 1: the part of the caller's own bytes, empty where there is no such line.
+pub fn show_line(bytes: &[u8], number: usize) -> &[u8]
+    ensures { λ r. ⌜ now r ≡ lineOf (now (bytes .entry)) number ⌝ }
+{
+    let span = find_line(bytes, number);
+    let start = span.start;
+    let end = span.end;
+    &bytes[start..end]
 }

@@ -12,11 +12,10 @@ pub fn line_end(bytes: &[u8], at: usize) -> usize
 {
     let mut i = at;
     while i < bytes.len() {
-        let next = i + 1;
         if bytes[i] == b'\n' {
             return i;
         }
-        i = next;
+        i += 1;
     }
     i
 }

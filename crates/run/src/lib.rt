@@ -5,7 +5,7 @@ ghost use Rattle.run.specs.Answers.{Answered, evaluateAnswerOf, valueAns
 
 // What an evaluation answers: the number of a refusal, or whether it changed the condition.
 pub enum EvaluateAnswer {
-    Refused(u32),
+    Refused(u8),
     Unchanged,
     Changed,
 }
@@ -36,7 +36,7 @@ pub fn evaluate(page: &[u16], run: &mut [u16], condition: u32) -> EvaluateAnswer
 
 // What value answers: the number of a refusal, or the interval held and whether the whole run is at rest.
 pub enum ValueAnswer {
-    Refused(u32),
+    Refused(u8),
     Held { low: u16, high: u16, rest: bool },
 }
 
@@ -67,7 +67,7 @@ pub fn value(page: &[u16], run: &[u16], condition: u32) -> ValueAnswer
 
 // What a drive answers: the number of a refusal, or the count of evaluations and whether the run is then at rest.
 pub enum DriveAnswer {
-    Refused(u32),
+    Refused(u8),
     Rest(u32),
     Spent(u32),
 }

@@ -11,6 +11,13 @@ pub mod UsedLength
 -- the text of a page
 pub mod TestLists
 pub mod ReadLines
+pub mod ReadProper
+-- what is read is what was written
+pub mod TextParts
+pub mod TextNumbers
+pub mod TextForms
+pub mod ReadPages
+pub mod WrittenPages
 -- the computed closure is what is reached
 pub mod Table
 pub mod Closure

@@ -1,16 +1,16 @@
 -- What it says of a text that none of its lines is bad. Assumes nothing.
-use mathlib.Core.Path.{_≡_, refl, sym, _∙_, ap}
-use mathlib.Core.Bool.{Bool, true, false, not}
+use mathlib.Core.Path.{_≡_, refl}
+use mathlib.Core.Bool.{Bool, true, false, not, _||_}
 use mathlib.Core.List.{List, [], _∷_}
 use mathlib.Core.Option.{Option, none, some}
-use Prim.Native.Nat.{ℕ, suc}
+use Prim.Native.Nat.{ℕ, suc, _-_}
 use native.Mathlib.Omega.{arith}
-use lib.Dec.{eqb}
-use lib.ListN.{getD, drop}
+use lib.Dec.{eqb, ltb}
+use lib.ListN.{length, getD, drop}
 use Rattle.semantics.specs.Area.{every}
 use Rattle.semantics.specs.Call.{cause, firstOf}
-use Rattle.semantics.specs.Text.{fieldsOf, isHead, hasForm, lineIn, headRanges, rangeTests, topIn, conditionsIn}
-use Rattle.semantics.specs.ReadPage.{Refusal, toldAt, orElse, badLine, badLineOf}
+use Rattle.semantics.specs.Text.{textLines, fieldsOf, isHead, hasForm, lineIn, headRanges, rangeTests, topIn, conditionsIn}
+use Rattle.semantics.specs.ReadPage.{Refusal, toldAt, orElse, badLine, badLineOf, textRefusal, usedBy, refusalOf}
 
 pub some-none : {A : Type 0} {x : A} {P : Type 0} → some x ≡ none → P
 some-none e = let z : _≡_ {A = ℕ} 0 1 = cc in absurd (omega arith)
@@ -51,3 +51,37 @@ good-head ls e =
     go true true o e = (refl, refl, e)
     go true false o e = some-none e
     go false u o e = some-none e
+
+-- the text before its lines
+pub record GoodText (bytes : List ℕ) : Type 0 where
+  pub short : ltb 65535 (length bytes) ≡ false
+  pub filled : eqb (length bytes) 0 ≡ false
+  pub ended : eqb (getD bytes (length bytes - 1) 0) 10 ≡ true
+  pub lines : badLineOf (textLines bytes) ≡ none
+
+pub good-text : (bytes : List ℕ) → textRefusal bytes ≡ none → GoodText bytes
+unfolding textRefusal
+good-text bytes e =
+    let w = go (ltb 65535 (length bytes)) (eqb (length bytes) 0) (eqb (getD bytes (length bytes - 1) 0) 10) (badLineOf (textLines bytes)) e in
+    record { short = w .0; filled = w .1; ended = w .2; lines = w .3 }
+  where
+    go : (t u v : Bool) (o : Option Refusal) → orElse (toldAt 0 (firstOf (cause t 1 ∷ cause (u || not v) 2 ∷ []))) o ≡ none
+        → (t ≡ false) × (u ≡ false) × (v ≡ true) × (o ≡ none)
+    go true u v o e = some-none e
+    go false true v o e = some-none e
+    go false false true o e = (refl, refl, refl, e)
+    go false false false o e = some-none e
+
+-- the text and the area
+pub record GoodRead (bytes area : List ℕ) : Type 0 where
+  pub text : textRefusal bytes ≡ none
+  pub room : ltb (length area) (usedBy bytes) ≡ false
+
+pub good-read : (bytes area : List ℕ) → refusalOf bytes area ≡ none → GoodRead bytes area
+unfolding refusalOf
+good-read bytes area e = let w = go (textRefusal bytes) (ltb (length area) (usedBy bytes)) e in record { text = w .0; room = w .1 }
+  where
+    go : (o : Option Refusal) (t : Bool) → orElse o (toldAt 0 (firstOf (cause t 6 ∷ []))) ≡ none → (o ≡ none) × (t ≡ false)
+    go none true e = some-none e
+    go none false e = (refl, refl)
+    go (some r) t e = some-none e

@@ -1,5 +1,5 @@
 -- Document 01, "Read a page" and "Show a line": what each answers, and what reading leaves in the page area. Assumes nothing.
-use mathlib.Core.Bool.{Bool, true, false, not, _||_}
+use mathlib.Core.Bool.{Bool, true, false, not, cond, _||_}
 use mathlib.Core.List.{List, [], _∷_, _++_}
 use mathlib.Core.Option.{Option, none, some}
 use Prim.Native.Nat.{ℕ, zero, suc, _-_}
@@ -93,3 +93,12 @@ readOf bytes area = readAs (refusalOf bytes area) bytes area
 unfoldable pub lineOf : List ℕ → ℕ → List ℕ
 lineOf bytes zero = []
 lineOf bytes (suc k) = getD (textLines bytes) k []
+
+-- where the line with that number begins: behind the byte 10 that ends the line before it, or at the text's end where there are fewer lines
+unfoldable pub startFrom : List ℕ → ℕ → ℕ
+startFrom [] passed = 0
+startFrom (b ∷ s) zero = 0
+startFrom (b ∷ s) (suc k) = suc (startFrom s (cond (eqb b 10) k (suc k)))
+
+abbrev pub startOf : List ℕ → ℕ → ℕ
+startOf bytes number = startFrom bytes (number - 1)

@@ -1,8 +1,8 @@
 -- Document 01, "The page", its text: lines, fields, numbers, the forms of the lines and the ranges of their numbers. Assumes nothing.
 -- A text is a list of bytes: 10 ends a line, 44 is the comma, 33 is `!`, 48 to 57 are the digits, and a letter is its byte.
 use mathlib.Core.Bool.{Bool, true, false, not, cond, _&&_, _||_}
-use mathlib.Core.List.{List, [], _∷_, _++_, map}
-use Prim.Native.Nat.{ℕ, _+_, _*_, _-_, _/_, _%_}
+use mathlib.Core.List.{List, [], _∷_, map}
+use Prim.Native.Nat.{ℕ, _+_, _*_, _-_}
 use lib.Dec.{eqb, ltb, leb}
 use lib.ListN.{length, getD, drop}
 use Rattle.semantics.specs.Grade.{Op, M, X, L, B, P}

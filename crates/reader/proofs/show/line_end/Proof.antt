@@ -15,14 +15,14 @@ abbrev μ-loop : tie.MeasureT-loop
 loop-holds : tie.Need-loop-holds Inv-loop μ-loop
 loop-holds c = following-first (c .args .bytes .now) (c .args .at) (c .pre)
 
-add-next : tie.Need-add-next Inv-loop μ-loop
-add-next c = search needs
-
 shared-slice-read-if1 : tie.Need-shared-slice-read-if1 Inv-loop μ-loop
 shared-slice-read-if1 c = search needs
 
 returns : tie.Need-returns Inv-loop μ-loop
 returns c = at-newline (c .before .before .before .before .args .bytes .now) (c .before .before .before .before .args .at) (c .before .before .before .loop .i) (c .before .before .before .loop .inv) (c .before .before .loop-test .taken) (c .if1 .taken)
+
+add-i : tie.Need-add-i Inv-loop μ-loop
+add-i c = search needs
 
 loop-less : tie.Need-loop-less Inv-loop μ-loop
 loop-less c = search needs
@@ -40,9 +40,9 @@ line-end-spec =
     Inv-loop
     μ-loop
     loop-holds
-    add-next
     shared-slice-read-if1
     returns
+    add-i
     loop-less
     loop-again
     returns-2)

@@ -1,0 +1,169 @@
+// The functions that C calls. Each makes one call of the engine and hands its answer over as numbers.
+ghost use mathlib.Core.Path.{_≡_};
+ghost use Prim.Native.Nat.{_+_, _≤_};
+ghost use lib.ListN.{length, take, drop};
+ghost use Rattle.semantics.specs.ReadPage.{readOf, lineOf, startOf};
+ghost use Rattle.semantics.specs.Operation.{openOf, evaluateOf, driveOf, valueOf, ClosedOf};
+ghost use Rattle.run.specs.Answers.{statusIf};
+ghost use Rattle.capi.specs.Codes.{minus as Codes·minus, statusCode, answerCode, takenOr, intervalOr, openCode, countsOr, readCode, lineCode, closedNumber};
+
+// Minus the number of a refusal.
+fn minus(number: u8) -> i32
+    ensures { λ r. ⌜ r ≡ Codes·minus number ⌝ }
+{
+    -(number as i32)
+}
+
+// 1 at rest, 0 not.
+fn rest_code(rest: bool) -> i32
+    ensures { λ r. ⌜ r ≡ statusCode (statusIf rest) ⌝ }
+{
+    if rest { 1 } else { 0 }
+}
+
+// Read a page: the used length, or minus 1, 2, 5, 3, 4 or 6.
+#[no_mangle]
+pub extern "C" fn simjorad_read(text: &[u8], area: &mut [u16], line: &mut u32) -> i32
+    ensures code { λ r. ⌜ r ≡ readCode (readOf (now (text .entry)) (now (area .entry)) .answer) ⌝ }
+    ensures area { λ _. ⌜ now (area .exit) ≡ readOf (now (text .entry)) (now (area .entry)) .area ⌝ }
+    ensures line { λ _. ⌜ now (line .exit) ≡ lineCode (readOf (now (text .entry)) (now (area .entry)) .answer) ⌝ }
+{
+    let answer = reader::read_page(text, area);
+    match answer {
+        reader::ReadAnswer::Refused { number, line: bad } => {
+            *line = bad as u32;
+            minus(number as u8)
+        }
+        reader::ReadAnswer::Read(used) => {
+            *line = 0;
+            used as i32
+        }
+    }
+}
+
+// Show a line: its length, and where it starts.
+#[no_mangle]
+pub extern "C" fn simjorad_show_line(text: &[u8], number: usize, start: &mut usize) -> usize
+    ensures line { λ r. ⌜ take r (drop (now (start .exit)) (now (text .entry))) ≡ lineOf (now (text .entry)) number ⌝ }
+    ensures inside { λ r. ⌜ now (start .exit) + r ≤ length (now (text .entry)) ⌝ }
+    ensures begins { λ _. ⌜ now (start .exit) ≡ startOf (now (text .entry)) number ⌝ }
+{
+    let span = reader::find_line(text, number);
+    *start = span.start;
+    span.end - span.start
+}
+
+// Open a run: 0, or minus 10, 11, 12 or 13.
+#[no_mangle]
+pub extern "C" fn simjorad_open(
+    page: &[u16],
+    queries: &[u16],
+    run: &mut [u16],
+    reached: &mut u32,
+    edges: &mut u32,
+    bound: &mut u32,
+) -> i32
+    ensures code { λ r. ⌜ r ≡ openCode (openOf (now (page .entry)) (now (queries .entry)) (now (run .entry)) .answer) ⌝ }
+    ensures area { λ _. ⌜ now (run .exit) ≡ openOf (now (page .entry)) (now (queries .entry)) (now (run .entry)) .run ⌝ }
+    ensures counts { λ _. ⌜ record { reached = now (reached .exit); edges = now (edges .exit); bound = now (bound .exit) } ≡ countsOr (record { reached = now (reached .entry); edges = now (edges .entry); bound = now (bound .entry) }) (openOf (now (page .entry)) (now (queries .entry)) (now (run .entry)) .answer) ⌝ }
+{
+    let answer = reach::open_run(page, queries, run);
+    match answer {
+        reach::OpenAnswer::Refused(k) => minus(k),
+        reach::OpenAnswer::Opened {
+            reached: r,
+            edges: e,
+            bound: b,
+        } => {
+            *reached = r;
+            *edges = e;
+            *bound = b;
+            0
+        }
+    }
+}
+
+// Evaluate: 1 changed, 0 unchanged, or minus 10, 14, 15 or 16.
+#[no_mangle]
+pub extern "C" fn simjorad_evaluate(page: &[u16], run: &mut [u16], condition: u32) -> i32
+    ensures code { λ r. ⌜ r ≡ answerCode (evaluateOf (now (page .entry)) (now (run .entry)) condition .answer) ⌝ }
+    ensures area { λ _. ⌜ now (run .exit) ≡ evaluateOf (now (page .entry)) (now (run .entry)) condition .run ⌝ }
+{
+    let answer = run::evaluate(page, run, condition);
+    match answer {
+        run::EvaluateAnswer::Refused(k) => minus(k),
+        run::EvaluateAnswer::Unchanged => 0,
+        run::EvaluateAnswer::Changed => 1,
+    }
+}
+
+// Drive: 1 rest, 0 spent, or minus 10 or 14.
+#[no_mangle]
+pub extern "C" fn simjorad_drive(
+    page: &[u16],
+    run: &mut [u16],
+    allowance: u32,
+    taken: &mut u32,
+) -> i32
+    ensures code { λ r. ⌜ r ≡ answerCode (driveOf (now (page .entry)) (now (run .entry)) allowance .answer) ⌝ }
+    ensures area { λ _. ⌜ now (run .exit) ≡ driveOf (now (page .entry)) (now (run .entry)) allowance .run ⌝ }
+    ensures count { λ _. ⌜ now (taken .exit) ≡ takenOr (now (taken .entry)) (driveOf (now (page .entry)) (now (run .entry)) allowance .answer) ⌝ }
+{
+    let answer = run::drive(page, run, allowance);
+    match answer {
+        run::DriveAnswer::Refused(k) => minus(k),
+        run::DriveAnswer::Rest(k) => {
+            *taken = k;
+            1
+        }
+        run::DriveAnswer::Spent(k) => {
+            *taken = k;
+            0
+        }
+    }
+}
+
+// Value: 1 if the run is at rest, 0 if not, or minus 10, 14, 15 or 17.
+#[no_mangle]
+pub extern "C" fn simjorad_value(
+    page: &[u16],
+    run: &[u16],
+    condition: u32,
+    low: &mut u16,
+    high: &mut u16,
+) -> i32
+    ensures code { λ r. ⌜ r ≡ answerCode (valueOf (now (page .entry)) (now (run .entry)) condition) ⌝ }
+    ensures interval { λ _. ⌜ record { low = now (low .exit); high = now (high .exit) } ≡ intervalOr (record { low = now (low .entry); high = now (high .entry) }) (valueOf (now (page .entry)) (now (run .entry)) condition) ⌝ }
+{
+    let answer = run::value(page, run, condition);
+    match answer {
+        run::ValueAnswer::Refused(k) => minus(k),
+        run::ValueAnswer::Held {
+            low: l,
+            high: h,
+            rest,
+        } => {
+            *low = l;
+            *high = h;
+            rest_code(rest)
+        }
+    }
+}
+
+// Closed reading: 0, or minus 10, 11, 12, 18 or 19.
+#[no_mangle]
+pub extern "C" fn simjorad_closed(
+    page: &[u16],
+    queries: &[u16],
+    scratch: &mut [u16],
+    answers: &mut [u16],
+) -> i32
+    ensures code { λ r. ⌜ r ≡ Codes·minus (closedNumber (now (page .entry)) (now (queries .entry)) (now (scratch .entry)) (now (answers .entry))) ⌝ }
+    ensures areas { λ _. ⌜ ClosedOf (closedNumber (now (page .entry)) (now (queries .entry)) (now (scratch .entry)) (now (answers .entry))) (now (page .entry)) (now (queries .entry)) (now (scratch .entry)) (now (answers .entry)) (now (scratch .exit)) (now (answers .exit)) ⌝ }
+{
+    let answer = closed::closed_reading(page, queries, scratch, answers);
+    match answer {
+        closed::ClosedAnswer::Refused(k) => minus(k),
+        closed::ClosedAnswer::Done => 0,
+    }
+}

@@ -1,0 +1,51 @@
+//! The answers of the operations and their refusal numbers: section "Operations and their refusals".
+
+/// The number of a refusal, as document 01 lists it.
+pub type Refusal = i32;
+
+pub const TEXT_TOO_LONG: Refusal = 1;
+pub const TEXT_UNENDED: Refusal = 2;
+pub const LINE_FORM: Refusal = 3;
+pub const LINE_RANGE: Refusal = 4;
+pub const LINE_COUNT: Refusal = 5;
+pub const AREA_SHORT: Refusal = 6;
+pub const PAGE_UNSOUND: Refusal = 10;
+pub const QUERY_COUNT: Refusal = 11;
+pub const QUERY_RANGE: Refusal = 12;
+pub const RUN_SHORT: Refusal = 13;
+pub const RUN_UNSOUND: Refusal = 14;
+pub const CONDITION_RANGE: Refusal = 15;
+pub const NOT_WAITING: Refusal = 16;
+pub const NOT_REACHED: Refusal = 17;
+pub const SCRATCH_SHORT: Refusal = 18;
+pub const ANSWERS_SHORT: Refusal = 19;
+
+/// Why a page's text is refused; the line counts from 1 and is 0 where none is at fault.
+#[derive(Clone, Copy, Debug, PartialEq, Eq)]
+pub struct ReadRefusal {
+    pub number: Refusal,
+    pub line: u32,
+}
+
+/// What an opening returns: R, E and R + top * E.
+#[derive(Clone, Copy, Debug, PartialEq, Eq)]
+pub struct Opened {
+    pub reached: u32,
+    pub edges: u32,
+    pub bound: u32,
+}
+
+/// What a drive returns; `rest` is false for `spent`.
+#[derive(Clone, Copy, Debug, PartialEq, Eq)]
+pub struct Driven {
+    pub taken: u32,
+    pub rest: bool,
+}
+
+/// What a value call returns.
+#[derive(Clone, Copy, Debug, PartialEq, Eq)]
+pub struct Valued {
+    pub low: u16,
+    pub high: u16,
+    pub rest: bool,
+}

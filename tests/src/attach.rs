@@ -1,0 +1,192 @@
+//! Tests of the program `attach`: a page on its standard input, its answer on its standard output.
+//! Section "The program `attach`".
+
+use std::io::Write;
+use std::path::PathBuf;
+use std::process::{Command, Stdio};
+use std::sync::OnceLock;
+use std::thread;
+use std::time::Duration;
+
+use crate::closed;
+use crate::gen::{self, Size};
+use crate::input::shown_text;
+use crate::page::{self, Line, Page, LINES_MAX};
+use crate::plain;
+use crate::runner::Case;
+use crate::spoil;
+use crate::trial::{Check, Trial};
+
+/// The program under test.
+pub static PROGRAM: OnceLock<PathBuf> = OnceLock::new();
+
+/// What `attach` prints for these bytes.
+pub fn expected(text: &[u8]) -> String {
+    let page = match page::read(text) {
+        Ok(page) => page,
+        Err(refusal) => return format!("refused,{},{}\n", refusal.number, refusal.line),
+    };
+    let (plain, closed) = (plain::reading(&page), closed::reading(&page));
+    let mut out = format!("top,{}\n", page.top);
+    let mut count = 0;
+    for line in &page.lines {
+        if let Line::Query { closed: by, cond } = line {
+            let (letter, reading) = if *by { ('W', &closed) } else { ('K', &plain) };
+            let pair = reading[usize::from(*cond)];
+            out.push_str(&format!("{letter},{cond},{},{}\n", pair.low, pair.high));
+            count += 1;
+        }
+    }
+    out.push_str(&format!("end,{count}\n"));
+    out
+}
+
+/// Runs the program on these bytes, handed over in pieces of this length; its output.
+fn run(text: &[u8], piece: usize) -> Check<Vec<u8>> {
+    let program = PROGRAM.get().ok_or("no program is named")?;
+    let mut child = Command::new(program)
+        .stdin(Stdio::piped())
+        .stdout(Stdio::piped())
+        .stderr(Stdio::null())
+        .spawn()
+        .map_err(|error| format!("the program does not start: {error}"))?;
+    let mut input = child.stdin.take().ok_or("no standard input")?;
+    let bytes = text.to_vec();
+    // The program may stop reading early; a broken pipe is no fault.
+    let writer = thread::spawn(move || {
+        for part in bytes.chunks(piece) {
+            if input.write_all(part).is_err() {
+                break;
+            }
+            if piece < bytes.len() {
+                thread::sleep(Duration::from_millis(2));
+            }
+        }
+    });
+    let output = child
+        .wait_with_output()
+        .map_err(|error| format!("the program does not end: {error}"))?;
+    let _ = writer.join();
+    match output.status.code() {
+        Some(_) => Ok(output.stdout),
+        None => Err(format!("the program is killed; page {}", shown_text(text))),
+    }
+}
+
+fn compare(trial: &mut Trial, text: &[u8]) -> Check {
+    compare_in_pieces(trial, text, text.len().max(1))
+}
+
+/// The program must print what the reference prints.
+fn compare_in_pieces(trial: &mut Trial, text: &[u8], piece: usize) -> Check {
+    trial.pages += 1;
+    trial.engine.calls += 1;
+    let got = run(text, piece)?;
+    let wanted = expected(text);
+    if got == wanted.as_bytes() {
+        Ok(())
+    } else {
+        Err(format!(
+            "the output is {} and should be {}; page {}",
+            shown_text(&got),
+            shown_text(wanted.as_bytes()),
+            shown_text(text)
+        ))
+    }
+}
+
+pub fn cases() -> Vec<Case> {
+    let case = |name, items, each| Case {
+        name,
+        items,
+        each,
+        must_see: &[],
+    };
+    vec![
+        case("attach_prints_the_example", 1, example),
+        case("attach_agrees_on_good_pages", 500, good_pages),
+        case("attach_agrees_on_structured_pages", 150, structured_pages),
+        case("attach_agrees_on_spoilt_pages", 500, spoilt_pages),
+        case(
+            "attach_answers_every_query_of_a_long_page",
+            12,
+            many_queries,
+        ),
+        case("attach_agrees_on_pages_at_the_limits", 3, limit_pages),
+        case("attach_reads_input_that_comes_in_pieces", 20, pieces),
+        case("attach_refuses_long_input", 1, long_input),
+    ]
+}
+
+fn example(trial: &mut Trial, _: u64) -> Check {
+    let text = b"G,10,2\nF,0,2,2\nF,1,3,3\nR,0,10,M,!1\nR,1,10,M,!0\nQ,K,0\nQ,W,1\n";
+    let wanted = "top,10\nK,0,2,7\nW,1,3,8\nend,2\n";
+    if expected(text) != wanted {
+        return Err("the reference does not print the example".to_string());
+    }
+    compare(trial, text)?;
+    compare(trial, b"G,1,1\n")?;
+    compare(trial, b"")
+}
+
+fn good_pages(trial: &mut Trial, _: u64) -> Check {
+    let mut page = gen::any_page(&mut trial.rng);
+    gen::add_queries(&mut trial.rng, &mut page, 12);
+    compare(trial, &page.text())
+}
+
+fn structured_pages(trial: &mut Trial, _: u64) -> Check {
+    let mut page = gen::structured(&mut trial.rng, 24);
+    gen::add_queries(&mut trial.rng, &mut page, 24);
+    compare(trial, &page.text())
+}
+
+fn spoilt_pages(trial: &mut Trial, _: u64) -> Check {
+    let mut page = gen::any_page(&mut trial.rng);
+    gen::add_queries(&mut trial.rng, &mut page, 5);
+    let text = spoil::text(&mut trial.rng, &page.text());
+    compare(trial, &text)
+}
+
+/// Q lines up to the limit of lines.
+fn many_queries(trial: &mut Trial, _: u64) -> Check {
+    let mut page = gen::page(&mut trial.rng, Size::Small);
+    while page.lines.len() < LINES_MAX {
+        let cond = trial.rng.range(0, page.count - 1);
+        let closed = trial.rng.percent(50);
+        page.lines.push(Line::Query { closed, cond });
+    }
+    compare(trial, &page.text())
+}
+
+fn limit_pages(trial: &mut Trial, _: u64) -> Check {
+    let mut page: Page = gen::page(&mut trial.rng, Size::Limit);
+    page.lines.truncate(LINES_MAX - 20);
+    gen::add_queries(&mut trial.rng, &mut page, 20);
+    compare(trial, &page.text())
+}
+
+fn pieces(trial: &mut Trial, _: u64) -> Check {
+    let mut page = gen::page(&mut trial.rng, Size::Small);
+    gen::add_queries(&mut trial.rng, &mut page, 5);
+    let piece = 1 + trial.rng.index(20);
+    compare_in_pieces(trial, &page.text(), piece)
+}
+
+fn long_input(trial: &mut Trial, _: u64) -> Check {
+    let mut good = b"G,1,1\n".to_vec();
+    while good.len() < 200_000 {
+        good.extend_from_slice(b"Q,K,0\n");
+    }
+    for length in [65_534, 65_535, 65_536, 65_537, 70_000, 131_072, 200_000] {
+        let mut text = good[..length].to_vec();
+        compare(trial, &text)?;
+        text[length - 1] = 10;
+        compare(trial, &text)?;
+        if length > 65_535 && expected(&text) != "refused,1,0\n" {
+            return Err("the reference does not refuse a long text".to_string());
+        }
+        compare(trial, &vec![0; length])?;
+    }
+    Ok(())
+}

@@ -1,0 +1,140 @@
+//! The book of a run: an abstract state fed only the page, the queries and the calls.
+//! Section "The book of a run".
+
+use std::collections::BTreeSet;
+
+use crate::answer::*;
+use crate::area::{NOT_REACHED_MARK, REACHED_MARK, WAITING_MARK};
+use crate::body::{line_value, Pair};
+use crate::page::{Line, Page};
+use crate::reach;
+
+#[derive(Clone, Debug)]
+pub struct Book {
+    top: u16,
+    /// The F and R lines of each condition.
+    lines: Vec<Vec<Line>>,
+    /// For each condition, those with an R line naming it.
+    followers: Vec<BTreeSet<u16>>,
+    reached: BTreeSet<u16>,
+    pairs: Vec<Pair>,
+    waiting: BTreeSet<u16>,
+}
+
+impl Book {
+    /// The book of a run opened with these queries.
+    pub fn new(page: &Page, queries: &[u16]) -> Book {
+        let count = usize::from(page.count);
+        let mut lines = vec![Vec::new(); count];
+        for line in &page.lines {
+            match line {
+                Line::Fact { cond: head, .. } | Line::Rule { head, .. } => {
+                    lines[usize::from(*head)].push(line.clone())
+                }
+                Line::Query { .. } => {}
+            }
+        }
+        let mut followers = vec![BTreeSet::new(); count];
+        for (a, b) in reach::names(page) {
+            followers[usize::from(b)].insert(a);
+        }
+        let reached = reach::reached(page, queries);
+        Book {
+            top: page.top,
+            lines,
+            followers,
+            waiting: reached.clone(),
+            reached,
+            pairs: vec![Pair::unknown(page.top); count],
+        }
+    }
+
+    pub fn at_rest(&self) -> bool {
+        self.waiting.is_empty()
+    }
+
+    pub fn pairs(&self) -> &[Pair] {
+        &self.pairs
+    }
+
+    pub fn reached(&self) -> &BTreeSet<u16> {
+        &self.reached
+    }
+
+    pub fn waiting(&self) -> &BTreeSet<u16> {
+        &self.waiting
+    }
+
+    fn take(&mut self, cond: u16) -> bool {
+        self.waiting.remove(&cond);
+        let mut total = Pair::new(0, 0);
+        for line in &self.lines[usize::from(cond)] {
+            let (_, value) = line_value(line, self.top, &self.pairs).expect("the line has a value");
+            total = Pair::new(total.low.max(value.low), total.high.max(value.high));
+        }
+        let changed = total != self.pairs[usize::from(cond)];
+        self.pairs[usize::from(cond)] = total;
+        if changed {
+            let woken = self.followers[usize::from(cond)].intersection(&self.reached);
+            self.waiting.extend(woken);
+        }
+        changed
+    }
+
+    fn in_range(&self, cond: u32) -> Result<u16, Refusal> {
+        if cond < self.pairs.len() as u32 {
+            Ok(cond as u16)
+        } else {
+            Err(CONDITION_RANGE)
+        }
+    }
+
+    pub fn evaluate(&mut self, cond: u32) -> Result<bool, Refusal> {
+        let cond = self.in_range(cond)?;
+        if !self.waiting.contains(&cond) {
+            return Err(NOT_WAITING);
+        }
+        Ok(self.take(cond))
+    }
+
+    pub fn drive(&mut self, allowance: u32) -> Driven {
+        let mut taken = 0;
+        while let Some(cond) = self.waiting.first().copied() {
+            if taken == allowance {
+                return Driven { taken, rest: false };
+            }
+            self.take(cond);
+            taken += 1;
+        }
+        Driven { taken, rest: true }
+    }
+
+    pub fn value(&self, cond: u32) -> Result<Valued, Refusal> {
+        let cond = self.in_range(cond)?;
+        if !self.reached.contains(&cond) {
+            return Err(NOT_REACHED);
+        }
+        let pair = self.pairs[usize::from(cond)];
+        Ok(Valued {
+            low: pair.low,
+            high: pair.high,
+            rest: self.at_rest(),
+        })
+    }
+
+    /// The run area that the book stands for.
+    pub fn run_area(&self) -> Vec<u16> {
+        let mut run = Vec::with_capacity(3 * self.pairs.len());
+        for (pair, cond) in self.pairs.iter().zip(0u16..) {
+            let mark = if self.waiting.contains(&cond) {
+                WAITING_MARK
+            } else if self.reached.contains(&cond) {
+                REACHED_MARK
+            } else {
+                NOT_REACHED_MARK
+            };
+            run.extend([pair.low, pair.high, mark]);
+        }
+        run
+    }
+}

@@ -1,0 +1,418 @@
+//! Safe calls of the C interface.
+//!
+//! Every slice is lent from guarded memory and every out-parameter stands between two guard numbers.
+//! An error is a breach that no contract allows: a guard or a read-only slice changed, an out-parameter
+//! changed by a refused call, or a return code that the header does not list.
+
+use std::fmt::Debug;
+
+use crate::answer::*;
+use crate::ffi::*;
+use crate::guard::{Loan, Pool, Side};
+use crate::rng::Rng;
+use crate::slot;
+
+/// An out-parameter between two guard numbers.
+struct Out<T> {
+    cells: [T; 3],
+    before: [T; 3],
+}
+
+impl<T: Copy + PartialEq + Debug> Out<T> {
+    fn new(guard: T, start: T) -> Out<T> {
+        Out {
+            cells: [guard, start, guard],
+            before: [guard, start, guard],
+        }
+    }
+
+    fn ptr(&mut self) -> *mut T {
+        // SAFETY: the middle cell is inside the array.
+        unsafe { self.cells.as_mut_ptr().add(1) }
+    }
+
+    /// The number set by an accepted call.
+    fn set(&self, name: &str) -> Result<T, String> {
+        if self.cells[0] != self.before[0] || self.cells[2] != self.before[2] {
+            return Err(format!("a number beside `*{name}` is overwritten"));
+        }
+        Ok(self.cells[1])
+    }
+
+    /// A refused call leaves the number.
+    fn kept(&self, name: &str) -> Result<(), String> {
+        self.set(name)?;
+        if self.cells[1] != self.before[1] {
+            return Err(format!(
+                "a refused call changed `*{name}` from {:?} to {:?}",
+                self.before[1], self.cells[1]
+            ));
+        }
+        Ok(())
+    }
+}
+
+/// The callee, with the memory that it is lent.
+pub struct Engine {
+    pool: Pool,
+    rng: Rng,
+    /// The calls made so far.
+    pub calls: u64,
+    /// Areas are announced this many numbers longer than the memory behind them, which then ends at an
+    /// inaccessible page of 2,048 numbers. 0 announces the true length.
+    pub overstate: usize,
+}
+
+impl Default for Engine {
+    fn default() -> Self {
+        Engine::new()
+    }
+}
+
+impl Engine {
+    pub fn new() -> Engine {
+        Engine {
+            pool: Pool::new(),
+            rng: Rng::new(0),
+            calls: 0,
+            overstate: 0,
+        }
+    }
+
+    /// Makes the placing of the slices that follow depend on the seed alone.
+    pub fn reseed(&mut self, seed: u64) {
+        self.rng = Rng::new(seed);
+        self.overstate = 0;
+    }
+
+    /// Lends a slice whose announced length is its own.
+    fn lend<T: Copy + PartialEq + Debug>(&mut self, place: usize, content: &[T]) -> Loan<T> {
+        let side = if self.rng.percent(50) {
+            Side::End
+        } else {
+            Side::Start
+        };
+        if content.is_empty() && self.rng.percent(50) {
+            return Loan::null();
+        }
+        self.pool.lend(place, content, side)
+    }
+
+    /// Lends an area; also returns the length to announce.
+    fn lend_area(&mut self, place: usize, content: &[u16]) -> (Loan<u16>, usize) {
+        if self.overstate == 0 {
+            (self.lend(place, content), content.len())
+        } else {
+            let loan = self.pool.lend(place, content, Side::End);
+            (loan, content.len() + self.overstate)
+        }
+    }
+
+    fn guard_number(&mut self) -> u64 {
+        self.rng.number() | 1
+    }
+
+    fn out<T: Copy + PartialEq + Debug>(&mut self, cut: fn(u64) -> T) -> Out<T> {
+        let guard = self.guard_number();
+        let start = self.guard_number();
+        Out::new(cut(guard), cut(start))
+    }
+
+    fn note<T>(slice: &[T], loan_start: usize) -> (usize, usize, usize) {
+        (loan_start, slice.len(), std::mem::size_of::<T>())
+    }
+
+    pub fn read(
+        &mut self,
+        text: &[u8],
+        area: &mut [u16],
+    ) -> Result<Result<usize, ReadRefusal>, String> {
+        let text_loan = self.lend(0, text);
+        let (area_loan, area_length) = self.lend_area(1, area);
+        let mut line = self.out(|number| number as u32);
+        slot::mine().enter(
+            "read",
+            area_length as u64,
+            &[
+                Self::note(text, text_loan.ptr() as usize),
+                Self::note(area, area_loan.ptr() as usize),
+            ],
+        );
+        // SAFETY: the slices and the out-parameter are valid and apart.
+        let code = unsafe {
+            simjorad_read(
+                text_loan.ptr(),
+                text.len(),
+                area_loan.ptr_mut(),
+                area_length,
+                line.ptr(),
+            )
+        };
+        slot::mine().leave();
+        self.calls += 1;
+        text_loan.end_const("text", text)?;
+        area_loan.end_mut("area", area)?;
+        let line = line.set("line")?;
+        match code {
+            -6..=-1 => Ok(Err(ReadRefusal {
+                number: -code,
+                line,
+            })),
+            4.. if line == 0 => Ok(Ok(code as usize)),
+            4.. => Err(format!("a page that is read leaves {line} in `*line`")),
+            _ => Err(format!("returned {code}")),
+        }
+    }
+
+    /// Start and length.
+    pub fn show_line(&mut self, text: &[u8], number: usize) -> Result<(usize, usize), String> {
+        let text_loan = self.lend(0, text);
+        let mut start = self.out(|number| number as usize);
+        slot::mine().enter(
+            "show_line",
+            number as u64,
+            &[Self::note(text, text_loan.ptr() as usize)],
+        );
+        // SAFETY: the slice and the out-parameter are valid and apart.
+        let length =
+            unsafe { simjorad_show_line(text_loan.ptr(), text.len(), number, start.ptr()) };
+        slot::mine().leave();
+        self.calls += 1;
+        text_loan.end_const("text", text)?;
+        Ok((start.set("start")?, length))
+    }
+
+    pub fn open(
+        &mut self,
+        page: &[u16],
+        queries: &[u16],
+        run: &mut [u16],
+    ) -> Result<Result<Opened, Refusal>, String> {
+        let (page_loan, page_length) = self.lend_area(0, page);
+        let queries_loan = self.lend(1, queries);
+        let (run_loan, run_length) = self.lend_area(2, run);
+        let mut reached = self.out(|number| number as u32);
+        let mut edges = self.out(|number| number as u32);
+        let mut bound = self.out(|number| number as u32);
+        slot::mine().enter(
+            "open",
+            0,
+            &[
+                Self::note(page, page_loan.ptr() as usize),
+                Self::note(queries, queries_loan.ptr() as usize),
+                Self::note(run, run_loan.ptr() as usize),
+            ],
+        );
+        // SAFETY: the slices and the out-parameters are valid and apart.
+        let code = unsafe {
+            simjorad_open(
+                page_loan.ptr(),
+                page_length,
+                queries_loan.ptr(),
+                queries.len(),
+                run_loan.ptr_mut(),
+                run_length,
+                reached.ptr(),
+                edges.ptr(),
+                bound.ptr(),
+            )
+        };
+        slot::mine().leave();
+        self.calls += 1;
+        page_loan.end_const("page", page)?;
+        queries_loan.end_const("queries", queries)?;
+        run_loan.end_mut("run", run)?;
+        match code {
+            0 => Ok(Ok(Opened {
+                reached: reached.set("reached")?,
+                edges: edges.set("edges")?,
+                bound: bound.set("bound")?,
+            })),
+            -13..=-10 => {
+                reached.kept("reached")?;
+                edges.kept("edges")?;
+                bound.kept("bound")?;
+                Ok(Err(-code))
+            }
+            _ => Err(format!("returned {code}")),
+        }
+    }
+
+    pub fn evaluate(
+        &mut self,
+        page: &[u16],
+        run: &mut [u16],
+        cond: u32,
+    ) -> Result<Result<bool, Refusal>, String> {
+        let (page_loan, page_length) = self.lend_area(0, page);
+        let (run_loan, run_length) = self.lend_area(1, run);
+        slot::mine().enter(
+            "evaluate",
+            u64::from(cond),
+            &[
+                Self::note(page, page_loan.ptr() as usize),
+                Self::note(run, run_loan.ptr() as usize),
+            ],
+        );
+        // SAFETY: the slices are valid and apart.
+        let code = unsafe {
+            simjorad_evaluate(
+                page_loan.ptr(),
+                page_length,
+                run_loan.ptr_mut(),
+                run_length,
+                cond,
+            )
+        };
+        slot::mine().leave();
+        self.calls += 1;
+        page_loan.end_const("page", page)?;
+        run_loan.end_mut("run", run)?;
+        match code {
+            0 | 1 => Ok(Ok(code == 1)),
+            -10 | -16..=-14 => Ok(Err(-code)),
+            _ => Err(format!("returned {code}")),
+        }
+    }
+
+    pub fn drive(
+        &mut self,
+        page: &[u16],
+        run: &mut [u16],
+        allowance: u32,
+    ) -> Result<Result<Driven, Refusal>, String> {
+        let (page_loan, page_length) = self.lend_area(0, page);
+        let (run_loan, run_length) = self.lend_area(1, run);
+        let mut taken = self.out(|number| number as u32);
+        slot::mine().enter(
+            "drive",
+            u64::from(allowance),
+            &[
+                Self::note(page, page_loan.ptr() as usize),
+                Self::note(run, run_loan.ptr() as usize),
+            ],
+        );
+        // SAFETY: the slices and the out-parameter are valid and apart.
+        let code = unsafe {
+            simjorad_drive(
+                page_loan.ptr(),
+                page_length,
+                run_loan.ptr_mut(),
+                run_length,
+                allowance,
+                taken.ptr(),
+            )
+        };
+        slot::mine().leave();
+        self.calls += 1;
+        page_loan.end_const("page", page)?;
+        run_loan.end_mut("run", run)?;
+        match code {
+            0 | 1 => Ok(Ok(Driven {
+                taken: taken.set("taken")?,
+                rest: code == 1,
+            })),
+            -10 | -14 => {
+                taken.kept("taken")?;
+                Ok(Err(-code))
+            }
+            _ => Err(format!("returned {code}")),
+        }
+    }
+
+    pub fn value(
+        &mut self,
+        page: &[u16],
+        run: &[u16],
+        cond: u32,
+    ) -> Result<Result<Valued, Refusal>, String> {
+        let (page_loan, page_length) = self.lend_area(0, page);
+        let (run_loan, run_length) = self.lend_area(1, run);
+        let mut low = self.out(|number| number as u16);
+        let mut high = self.out(|number| number as u16);
+        slot::mine().enter(
+            "value",
+            u64::from(cond),
+            &[
+                Self::note(page, page_loan.ptr() as usize),
+                Self::note(run, run_loan.ptr() as usize),
+            ],
+        );
+        // SAFETY: the slices and the out-parameters are valid and apart.
+        let code = unsafe {
+            simjorad_value(
+                page_loan.ptr(),
+                page_length,
+                run_loan.ptr(),
+                run_length,
+                cond,
+                low.ptr(),
+                high.ptr(),
+            )
+        };
+        slot::mine().leave();
+        self.calls += 1;
+        page_loan.end_const("page", page)?;
+        run_loan.end_const("run", run)?;
+        match code {
+            0 | 1 => Ok(Ok(Valued {
+                low: low.set("low")?,
+                high: high.set("high")?,
+                rest: code == 1,
+            })),
+            -10 | -14 | -15 | -17 => {
+                low.kept("low")?;
+                high.kept("high")?;
+                Ok(Err(-code))
+            }
+            _ => Err(format!("returned {code}")),
+        }
+    }
+
+    pub fn closed(
+        &mut self,
+        page: &[u16],
+        queries: &[u16],
+        scratch: &mut [u16],
+        answers: &mut [u16],
+    ) -> Result<Result<(), Refusal>, String> {
+        let (page_loan, page_length) = self.lend_area(0, page);
+        let queries_loan = self.lend(1, queries);
+        let (scratch_loan, scratch_length) = self.lend_area(2, scratch);
+        let (answers_loan, answers_length) = self.lend_area(3, answers);
+        slot::mine().enter(
+            "closed",
+            0,
+            &[
+                Self::note(page, page_loan.ptr() as usize),
+                Self::note(queries, queries_loan.ptr() as usize),
+                Self::note(scratch, scratch_loan.ptr() as usize),
+                Self::note(answers, answers_loan.ptr() as usize),
+            ],
+        );
+        // SAFETY: the slices are valid and apart.
+        let code = unsafe {
+            simjorad_closed(
+                page_loan.ptr(),
+                page_length,
+                queries_loan.ptr(),
+                queries.len(),
+                scratch_loan.ptr_mut(),
+                scratch_length,
+                answers_loan.ptr_mut(),
+                answers_length,
+            )
+        };
+        slot::mine().leave();
+        self.calls += 1;
+        page_loan.end_const("page", page)?;
+        queries_loan.end_const("queries", queries)?;
+        scratch_loan.end_mut("scratch", scratch)?;
+        answers_loan.end_mut("answers", answers)?;
+        match code {
+            0 => Ok(Ok(())),
+            -12..=-10 | -18 | -19 => Ok(Err(-code)),
+            _ => Err(format!("returned {code}")),
+        }
+    }
+}

@@ -1,0 +1,454 @@
+//! Random and structured pages, run areas and arguments.
+
+use crate::area::{NOT_REACHED_MARK, REACHED_MARK, WAITING_MARK};
+use crate::page::*;
+use crate::rng::Rng;
+
+/// How large a page is.
+#[derive(Clone, Copy, Debug, PartialEq, Eq)]
+pub enum Size {
+    /// Up to 8 conditions and 24 lines.
+    Small,
+    /// Up to 40 conditions and 120 lines.
+    Medium,
+    /// Up to 512 conditions and 1,024 lines.
+    Large,
+    /// 512 conditions, 1,024 lines, 8 literals in each rule, top 200.
+    Limit,
+}
+
+/// The make-up of a random page.
+struct Plan {
+    top: u16,
+    count: u16,
+    lines: usize,
+    facts: u64,
+    queries: u64,
+    negated: u64,
+    full_weight: u64,
+    literals: (u16, u16),
+    ops: Vec<Op>,
+    /// Heads come from the first conditions only, so that some conditions have no line.
+    heads: u16,
+}
+
+pub fn top(rng: &mut Rng) -> u16 {
+    match rng.below(10) {
+        0 => 1,
+        1 => 2,
+        2 => 3,
+        3..=5 => 10,
+        6 => 199,
+        7 => 200,
+        _ => rng.range(1, 200),
+    }
+}
+
+fn plan(rng: &mut Rng, size: Size) -> Plan {
+    let count = match size {
+        Size::Small => rng.range(1, 8),
+        Size::Medium => rng.range(2, 40),
+        Size::Large => rng.range(100, CONDITIONS_MAX),
+        Size::Limit => CONDITIONS_MAX,
+    };
+    let lines = match size {
+        Size::Small => rng.index(25),
+        Size::Medium => rng.index(121),
+        Size::Large => 200 + rng.index(LINES_MAX - 199),
+        Size::Limit => LINES_MAX,
+    };
+    let ops = match rng.below(4) {
+        0 => vec![Op::M, Op::X],
+        1 => vec![rng.pick(&OPS)],
+        _ => OPS.to_vec(),
+    };
+    Plan {
+        top: if size == Size::Limit {
+            TOP_MAX
+        } else {
+            top(rng)
+        },
+        count,
+        lines,
+        facts: if size == Size::Limit {
+            0
+        } else {
+            rng.pick(&[0, 10, 25, 60])
+        },
+        queries: if size == Size::Limit {
+            0
+        } else {
+            rng.pick(&[0, 5, 20])
+        },
+        negated: rng.pick(&[0, 10, 30, 50, 100]),
+        full_weight: rng.pick(&[0, 50, 90, 100]),
+        literals: match size {
+            Size::Limit => (8, 8),
+            _ => rng.pick(&[(1, 1), (1, 2), (1, 3), (1, 8), (8, 8)]),
+        },
+        ops,
+        heads: if rng.percent(70) {
+            count
+        } else {
+            rng.range(1, count)
+        },
+    }
+}
+
+/// A pair with low at or under high.
+pub fn interval(rng: &mut Rng, top: u16) -> (u16, u16) {
+    let (a, b) = (rng.range(0, top), rng.range(0, top));
+    match rng.below(6) {
+        0 => (a, a),
+        1 => (0, a),
+        2 => (a, top),
+        3 => (0, top),
+        _ => (a.min(b), a.max(b)),
+    }
+}
+
+fn literal(rng: &mut Rng, count: u16, negated: u64) -> Literal {
+    Literal {
+        cond: rng.range(0, count - 1),
+        negated: rng.percent(negated),
+    }
+}
+
+fn line(rng: &mut Rng, plan: &Plan) -> Line {
+    let kind = rng.below(100);
+    if kind < plan.queries {
+        return query_line(rng, plan.count);
+    }
+    let head = rng.range(0, plan.heads - 1);
+    if kind < plan.queries + plan.facts {
+        let (low, high) = interval(rng, plan.top);
+        return Line::Fact {
+            cond: head,
+            low,
+            high,
+        };
+    }
+    let n = rng.range(plan.literals.0, plan.literals.1);
+    Line::Rule {
+        head,
+        weight: if rng.percent(plan.full_weight) {
+            plan.top
+        } else {
+            rng.range(1, plan.top)
+        },
+        op: rng.pick(&plan.ops),
+        body: (0..n)
+            .map(|_| literal(rng, plan.count, plan.negated))
+            .collect(),
+    }
+}
+
+fn query_line(rng: &mut Rng, count: u16) -> Line {
+    Line::Query {
+        closed: rng.percent(50),
+        cond: rng.range(0, count - 1),
+    }
+}
+
+pub fn page(rng: &mut Rng, size: Size) -> Page {
+    let plan = plan(rng, size);
+    Page {
+        top: plan.top,
+        count: plan.count,
+        lines: (0..plan.lines).map(|_| line(rng, &plan)).collect(),
+    }
+}
+
+/// Mostly small pages, some medium, a few large.
+pub fn any_page(rng: &mut Rng) -> Page {
+    let size = match rng.below(100) {
+        0 => Size::Large,
+        1..=14 => Size::Medium,
+        _ => Size::Small,
+    };
+    page(rng, size)
+}
+
+/// A page of 1 to 3 conditions and a top low enough to try every assignment.
+pub fn tiny_page(rng: &mut Rng) -> Page {
+    let (top, count) = rng.pick(&[
+        (1, 1),
+        (1, 2),
+        (1, 3),
+        (2, 1),
+        (2, 2),
+        (3, 2),
+        (5, 1),
+        (9, 1),
+    ]);
+    let mut plan = plan(rng, Size::Small);
+    plan.top = top;
+    plan.count = count;
+    plan.heads = count;
+    plan.lines = rng.index(7);
+    plan.literals = rng.pick(&[(1, 1), (1, 2), (1, 3)]);
+    Page {
+        top,
+        count,
+        lines: (0..plan.lines).map(|_| line(rng, &plan)).collect(),
+    }
+}
+
+/// Adds Q lines at random places, within the limit of lines.
+pub fn add_queries(rng: &mut Rng, page: &mut Page, most: usize) {
+    for _ in 0..rng.index(most + 1) {
+        if page.lines.len() < LINES_MAX {
+            let at = rng.index(page.lines.len() + 1);
+            page.lines.insert(at, query_line(rng, page.count));
+        }
+    }
+}
+
+fn rule(head: u16, weight: u16, op: Op, body: &[(u16, bool)]) -> Line {
+    Line::Rule {
+        head,
+        weight,
+        op,
+        body: body
+            .iter()
+            .map(|(cond, negated)| Literal {
+                cond: *cond,
+                negated: *negated,
+            })
+            .collect(),
+    }
+}
+
+/// Each condition names the next and the last names the first; some links are negated.
+pub fn ring(rng: &mut Rng, count: u16, top: u16, weight: u16, negated: u64) -> Page {
+    let op = rng.pick(&OPS);
+    let mut lines: Vec<Line> = (0..count)
+        .map(|cond| {
+            rule(
+                cond,
+                weight,
+                op,
+                &[((cond + 1) % count, rng.percent(negated))],
+            )
+        })
+        .collect();
+    if rng.percent(60) {
+        let (low, high) = interval(rng, top);
+        lines.push(Line::Fact {
+            cond: rng.range(0, count - 1),
+            low,
+            high,
+        });
+    }
+    shuffle(rng, &mut lines);
+    Page { top, count, lines }
+}
+
+/// Each condition names the negation of the next; the last is a fact or has no line.
+pub fn negation_chain(rng: &mut Rng, count: u16, top: u16) -> Page {
+    let mut lines: Vec<Line> = (0..count - 1)
+        .map(|cond| rule(cond, top, Op::M, &[(cond + 1, true)]))
+        .collect();
+    if rng.percent(50) {
+        let (low, high) = interval(rng, top);
+        lines.push(Line::Fact {
+            cond: count - 1,
+            low,
+            high,
+        });
+    }
+    if rng.percent(50) {
+        shuffle(rng, &mut lines);
+    }
+    Page { top, count, lines }
+}
+
+/// A game on a random graph: a place is won if a move leads to a place that is not won.
+pub fn game(rng: &mut Rng, count: u16, top: u16) -> Page {
+    let moves = 1 + rng.index(usize::from(count) * 2);
+    let lines = (0..moves)
+        .map(|_| {
+            let (from, to) = (rng.range(0, count - 1), rng.range(0, count - 1));
+            rule(from, top, Op::M, &[(to, true)])
+        })
+        .collect();
+    Page { top, count, lines }
+}
+
+/// Conditions that count up or down by single steps.
+pub fn counters(rng: &mut Rng, count: u16, top: u16) -> Page {
+    let step = count - 1;
+    let mut lines = vec![Line::Fact {
+        cond: step,
+        low: 1.min(top),
+        high: rng.range(1.min(top), top.min(3)),
+    }];
+    for cond in 0..step {
+        lines.push(match rng.below(4) {
+            0 => rule(cond, top, Op::B, &[(cond, false), (step, false)]),
+            1 => rule(cond, top, Op::L, &[(cond, false), (step, true)]),
+            2 => rule(cond, (top - 1).max(1), Op::X, &[(cond, false)]),
+            _ => rule(
+                cond,
+                (top - 1).max(1),
+                Op::M,
+                &[(rng.range(0, step), rng.percent(40))],
+            ),
+        });
+        if rng.percent(30) {
+            let other = rng.range(0, step);
+            lines.push(rule(cond, top, Op::M, &[(other, rng.percent(50))]));
+        }
+    }
+    shuffle(rng, &mut lines);
+    Page { top, count, lines }
+}
+
+/// Pairs of conditions that deny each other, each with a fact and a link to the next pair.
+pub fn rivals(rng: &mut Rng, pairs: u16, top: u16) -> Page {
+    let count = 2 * pairs;
+    let mut lines = Vec::new();
+    for pair in 0..pairs {
+        let (a, b) = (2 * pair, 2 * pair + 1);
+        let next = (b + 1) % count;
+        lines.push(rule(a, top, Op::M, &[(b, true)]));
+        lines.push(rule(b, top, Op::M, &[(a, true), (next, rng.percent(30))]));
+        if rng.percent(50) {
+            let (low, high) = interval(rng, top);
+            lines.push(Line::Fact { cond: a, low, high });
+        }
+    }
+    shuffle(rng, &mut lines);
+    Page { top, count, lines }
+}
+
+/// Groups that support themselves in a ring, held up or cut off by the negation of other groups.
+pub fn knots(rng: &mut Rng, count: u16, top: u16) -> Page {
+    let size = rng.range(1, 4).min(count);
+    let mut lines = Vec::new();
+    for cond in 0..count {
+        let first = cond - cond % size;
+        let last = (first + size).min(count) - 1;
+        let next = if cond == last { first } else { cond + 1 };
+        // Mostly a later group, so that the answers depend on each other over many rounds.
+        let other = if last + 1 < count && rng.percent(85) {
+            rng.range(last + 1, (last + 6).min(count - 1))
+        } else {
+            rng.range(0, count - 1)
+        };
+        let weight = if rng.percent(85) {
+            top
+        } else {
+            rng.range(1, top)
+        };
+        match rng.below(6) {
+            0 | 1 => lines.push(rule(cond, weight, Op::M, &[(next, false), (other, true)])),
+            2 => {
+                lines.push(rule(cond, weight, Op::M, &[(next, false)]));
+                lines.push(rule(cond, weight, Op::M, &[(other, true)]));
+            }
+            3 => lines.push(rule(
+                cond,
+                weight,
+                Op::X,
+                &[(next, false), (other, rng.percent(70))],
+            )),
+            4 => {
+                let op = rng.pick(&OPS);
+                lines.push(rule(cond, weight, op, &[(next, false), (other, true)]));
+            }
+            _ => lines.push(rule(cond, weight, Op::M, &[(next, false)])),
+        }
+        if rng.percent(12) {
+            let (low, high) = interval(rng, top);
+            lines.push(Line::Fact { cond, low, high });
+        }
+    }
+    shuffle(rng, &mut lines);
+    Page { top, count, lines }
+}
+
+/// One of the structured pages with up to `most` conditions.
+pub fn structured(rng: &mut Rng, most: u16) -> Page {
+    let count = rng.range(2, most.max(2));
+    let top = top(rng);
+    let weight = if rng.percent(50) {
+        top
+    } else {
+        (top - 1).max(1)
+    };
+    match rng.below(8) {
+        0 => ring(rng, count, top, weight, 0),
+        1 => {
+            let negated = rng.pick(&[5, 30, 100]);
+            ring(rng, count, top, weight, negated)
+        }
+        2 => negation_chain(rng, count, top),
+        3 => game(rng, count, top),
+        4 => counters(rng, count, top),
+        5 | 6 => knots(rng, count, top),
+        _ => rivals(rng, (count / 2).max(1), top),
+    }
+}
+
+pub fn shuffle<T>(rng: &mut Rng, items: &mut [T]) {
+    for last in (1..items.len()).rev() {
+        items.swap(last, rng.index(last + 1));
+    }
+}
+
+/// A query list of 1 to 16 conditions, repeats allowed.
+pub fn queries(rng: &mut Rng, count: u16) -> Vec<u16> {
+    let n = match rng.below(4) {
+        0 => 16,
+        1 => 1,
+        _ => 1 + rng.index(16),
+    };
+    (0..n).map(|_| rng.range(0, count - 1)).collect()
+}
+
+/// A sound run area for a page, with no regard to any run.
+pub fn sound_run(rng: &mut Rng, page: &Page) -> Vec<u16> {
+    let (unreached, waiting) = (rng.pick(&[0, 10, 40]), rng.pick(&[0, 20, 60, 100]));
+    let mut run = Vec::new();
+    for _ in 0..page.count {
+        if rng.percent(unreached) {
+            run.extend([0, page.top, NOT_REACHED_MARK]);
+        } else {
+            let (low, high) = interval(rng, page.top);
+            let mark = if rng.percent(waiting) {
+                WAITING_MARK
+            } else {
+                REACHED_MARK
+            };
+            run.extend([low, high, mark]);
+        }
+    }
+    run
+}
+
+/// A condition argument: mostly one of the page, else of any size up to 32 bits.
+pub fn condition(rng: &mut Rng, count: u16) -> u32 {
+    let inside = u32::from(rng.range(0, count - 1));
+    let count = u32::from(count);
+    match rng.below(16) {
+        0 => count,
+        1 => count + 1 + rng.below(600) as u32,
+        2 => 65_535,
+        3 => 65_536 + inside,
+        4 => (1 << 31) + inside,
+        5 => u32::MAX - rng.below(2) as u32,
+        6 => (rng.number() as u32).max(count),
+        _ => inside,
+    }
+}
+
+/// A wrong condition argument: `count` or more.
+pub fn wrong_condition(rng: &mut Rng, count: u16) -> u32 {
+    loop {
+        let cond = condition(rng, count);
+        if cond >= u32::from(count) {
+            return cond;
+        }
+    }
+}

@@ -1,0 +1,35 @@
+//! Outside tests of the rule-page engine, through its C interface.
+//!
+//! The reference solver is `page`, `area`, `body`, `reach`, `plain`, `book`, `closed` and `enumerate`; each
+//! names the section of document 01 that it implements. The callee is reached through `ffi`, `guard` and
+//! `engine`. `trial` compares the two, `gen` and `spoil` make the inputs, `cases` are the tests.
+//!
+//! - `cargo run --release` runs every case; add `only TEXT` for the cases whose name contains the text,
+//!   `quick` for a tenth of the items.
+//! - `cargo run --release -- attach PATH` tests the program `attach` at that path.
+//! - With `--features selfcheck` the reference solver stands in for the library; `mutants` then plants one
+//!   fault after another and tells which cases notice.
+
+pub mod answer;
+pub mod area;
+pub mod attach;
+pub mod body;
+pub mod book;
+pub mod cases;
+pub mod closed;
+pub mod engine;
+pub mod enumerate;
+pub mod ffi;
+pub mod gen;
+pub mod guard;
+pub mod input;
+pub mod page;
+pub mod plain;
+pub mod reach;
+pub mod rng;
+pub mod runner;
+pub mod slot;
+pub mod spoil;
+#[cfg(feature = "selfcheck")]
+pub mod standin;
+pub mod trial;

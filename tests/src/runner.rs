@@ -1,0 +1,237 @@
+//! Runs the named cases: their items are shared among the workers, each item with a fixed seed.
+
+use std::cell::RefCell;
+use std::collections::BTreeMap;
+use std::io::Write;
+use std::panic::{self, AssertUnwindSafe};
+use std::sync::atomic::{AtomicBool, AtomicPtr, AtomicU64, AtomicUsize, Ordering::SeqCst};
+use std::sync::{mpsc, Mutex};
+use std::thread;
+use std::time::Duration;
+
+use crate::answer::Refusal;
+use crate::rng::seed_of;
+use crate::slot::{self, WORKERS};
+use crate::trial::{Check, Trial};
+
+/// An item that takes longer counts as a stall and ends the run.
+const STALL_SECONDS: u64 = 100;
+
+/// A named case.
+pub struct Case {
+    pub name: &'static str,
+    /// How often `each` runs, every time with another seed.
+    pub items: u64,
+    /// The body; it is given the item's number.
+    pub each: fn(&mut Trial, u64) -> Check,
+    /// Outcomes that must come up at least once, so that the case cannot pass by trying nothing.
+    pub must_see: &'static [(&'static str, Refusal)],
+}
+
+static PASSED: AtomicU64 = AtomicU64::new(0);
+static FAILED: AtomicU64 = AtomicU64::new(0);
+/// The name of the case under way, for the fault report.
+static NAME: AtomicPtr<u8> = AtomicPtr::new(std::ptr::null_mut());
+static NAME_LENGTH: AtomicUsize = AtomicUsize::new(0);
+
+thread_local! {
+    static PANIC: RefCell<String> = const { RefCell::new(String::new()) };
+}
+
+extern "C" {
+    fn signal(number: i32, handler: usize) -> usize;
+    fn _exit(code: i32) -> !;
+    fn write(fd: i32, bytes: *const u8, length: usize) -> isize;
+}
+
+fn set_name(name: &'static str) {
+    NAME.store(name.as_ptr() as *mut u8, SeqCst);
+    NAME_LENGTH.store(name.len(), SeqCst);
+}
+
+fn name() -> &'static str {
+    let start = NAME.load(SeqCst);
+    if start.is_null() {
+        return "before_the_first_case";
+    }
+    // SAFETY: the pointer and the length are those of a static name.
+    unsafe {
+        std::str::from_utf8_unchecked(std::slice::from_raw_parts(start, NAME_LENGTH.load(SeqCst)))
+    }
+}
+
+/// Prints past every buffer and ends the program; the first to die speaks for all.
+fn die(text: String) -> ! {
+    static DYING: AtomicBool = AtomicBool::new(false);
+    while DYING.swap(true, SeqCst) {
+        thread::sleep(Duration::from_secs(1));
+    }
+    let total = format!(
+        "{text}\n{} passed, {} failed\n",
+        PASSED.load(SeqCst),
+        FAILED.load(SeqCst) + 1
+    );
+    let mut rest = total.as_bytes();
+    // SAFETY: plain calls of the C library on valid bytes.
+    unsafe {
+        while !rest.is_empty() {
+            let written = write(1, rest.as_ptr(), rest.len());
+            if written <= 0 {
+                break;
+            }
+            rest = &rest[written as usize..];
+        }
+        _exit(1)
+    }
+}
+
+/// Reports a fault inside a call; the calls allocate nothing, so the report may.
+extern "C" fn on_signal(number: i32) {
+    let what = match number {
+        11 | 7 => "memory outside the lent slices is touched",
+        6 => "the call aborts",
+        4 => "the call traps",
+        _ => "the call raises an arithmetic fault",
+    };
+    let slot = slot::mine();
+    die(format!(
+        "FAILED {}: {what} (signal {number}); item {}, seed {:#018x}; {}",
+        name(),
+        slot.item(),
+        seed_of(name(), slot.item()),
+        slot.dump()
+    ));
+}
+
+fn install_handlers() {
+    for number in [4, 6, 7, 8, 11] {
+        // SAFETY: the handler has the type that the C library calls.
+        unsafe {
+            signal(number, on_signal as *const () as usize);
+        }
+    }
+    panic::set_hook(Box::new(|info| {
+        PANIC.with(|text| *text.borrow_mut() = info.to_string().replace('\n', " "));
+    }));
+}
+
+/// The outcome of one case.
+struct Outcome {
+    pages: u64,
+    calls: u64,
+    /// The lowest failing item and why it fails.
+    failure: Option<(u64, String)>,
+}
+
+fn run_case(case: &Case, items: u64, trials: &mut [Trial]) -> Outcome {
+    set_name(case.name);
+    let next = AtomicU64::new(0);
+    let first_failure = AtomicU64::new(u64::MAX);
+    let failures: Mutex<BTreeMap<u64, String>> = Mutex::new(BTreeMap::new());
+    let (done, finished) = mpsc::channel();
+    thread::scope(|scope| {
+        for (worker, trial) in trials.iter_mut().enumerate() {
+            let (next, first_failure, failures) = (&next, &first_failure, &failures);
+            let done = done.clone();
+            scope.spawn(move || {
+                slot::take(worker);
+                loop {
+                    let item = next.fetch_add(1, SeqCst);
+                    if item >= items || item > first_failure.load(SeqCst) {
+                        break;
+                    }
+                    slot::mine().begin_item(item);
+                    trial.begin(seed_of(case.name, item));
+                    let result = panic::catch_unwind(AssertUnwindSafe(|| (case.each)(trial, item)));
+                    slot::mine().end_item();
+                    let reason = match result {
+                        Ok(Ok(())) => continue,
+                        Ok(Err(reason)) => reason,
+                        Err(_) => PANIC.with(|text| text.borrow().clone()),
+                    };
+                    first_failure.fetch_min(item, SeqCst);
+                    failures
+                        .lock()
+                        .expect("no worker dies")
+                        .insert(item, reason);
+                }
+                let _ = done.send(());
+            });
+        }
+        let mut left = WORKERS;
+        while left > 0 {
+            if finished.recv_timeout(Duration::from_millis(500)).is_ok() {
+                left -= 1;
+                continue;
+            }
+            for slot in slot::all() {
+                if slot.seconds() > STALL_SECONDS {
+                    die(format!(
+                        "FAILED {}: no end after {STALL_SECONDS} s in call {}; item {}, seed {:#018x}",
+                        case.name,
+                        slot.call(),
+                        slot.item(),
+                        seed_of(case.name, slot.item())
+                    ));
+                }
+            }
+        }
+    });
+    let mut outcome = Outcome {
+        pages: 0,
+        calls: 0,
+        failure: failures.into_inner().expect("no worker dies").pop_first(),
+    };
+    let mut seen = BTreeMap::new();
+    for trial in trials.iter_mut() {
+        outcome.pages += trial.pages;
+        outcome.calls += trial.engine.calls;
+        for (what, count) in &trial.seen {
+            *seen.entry(*what).or_insert(0) += count;
+        }
+        trial.clear();
+    }
+    if outcome.failure.is_none() {
+        let missing = case.must_see.iter().find(|what| !seen.contains_key(*what));
+        if let Some((call, code)) = missing {
+            outcome.failure = Some((0, format!("no {call} call came to outcome {code}")));
+        }
+    }
+    outcome
+}
+
+/// Runs the cases and prints a line for each, then the totals; true if some run and all pass.
+/// `share` divides the number of items; `only` keeps the cases whose name contains it.
+pub fn run(cases: &[Case], share: u64, only: &str) -> bool {
+    install_handlers();
+    let mut trials: Vec<Trial> = (0..WORKERS).map(|_| Trial::new()).collect();
+    let (mut pages, mut calls) = (0, 0);
+    for case in cases.iter().filter(|case| case.name.contains(only)) {
+        let items = case.items.div_ceil(share);
+        let outcome = run_case(case, items, &mut trials);
+        pages += outcome.pages;
+        calls += outcome.calls;
+        match outcome.failure {
+            None => {
+                PASSED.fetch_add(1, SeqCst);
+                println!(
+                    "ok {} ({} pages, {} calls)",
+                    case.name, outcome.pages, outcome.calls
+                );
+            }
+            Some((item, reason)) => {
+                FAILED.fetch_add(1, SeqCst);
+                println!(
+                    "FAILED {}: {reason}; item {item}, seed {:#018x}",
+                    case.name,
+                    seed_of(case.name, item)
+                );
+            }
+        }
+        let _ = std::io::stdout().flush();
+    }
+    println!("in all {pages} pages, {calls} calls");
+    let (passed, failed) = (PASSED.load(SeqCst), FAILED.load(SeqCst));
+    println!("{passed} passed, {failed} failed");
+    failed == 0 && passed > 0
+}

@@ -1,0 +1,902 @@
+//! The C interface made from the reference solver (feature `selfcheck`), to try the tests on.
+//!
+//! The variable STANDIN_FAULT plants one of the faults below; a good test run then fails.
+
+use std::process::Command;
+use std::sync::{Mutex, OnceLock};
+
+use crate::answer::*;
+use crate::area::{self, held_pairs, NOT_REACHED_MARK, REACHED_MARK, WAITING_MARK};
+use crate::body::{combine, Pair};
+use crate::closed;
+use crate::page::{self, Line, Op, Page};
+use crate::plain::{self, check_queries};
+use crate::reach;
+
+/// The faults that can be planted.
+pub const FAULTS: &[&str] = &[
+    // Read a page and show a line.
+    "line_number_from_zero",
+    "line_not_set_to_zero_on_success",
+    "area_written_past_used_length",
+    "refused_read_writes_area",
+    "leading_zero_accepted",
+    "carriage_return_accepted",
+    "unended_page_accepted",
+    "second_head_line_accepted",
+    "range_before_form",
+    "line_1026_judged_by_its_form",
+    "short_area_before_bad_line",
+    "text_of_65535_bytes_too_long",
+    "last_unended_line_not_shown",
+    "show_number_cut_to_32_bits",
+    // Soundness.
+    "literal_range_unchecked",
+    "query_tail_unchecked",
+    "kind_cut_to_a_byte",
+    "lines_may_fall_short_of_used_length",
+    "used_length_trusted_past_the_slice",
+    "mark_0_interval_unchecked",
+    "mark_3_accepted",
+    "high_above_top_accepted",
+    // Open a run.
+    "edges_counted_per_literal",
+    "reach_only_direct",
+    "reach_ignores_negated_literals",
+    "refused_open_writes",
+    "query_range_before_count",
+    "list_of_17_accepted",
+    "open_clears_past_3c",
+    "open_solves_at_once",
+    // Evaluate.
+    "wake_only_when_low_rises",
+    "wake_nobody",
+    "wake_unreached",
+    "wake_self_always",
+    "wake_unless_unchanged_ignored",
+    "mark_kept_waiting",
+    "refused_evaluate_writes",
+    "evaluate_changes_nothing",
+    "condition_cut_to_16_bits",
+    "queries_wake_too",
+    // Body values.
+    "negate_without_exchange",
+    "round_up_high_end",
+    "product_divided_once",
+    "fold_right_to_left",
+    "no_lines_unknown",
+    "smallest_over_lines",
+    "facts_hide_rules",
+    // Drive and value.
+    "drive_highest_first",
+    "drive_in_rounds",
+    "drive_count_one_more",
+    "drive_count_is_allowance",
+    "drive_spent_when_just_enough",
+    "drive_allowance_cut_to_16_bits",
+    "drive_sets_taken_on_refusal",
+    "value_rest_of_one_condition",
+    "value_of_unreached",
+    // Closed reading.
+    "closed_is_plain",
+    "support_from_top",
+    "loops_read_zero",
+    "closed_stops_after_two_rounds",
+    "answers_in_sorted_order",
+    "scratch_half_zeroed",
+    "scratch_zeroed_past_6c",
+    "short_answers_written",
+    // Memory.
+    "page_read_past_the_end",
+    "page_read_before_the_start",
+    "run_written_past_the_end",
+    "run_read_past_3c",
+    "page_written",
+    "last_page_remembered",
+];
+
+fn planted() -> &'static str {
+    static NAME: OnceLock<String> = OnceLock::new();
+    NAME.get_or_init(|| std::env::var("STANDIN_FAULT").unwrap_or_default())
+}
+
+fn fault(name: &str) -> bool {
+    debug_assert!(FAULTS.contains(&name), "{name} is not listed");
+    planted() == name
+}
+
+unsafe fn lent<'a, T>(start: *const T, length: usize) -> &'a [T] {
+    if length == 0 {
+        return &[];
+    }
+    std::slice::from_raw_parts(start, length)
+}
+
+unsafe fn lent_mut<'a, T>(start: *mut T, length: usize) -> &'a mut [T] {
+    if length == 0 {
+        return &mut [];
+    }
+    std::slice::from_raw_parts_mut(start, length)
+}
+
+/// The numbers of a page area with what a fault overlooks put right.
+fn overlooked(area: &[u16]) -> Vec<u16> {
+    let mut copy = area[..area.len().min(usize::from(area[3]))].to_vec();
+    let mut at = 4;
+    for _ in 0..area[2] {
+        if at + 4 > copy.len() {
+            return copy;
+        }
+        if fault("kind_cut_to_a_byte") {
+            copy[at + 1] &= 255;
+        }
+        match copy[at + 1] {
+            1..=5 => {
+                let end = at + 4 + usize::from(copy[at + 3]);
+                if end > copy.len() {
+                    return copy;
+                }
+                for literal in &mut copy[at + 4..end] {
+                    if fault("literal_range_unchecked") && *literal / 2 >= area[1] {
+                        *literal = 0;
+                    }
+                }
+                at = end;
+            }
+            kind => {
+                if kind == 6 && fault("query_tail_unchecked") {
+                    copy[at + 3] = 0;
+                }
+                at += 4;
+            }
+        }
+    }
+    if fault("lines_may_fall_short_of_used_length") {
+        copy[3] = at as u16;
+        copy.truncate(at);
+    }
+    copy
+}
+
+/// The page of a sound area, with the planted fault.
+fn sound_page(area: &[u16]) -> Option<Page> {
+    if fault("used_length_trusted_past_the_slice") && area.len() >= 4 {
+        // SAFETY: none; this is the planted fault.
+        unsafe {
+            let last = area.as_ptr().add(usize::from(area[3].max(1)) - 1);
+            std::ptr::read_volatile(last);
+        }
+    }
+    if fault("page_read_past_the_end") && !area.is_empty() {
+        // SAFETY: none; this is the planted fault.
+        unsafe { std::ptr::read_volatile(area.as_ptr().add(area.len())) };
+    }
+    if fault("page_read_before_the_start") && !area.is_empty() {
+        // SAFETY: none; this is the planted fault.
+        unsafe { std::ptr::read_volatile(area.as_ptr().sub(1)) };
+    }
+    if fault("page_written") && area.len() > 4 {
+        // SAFETY: none; this is the planted fault.
+        unsafe { std::ptr::write_volatile(area.as_ptr().add(4) as *mut u16, area[4] ^ 1) };
+    }
+    if fault("last_page_remembered") {
+        static LAST: Mutex<Option<(usize, usize, Page)>> = Mutex::new(None);
+        let mut last = LAST.lock().ok()?;
+        let key = (area.as_ptr() as usize, area.len());
+        if let Some((start, length, page)) = last.as_ref() {
+            if (*start, *length) == key {
+                return Some(page.clone());
+            }
+        }
+        let page = area::decode(area)?;
+        *last = Some((key.0, key.1, page.clone()));
+        return Some(page);
+    }
+    let overlooks = [
+        "literal_range_unchecked",
+        "query_tail_unchecked",
+        "kind_cut_to_a_byte",
+        "lines_may_fall_short_of_used_length",
+    ];
+    if overlooks.contains(&planted()) && area.len() >= 4 && area[3] >= 4 {
+        return area::decode(&overlooked(area));
+    }
+    area::decode(area)
+}
+
+fn run_is_sound(page: &Page, run: &[u16]) -> bool {
+    let length = 3 * usize::from(page.count);
+    if run.len() < length {
+        return false;
+    }
+    if fault("run_read_past_3c") && run.len() > length {
+        // SAFETY: inside the announced length.
+        unsafe { std::ptr::read_volatile(run.as_ptr().add(length)) };
+    }
+    let mut copy = run[..length].to_vec();
+    for entry in copy.chunks_exact_mut(3) {
+        if fault("mark_0_interval_unchecked") && entry[2] == NOT_REACHED_MARK {
+            entry[0] = 0;
+            entry[1] = page.top;
+        }
+        if fault("mark_3_accepted") && entry[2] == 3 {
+            entry[2] = REACHED_MARK;
+        }
+        if fault("high_above_top_accepted") && entry[0] <= entry[1] && entry[0] <= page.top {
+            entry[1] = entry[1].min(page.top);
+        }
+    }
+    area::run_is_sound(page, &copy)
+}
+
+fn check_areas(page_area: &[u16], run: &[u16]) -> Result<Page, Refusal> {
+    let page = sound_page(page_area).ok_or(PAGE_UNSOUND)?;
+    if run_is_sound(&page, run) {
+        Ok(page)
+    } else {
+        Err(RUN_UNSOUND)
+    }
+}
+
+fn rule_end(op: Op, top: u16, weight: u16, mut ends: Vec<u16>, high: bool) -> u16 {
+    if fault("fold_right_to_left") {
+        ends.reverse();
+    }
+    let (top_32, weight) = (u32::from(top), u32::from(weight));
+    let mut result = u32::from(ends[0]);
+    if fault("product_divided_once") && op == Op::P {
+        let whole: u64 = ends.iter().map(|end| u64::from(*end)).product();
+        result = (whole / u64::from(top).pow(ends.len() as u32 - 1)) as u32;
+    } else {
+        for end in &ends[1..] {
+            result = u32::from(combine(op, top, result as u16, *end));
+        }
+    }
+    if fault("round_up_high_end") && high {
+        return (result * weight).div_ceil(top_32) as u16;
+    }
+    (result * weight / top_32) as u16
+}
+
+/// T of one condition, with the planted fault.
+fn body_value(page: &Page, held: &[Pair], cond: u16) -> Pair {
+    let mut total: Option<Pair> = None;
+    let mut fact_seen = false;
+    for line in &page.lines {
+        let value = match line {
+            Line::Fact {
+                cond: head,
+                low,
+                high,
+            } if *head == cond => {
+                fact_seen = true;
+                Pair::new(*low, *high)
+            }
+            Line::Rule {
+                head,
+                weight,
+                op,
+                body,
+            } if *head == cond => {
+                if fault("facts_hide_rules") && fact_seen {
+                    continue;
+                }
+                let values: Vec<Pair> = body
+                    .iter()
+                    .map(|literal| {
+                        let pair = held[usize::from(literal.cond)];
+                        if !literal.negated {
+                            pair
+                        } else if fault("negate_without_exchange") {
+                            Pair::new(page.top - pair.low, page.top - pair.high)
+                        } else {
+                            pair.negation(page.top)
+                        }
+                    })
+                    .collect();
+                let lows = values.iter().map(|pair| pair.low).collect();
+                let highs = values.iter().map(|pair| pair.high).collect();
+                Pair::new(
+                    rule_end(*op, page.top, *weight, lows, false),
+                    rule_end(*op, page.top, *weight, highs, true),
+                )
+            }
+            _ => continue,
+        };
+        total = Some(match total {
+            None => value,
+            Some(so_far) if fault("smallest_over_lines") => {
+                Pair::new(so_far.low.min(value.low), so_far.high.min(value.high))
+            }
+            Some(so_far) => Pair::new(so_far.low.max(value.low), so_far.high.max(value.high)),
+        });
+    }
+    total.unwrap_or(if fault("no_lines_unknown") {
+        Pair::unknown(page.top)
+    } else {
+        Pair::new(0, 0)
+    })
+}
+
+fn body_values(page: &Page, held: &[Pair]) -> Vec<Pair> {
+    (0..page.count)
+        .map(|cond| body_value(page, held, cond))
+        .collect()
+}
+
+/// Evaluates a waiting condition, with the planted fault.
+fn step(page: &Page, run: &mut [u16], cond: u16) -> bool {
+    let at = 3 * usize::from(cond);
+    let old = Pair::new(run[at], run[at + 1]);
+    let new = if fault("evaluate_changes_nothing") {
+        old
+    } else {
+        body_value(page, &held_pairs(page, run), cond)
+    };
+    run[at] = new.low;
+    run[at + 1] = new.high;
+    run[at + 2] = REACHED_MARK;
+    let mut wakes = new != old && !fault("wake_nobody");
+    if fault("wake_only_when_low_rises") {
+        wakes = new.low > old.low;
+    }
+    if fault("wake_unless_unchanged_ignored") {
+        wakes = true;
+    }
+    if wakes {
+        for line in &page.lines {
+            let (head, names_it) = match line {
+                Line::Rule { head, body, .. } => {
+                    (*head, body.iter().any(|literal| literal.cond == cond))
+                }
+                Line::Query { cond: head, .. } => (*head, fault("queries_wake_too")),
+                Line::Fact { .. } => continue,
+            };
+            let mark = &mut run[3 * usize::from(head) + 2];
+            if names_it && (*mark != NOT_REACHED_MARK || fault("wake_unreached")) {
+                *mark = WAITING_MARK;
+            }
+        }
+        if fault("wake_self_always") {
+            run[at + 2] = WAITING_MARK;
+        }
+    }
+    if fault("mark_kept_waiting") && new != old {
+        run[at + 2] = WAITING_MARK;
+    }
+    new != old
+}
+
+fn next_waiting(page: &Page, run: &[u16], from: u16) -> Option<u16> {
+    let mut waiting =
+        (0..page.count).filter(|cond| run[3 * usize::from(*cond) + 2] == WAITING_MARK);
+    if fault("drive_highest_first") {
+        return waiting.next_back();
+    }
+    if fault("drive_in_rounds") {
+        let all: Vec<u16> = waiting.collect();
+        let later = all.iter().copied().find(|cond| *cond >= from);
+        return later.or(all.first().copied());
+    }
+    waiting.next()
+}
+
+fn drive(page: &Page, run: &mut [u16], allowance: u32) -> Driven {
+    let mut taken = 0;
+    let mut from = 0;
+    loop {
+        let Some(cond) = next_waiting(page, run, from) else {
+            return Driven { taken, rest: true };
+        };
+        if taken == allowance {
+            return Driven { taken, rest: false };
+        }
+        step(page, run, cond);
+        from = cond + 1;
+        taken += 1;
+    }
+}
+
+/// The closed reading, with the planted fault.
+fn closed_reading(page: &Page) -> Vec<Pair> {
+    let count = usize::from(page.count);
+    if planted().is_empty() {
+        return closed::reading(page);
+    }
+    if fault("closed_is_plain") {
+        return plain::reading(page);
+    }
+    let join = |left: &[Pair], right: &[Pair]| -> Vec<Pair> {
+        left.iter().zip(right).map(|(a, b)| a.join(*b)).collect()
+    };
+    let mut assignment = vec![Pair::unknown(page.top); count];
+    for round in 0..1000 {
+        let start = if fault("support_from_top") {
+            page.top
+        } else {
+            0
+        };
+        let mut safe = vec![Pair::new(0, start); count];
+        for _ in 0..1000 {
+            let next: Vec<Pair> = body_values(page, &join(&assignment, &safe))
+                .iter()
+                .map(|pair| Pair::new(0, pair.high))
+                .collect();
+            if next == safe {
+                break;
+            }
+            safe = next;
+        }
+        let next = body_values(page, &join(&assignment, &safe));
+        if next == assignment || (fault("closed_stops_after_two_rounds") && round == 2) {
+            break;
+        }
+        assignment = next;
+    }
+    if fault("loops_read_zero") {
+        for pair in &mut assignment {
+            if pair.low == 0 {
+                pair.high = 0;
+            }
+        }
+    }
+    assignment
+}
+
+/// The text with what a fault overlooks put right.
+fn overlooked_text(text: &[u8]) -> Vec<u8> {
+    let mut out = text.to_vec();
+    if fault("carriage_return_accepted") {
+        out = String::from_utf8_lossy(&out)
+            .replace("\r\n", "\n")
+            .into_bytes();
+    }
+    if fault("unended_page_accepted") && out.last().is_some_and(|byte| *byte != 10) {
+        out.push(10);
+    }
+    if fault("leading_zero_accepted") {
+        out = String::from_utf8_lossy(&out)
+            .replace(",00", ",0")
+            .replace(",01", ",1")
+            .replace(",02", ",2")
+            .replace(",03", ",3")
+            .into_bytes();
+    }
+    if fault("second_head_line_accepted") {
+        let all = String::from_utf8_lossy(&out).into_owned();
+        let head = all.lines().next().unwrap_or_default().to_string();
+        let kept: Vec<&str> = all
+            .split('\n')
+            .enumerate()
+            .filter(|(number, line)| *number == 0 || *line != head)
+            .map(|(_, line)| line)
+            .collect();
+        out = kept.join("\n").into_bytes();
+    }
+    out
+}
+
+fn read_text(text: &[u8], area: &mut [u16]) -> Result<usize, ReadRefusal> {
+    if fault("text_of_65535_bytes_too_long") && text.len() == 65_535 {
+        return Err(ReadRefusal {
+            number: TEXT_TOO_LONG,
+            line: 0,
+        });
+    }
+    if fault("short_area_before_bad_line") && area.len() < 4 && page::read(text).is_err() {
+        return Err(ReadRefusal {
+            number: AREA_SHORT,
+            line: 0,
+        });
+    }
+    let changes = [
+        "carriage_return_accepted",
+        "unended_page_accepted",
+        "leading_zero_accepted",
+        "second_head_line_accepted",
+    ];
+    let result = if changes.contains(&planted()) {
+        area::read_into(&overlooked_text(text), area)
+    } else {
+        area::read_into(text, area)
+    };
+    let mut refusal = match result {
+        Ok(used) => {
+            if fault("area_written_past_used_length") && area.len() > used {
+                area[used] = 0;
+            }
+            return Ok(used);
+        }
+        Err(refusal) => refusal,
+    };
+    if fault("refused_read_writes_area") && refusal.number == LINE_RANGE && area.len() > 4 {
+        area[4] ^= 1;
+    }
+    if fault("line_number_from_zero") && refusal.line > 0 {
+        refusal.line -= 1;
+    }
+    if let Some((start, length)) = page::show_line(text, refusal.line as usize) {
+        let line = &text[start..start + length];
+        if fault("range_before_form") && refusal.number == LINE_FORM {
+            let large = line.split(|byte| *byte == b',').any(|field| {
+                let number = std::str::from_utf8(field).ok();
+                number.and_then(|number| number.parse::<u16>().ok()) > Some(512)
+            });
+            if large {
+                refusal.number = LINE_RANGE;
+            }
+        }
+        if fault("line_1026_judged_by_its_form") && refusal.number == LINE_COUNT {
+            let alone = [b"G,200,512\n".as_slice(), line, b"\n"].concat();
+            if let Err(other) = page::read(&alone) {
+                refusal.number = other.number;
+            }
+        }
+    }
+    Err(refusal)
+}
+
+/// # Safety
+/// The slices and the out-parameter are valid and apart.
+#[no_mangle]
+pub unsafe extern "C" fn simjorad_read(
+    text: *const u8,
+    text_length: usize,
+    area: *mut u16,
+    area_length: usize,
+    line: *mut u32,
+) -> i32 {
+    match read_text(lent(text, text_length), lent_mut(area, area_length)) {
+        Ok(used) => {
+            if !fault("line_not_set_to_zero_on_success") {
+                *line = 0;
+            }
+            used as i32
+        }
+        Err(refusal) => {
+            *line = refusal.line;
+            -refusal.number
+        }
+    }
+}
+
+/// # Safety
+/// The slice and the out-parameter are valid and apart.
+#[no_mangle]
+pub unsafe extern "C" fn simjorad_show_line(
+    text: *const u8,
+    text_length: usize,
+    number: usize,
+    start: *mut usize,
+) -> usize {
+    let text = lent(text, text_length);
+    let number = if fault("show_number_cut_to_32_bits") {
+        number as u32 as usize
+    } else {
+        number
+    };
+    let (at, length) = page::show_line(text, number).unwrap_or((0, 0));
+    *start = at;
+    if fault("last_unended_line_not_shown") && at + length == text.len() {
+        return 0;
+    }
+    length
+}
+
+fn open(page_area: &[u16], queries: &[u16], run: &mut [u16]) -> Result<Opened, Refusal> {
+    let page = sound_page(page_area).ok_or(PAGE_UNSOUND)?;
+    let length = 3 * usize::from(page.count);
+    let out_of_range = queries.iter().any(|query| *query >= page.count);
+    if fault("query_range_before_count") && out_of_range {
+        return Err(QUERY_RANGE);
+    }
+    if !(fault("list_of_17_accepted") && queries.len() == 17 && !out_of_range) {
+        check_queries(&page, queries)?;
+    }
+    if run.len() < length {
+        if fault("refused_open_writes") && !run.is_empty() {
+            run[0] ^= 1;
+        }
+        return Err(RUN_SHORT);
+    }
+    let mut reached = reach::reached(&page, queries);
+    let mut opened = reach::measure(&page, queries);
+    if fault("reach_only_direct") {
+        reached = queries.iter().copied().collect();
+        for (a, b) in reach::names(&page) {
+            if queries.contains(&a) {
+                reached.insert(b);
+            }
+        }
+    }
+    if fault("reach_ignores_negated_literals") {
+        let mut plain = page.clone();
+        for line in &mut plain.lines {
+            if let Line::Rule { head, body, .. } = line {
+                body.retain(|literal| !literal.negated || literal.cond == *head);
+            }
+        }
+        reached = reach::reached(&plain, queries);
+    }
+    if fault("edges_counted_per_literal") {
+        opened.edges = 0;
+        for line in &page.lines {
+            if let Line::Rule { head, body, .. } = line {
+                if reached.contains(head) {
+                    opened.edges += body.len() as u32;
+                }
+            }
+        }
+        opened.bound = opened.reached + u32::from(page.top) * opened.edges;
+    }
+    for (cond, entry) in (0..page.count).zip(run[..length].chunks_exact_mut(3)) {
+        let mark = if reached.contains(&cond) {
+            WAITING_MARK
+        } else {
+            NOT_REACHED_MARK
+        };
+        entry.copy_from_slice(&[0, page.top, mark]);
+    }
+    if fault("open_clears_past_3c") && run.len() > length {
+        run[length] = 0;
+    }
+    if fault("run_written_past_the_end") {
+        // SAFETY: none; this is the planted fault.
+        unsafe { std::ptr::write_volatile(run.as_mut_ptr().add(run.len()), 0) };
+    }
+    if fault("open_solves_at_once") {
+        drive(&page, run, u32::MAX);
+    }
+    Ok(opened)
+}
+
+/// # Safety
+/// The slices and the out-parameters are valid and apart.
+#[no_mangle]
+pub unsafe extern "C" fn simjorad_open(
+    page: *const u16,
+    page_length: usize,
+    queries: *const u16,
+    queries_length: usize,
+    run: *mut u16,
+    run_length: usize,
+    reached: *mut u32,
+    edges: *mut u32,
+    bound: *mut u32,
+) -> i32 {
+    let result = open(
+        lent(page, page_length),
+        lent(queries, queries_length),
+        lent_mut(run, run_length),
+    );
+    match result {
+        Ok(opened) => {
+            *reached = opened.reached;
+            *edges = opened.edges;
+            *bound = opened.bound;
+            0
+        }
+        Err(number) => -number,
+    }
+}
+
+fn condition(page: &Page, cond: u32) -> Result<u16, Refusal> {
+    let cond = if fault("condition_cut_to_16_bits") {
+        cond & 65_535
+    } else {
+        cond
+    };
+    if cond < u32::from(page.count) {
+        Ok(cond as u16)
+    } else {
+        Err(CONDITION_RANGE)
+    }
+}
+
+fn evaluate(page_area: &[u16], run: &mut [u16], cond: u32) -> Result<bool, Refusal> {
+    let page = check_areas(page_area, run)?;
+    let cond = condition(&page, cond)?;
+    if run[3 * usize::from(cond) + 2] != WAITING_MARK {
+        if fault("refused_evaluate_writes") {
+            run[3 * usize::from(cond) + 2] = REACHED_MARK;
+        }
+        return Err(NOT_WAITING);
+    }
+    Ok(step(&page, run, cond))
+}
+
+/// # Safety
+/// The slices are valid and apart.
+#[no_mangle]
+pub unsafe extern "C" fn simjorad_evaluate(
+    page: *const u16,
+    page_length: usize,
+    run: *mut u16,
+    run_length: usize,
+    condition: u32,
+) -> i32 {
+    let run = lent_mut(run, run_length);
+    match evaluate(lent(page, page_length), run, condition) {
+        Ok(changed) => i32::from(changed),
+        Err(number) => -number,
+    }
+}
+
+/// # Safety
+/// The slices and the out-parameter are valid and apart.
+#[no_mangle]
+pub unsafe extern "C" fn simjorad_drive(
+    page: *const u16,
+    page_length: usize,
+    run: *mut u16,
+    run_length: usize,
+    allowance: u32,
+    taken: *mut u32,
+) -> i32 {
+    let run = lent_mut(run, run_length);
+    let page = match check_areas(lent(page, page_length), run) {
+        Ok(page) => page,
+        Err(number) => {
+            if fault("drive_sets_taken_on_refusal") {
+                *taken = 0;
+            }
+            return -number;
+        }
+    };
+    let allowance = if fault("drive_allowance_cut_to_16_bits") {
+        allowance & 65_535
+    } else {
+        allowance
+    };
+    // No fault that never rests may hang the run.
+    let capped = if planted().is_empty() {
+        allowance
+    } else {
+        allowance.min(2_000_000)
+    };
+    let mut driven = drive(&page, run, capped);
+    if fault("drive_count_one_more") {
+        driven.taken += 1;
+    }
+    if fault("drive_count_is_allowance") {
+        driven.taken = allowance;
+    }
+    if fault("drive_spent_when_just_enough") && driven.taken == allowance {
+        driven.rest = false;
+    }
+    *taken = driven.taken;
+    i32::from(driven.rest)
+}
+
+fn value(page_area: &[u16], run: &[u16], cond: u32) -> Result<Valued, Refusal> {
+    let page = check_areas(page_area, run)?;
+    let cond = usize::from(condition(&page, cond)?);
+    if run[3 * cond + 2] == NOT_REACHED_MARK && !fault("value_of_unreached") {
+        return Err(NOT_REACHED);
+    }
+    let rest = if fault("value_rest_of_one_condition") {
+        run[3 * cond + 2] != WAITING_MARK
+    } else {
+        run[..3 * usize::from(page.count)]
+            .chunks_exact(3)
+            .all(|entry| entry[2] != WAITING_MARK)
+    };
+    Ok(Valued {
+        low: run[3 * cond],
+        high: run[3 * cond + 1],
+        rest,
+    })
+}
+
+/// # Safety
+/// The slices and the out-parameters are valid and apart.
+#[no_mangle]
+pub unsafe extern "C" fn simjorad_value(
+    page: *const u16,
+    page_length: usize,
+    run: *const u16,
+    run_length: usize,
+    condition: u32,
+    low: *mut u16,
+    high: *mut u16,
+) -> i32 {
+    match value(lent(page, page_length), lent(run, run_length), condition) {
+        Ok(valued) => {
+            *low = valued.low;
+            *high = valued.high;
+            i32::from(valued.rest)
+        }
+        Err(number) => -number,
+    }
+}
+
+fn closed_call(
+    page_area: &[u16],
+    queries: &[u16],
+    scratch: &mut [u16],
+    answers: &mut [u16],
+) -> Result<(), Refusal> {
+    let page = sound_page(page_area).ok_or(PAGE_UNSOUND)?;
+    check_queries(&page, queries)?;
+    let needed = 6 * usize::from(page.count);
+    if scratch.len() < needed {
+        return Err(SCRATCH_SHORT);
+    }
+    if answers.len() < 2 * queries.len() {
+        if fault("short_answers_written") && !answers.is_empty() {
+            answers[0] ^= 1;
+        }
+        return Err(ANSWERS_SHORT);
+    }
+    let reading = closed_reading(&page);
+    if fault("scratch_half_zeroed") {
+        scratch[..needed / 2].fill(0);
+    } else if fault("scratch_zeroed_past_6c") {
+        let end = scratch.len().min(needed + 1);
+        scratch[..end].fill(0);
+    } else {
+        scratch[..needed].fill(0);
+    }
+    let mut queries = queries.to_vec();
+    if fault("answers_in_sorted_order") {
+        queries.sort_unstable();
+    }
+    for (at, query) in queries.iter().enumerate() {
+        answers[2 * at] = reading[usize::from(*query)].low;
+        answers[2 * at + 1] = reading[usize::from(*query)].high;
+    }
+    Ok(())
+}
+
+/// # Safety
+/// The slices are valid and apart.
+#[no_mangle]
+pub unsafe extern "C" fn simjorad_closed(
+    page: *const u16,
+    page_length: usize,
+    queries: *const u16,
+    queries_length: usize,
+    scratch: *mut u16,
+    scratch_length: usize,
+    answers: *mut u16,
+    answers_length: usize,
+) -> i32 {
+    let result = closed_call(
+        lent(page, page_length),
+        lent(queries, queries_length),
+        lent_mut(scratch, scratch_length),
+        lent_mut(answers, answers_length),
+    );
+    match result {
+        Ok(()) => 0,
+        Err(number) => -number,
+    }
+}
+
+/// Runs a tenth of the tests once per planted fault and tells which cases notice it; true if all are noticed.
+pub fn mutants() -> bool {
+    let program = std::env::current_exe().expect("the program knows its own place");
+    let (mut noticed, mut missed) = (0, 0);
+    for name in FAULTS {
+        let output = Command::new(&program)
+            .arg("quick")
+            .env("STANDIN_FAULT", name)
+            .output()
+            .expect("the program starts");
+        let text = String::from_utf8_lossy(&output.stdout).into_owned();
+        let failing: Vec<&str> = text
+            .lines()
+            .filter_map(|line| line.strip_prefix("FAILED "))
+            .filter_map(|line| line.split(':').next())
+            .collect();
+        if output.status.success() || failing.is_empty() {
+            missed += 1;
+            println!("FAILED {name}: no case notices the fault");
+        } else {
+            noticed += 1;
+            println!("ok {name} ({} cases, first {})", failing.len(), failing[0]);
+        }
+    }
+    println!("{noticed} passed, {missed} failed");
+    missed == 0
+}
