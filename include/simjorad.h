@@ -1,11 +1,13 @@
 /*
  * simjorad.h: the rule-page engine, for the controller of the arm processor.
  *
- * C99, nothing needed but stdint and stddef. Link with libcapi.a.
+ * C99, nothing needed but stdint and stddef. Link with libcapi.a, which asks the host for memcpy and memset only.
  *
  * A slice is a pointer and a count of ELEMENTS (not bytes). NULL with a count of 0 is a legal empty slice.
  * A call returns a result of 0 or more, or minus the number of its refusal. A refused call changes nothing
  * that was lent to it, and no out-parameter. No call keeps anything between calls, allocates or blocks.
+ *
+ * The stack given for each function was measured on x86-64 with the largest page (512 conditions, rules of eight literals).
  *
  * What no proof covers: these declarations, and the caller's duty that a slice which a call writes
  * (and each out-parameter) shares no number with another slice or out-parameter lent to that call.
@@ -53,18 +55,21 @@ extern "C" {
  * Read a page: the text becomes a page area. Returns the used length (4 or more), or minus 1, 2, 5, 3, 4 or 6.
  * On refusal *line becomes the line's number from 1 for 3, 4 and 5, and 0 for 1, 2 and 6; a page that is read leaves 0 there.
  * Writes the used length of area, and nothing of it on refusal.
+ * Stack: 336 bytes.
  */
 int32_t simjorad_read(const uint8_t *text, size_t text_length, uint16_t *area, size_t area_length, uint32_t *line);
 
 /*
  * Show a line: where line `number` (from 1) of the text starts, without its byte 10. Returns its length and sets *start;
  * for a line that is not there the length is 0. Never refuses; text_length may be any size.
+ * Stack: 16 bytes.
  */
 size_t simjorad_show_line(const uint8_t *text, size_t text_length, size_t number, size_t *start);
 
 /*
  * Open a run. Returns 0, or minus 10, 11, 12 or 13. Sets *reached to R, *edges to E and *bound to R + top * E.
  * Writes the first 3 * C numbers of run.
+ * Stack: 1,712 bytes.
  */
 int32_t simjorad_open(const uint16_t *page, size_t page_length, const uint16_t *queries, size_t queries_length,
                       uint16_t *run, size_t run_length, uint32_t *reached, uint32_t *edges, uint32_t *bound);
@@ -72,12 +77,15 @@ int32_t simjorad_open(const uint16_t *page, size_t page_length, const uint16_t *
 /*
  * Evaluate a condition that waits. Returns 1 if its interval changed, 0 if not, or minus 10, 14, 15 or 16.
  * Writes among the first 3 * C numbers of run.
+ * Stack: 282 bytes.
  */
 int32_t simjorad_evaluate(const uint16_t *page, size_t page_length, uint16_t *run, size_t run_length, uint32_t condition);
 
 /*
  * Drive: evaluates the lowest waiting condition until none waits or the allowance is used.
  * Returns 1 for rest, 0 for spent, or minus 10 or 14. Sets *taken to the evaluations taken.
+ * Writes among the first 3 * C numbers of run.
+ * Stack: 298 bytes.
  */
 int32_t simjorad_drive(const uint16_t *page, size_t page_length, uint16_t *run, size_t run_length, uint32_t allowance,
                        uint32_t *taken);
@@ -85,6 +93,7 @@ int32_t simjorad_drive(const uint16_t *page, size_t page_length, uint16_t *run, 
 /*
  * Value: the interval that a reached condition holds. Returns 1 if the whole run is at rest, 0 if not,
  * or minus 10, 14, 15 or 17. Sets *low and *high.
+ * Stack: 128 bytes.
  */
 int32_t simjorad_value(const uint16_t *page, size_t page_length, const uint16_t *run, size_t run_length, uint32_t condition,
                        uint16_t *low, uint16_t *high);
@@ -92,6 +101,7 @@ int32_t simjorad_value(const uint16_t *page, size_t page_length, const uint16_t 
 /*
  * Closed reading. Returns 0, or minus 10, 11, 12, 18 or 19. Writes low, high per query in list order to answers;
  * the first 6 * C numbers of scratch end as zero.
+ * Stack: 1,418 bytes.
  */
 int32_t simjorad_closed(const uint16_t *page, size_t page_length, const uint16_t *queries, size_t queries_length,
                         uint16_t *scratch, size_t scratch_length, uint16_t *answers, size_t answers_length);

@@ -107,13 +107,13 @@ module _ (I : Assign) (qs answers₀ : List ℕ) (long : 2 * length qs ≤ lengt
         ap length (s .is) ∙ length-append (ends I (take i qs)) (drop (2 * i) answers₀)
         ∙ omega (arith, length-ends (take i qs), length-take i qs, length-drop (2 * i) answers₀, s .in-list)
 
-    pub answering-next : i < length qs → Answering (set (set answers (2 * i) (I (getD qs i 0) .low)) (2 * i + 1) (I (getD qs i 0) .high)) (i + 1)
-    answering-next l =
+    pub answering-next : i < length qs → {answers′ : List ℕ} → answers′ ≡ set (set answers (2 * i) (I (getD qs i 0) .low)) (2 * i + 1) (I (getD qs i 0) .high) → Answering answers′ (i + 1)
+    answering-next l w =
         let q : ℕ = getD qs i 0 in
         let e : 2 * i + 2 ≡ 2 * (i + 1) = omega arith in
         record {
           in-list = omega arith;
-          is = ap (λ (t : List ℕ). set (set t (2 * i) (I q .low)) (2 * i + 1) (I q .high)) (s .is)
+          is = w ∙ ap (λ (t : List ℕ). set (set t (2 * i) (I q .low)) (2 * i + 1) (I q .high)) (s .is)
               ∙ two-stores (ends I (take i qs)) answers₀ (2 * i) (I q .low) (I q .high) (length-ends (take i qs) ∙ omega (arith, length-take i qs, s .in-list)) (omega arith)
               ∙ ap₂ {C = List ℕ} (λ x y. x ++ y) (sym (ap (ends I) (ap (λ (j : ℕ). take j qs) (add-one i) ∙ take-suc qs i 0 l) ∙ ends-append (take i qs) (q ∷ []))) (ap (λ (j : ℕ). drop j answers₀) e);
         }

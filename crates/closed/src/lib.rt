@@ -6,10 +6,11 @@ ghost use mathlib.Core.List.{map, _++_};
 ghost use Prim.Native.Nat.{ℕ, _≤_, _+_, _<_, _*_};
 ghost use lib.ListN.{length, getD, set, take, drop};
 ghost use Rattle.semantics.specs.Operation.{ends, zeros, ClosedOf};
-ghost use Rattle.semantics.specs.Area.{sound, pageOf, allUnder, kind, spanAs, literalOf, lineAt};
+ghost use Rattle.semantics.specs.Area.{sound, pageOf, allUnder, literalOf, lineAt};
 ghost use Rattle.worklist.specs.Marks.{marked};
 ghost use Rattle.semantics.specs.RunArea.{intervalAt, markAt};
 ghost use Rattle.page.specs.Graded.{Graded};
+ghost use Rattle.page.specs.Lines.{EntryIn};
 ghost use Rattle.closed.specs.Ends.{among, endOf};
 ghost use Rattle.closed.specs.Readers.{lineReads, ReadersMarked};
 ghost use Rattle.closed.specs.Settle.{flagAt, endPlace, Evaluated, SettleReady, Settled};
@@ -33,7 +34,7 @@ fn literals_have(a: &[u16], from: usize, m: u16, code: u16) -> bool
 
 // Whether the entry at `at` is a rule that has the literal `code`.
 fn entry_reads(a: &[u16], at: usize, code: u16) -> bool
-    requires { ⌜ at + spanAs (kind (getD (now a) (at + 1) 0)) (getD (now a) (at + 3) 0) ≤ length (now a) ⌝ }
+    requires { ⌜ EntryIn (now a) at ⌝ }
     ensures { λ r. ⌜ r ≡ lineReads code (lineAt (drop at (now (a .entry)))) ⌝ }
 {
     let k = a[at + 1];
@@ -45,7 +46,7 @@ fn entry_reads(a: &[u16], at: usize, code: u16) -> bool
 
 // The head of the entry at `at` waits if the entry is a rule that has the literal `code` and the head is reached.
 fn mark_reader(a: &[u16], at: usize, run: &mut [u16], code: u16)
-    requires { ⌜ at + spanAs (kind (getD (now a) (at + 1) 0)) (getD (now a) (at + 3) 0) ≤ length (now a) ⌝ }
+    requires { ⌜ EntryIn (now a) at ⌝ }
     requires { ⌜ 3 * getD (now a) at 0 + 3 ≤ length (now run) ⌝ }
     ensures { λ r. ⌜ now (run .exit) ≡ cond (lineReads code (lineAt (drop at (now (a .entry))))) (marked (getD (now (a .entry)) at 0) (now (run .entry))) (now (run .entry)) ⌝ }
 {
@@ -61,12 +62,11 @@ fn mark_readers(a: &[u16], run: &mut [u16], code: u16)
     ensures { λ r. ⌜ ReadersMarked (pageOf (now (a .entry))) code (now (run .entry)) (now (run .exit)) ⌝ }
 {
     let count = a[2];
-    let mut at: usize = 4;
-    let mut k: u16 = 0;
-    while k < count {
+    let mut line = page::Cursor::first();
+    while line.passed < count {
+        let at = line.at;
         mark_reader(a, at, run, code);
-        at += page::span_of(a[at + 1], a[at + 3]);
-        k += 1;
+        line = line.next(a);
     }
 }
 
@@ -248,6 +248,16 @@ fn solve(a: &[u16], queries: &[u16], run: &mut [u16])
     alternate(a, run);
 }
 
+// Low and high of the condition q, as the answer to the query i.
+fn write_answer(run: &[u16], q: u16, answers: &mut [u16], i: usize)
+    requires { ⌜ (3 * q + 1 < length (now run)) × (2 * i + 1 < length (now answers)) ⌝ }
+    ensures { λ r. ⌜ now (answers .exit) ≡ set (set (now (answers .entry)) (2 * i) (intervalAt (now (run .entry)) q .low)) (2 * i + 1) (intervalAt (now (run .entry)) q .high) ⌝ }
+{
+    let at = 3 * q as usize;
+    answers[2 * i] = run[at];
+    answers[2 * i + 1] = run[at + 1];
+}
+
 // Low and high of each query, in list order.
 fn write_answers(run: &[u16], queries: &[u16], answers: &mut [u16])
     requires { ⌜ ((k : ℕ) → k < length (now queries) → 3 * getD (now queries) k 0 + 1 < length (now run)) × (2 * length (now queries) ≤ length (now answers)) ⌝ }
@@ -255,9 +265,7 @@ fn write_answers(run: &[u16], queries: &[u16], answers: &mut [u16])
 {
     let mut i: usize = 0;
     while i < queries.len() {
-        let at = 3 * queries[i] as usize;
-        answers[2 * i] = run[at];
-        answers[2 * i + 1] = run[at + 1];
+        write_answer(run, queries[i], answers, i);
         i += 1;
     }
 }

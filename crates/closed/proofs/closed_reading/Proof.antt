@@ -13,19 +13,16 @@ use Rattle.closed.proofs.closed_reading.Statement.{statement}
 use Rattle.closed.proofs.closed_reading.Tie as tie
 
 -- what the tests that passed say
-start₁ : tie.Else1 → tie.Start
-start₁ d = d .before .before .before .before .before .before
+abbrev start : tie.Else1 → tie.Start
+start d = d .before .before .before .before .before .before
 
-is-sound : (d : tie.Else1) → sound (start₁ d .args .page .now) ≡ true
-unfolding start₁
+is-sound : (d : tie.Else1) → sound (start d .args .page .now) ≡ true
 is-sound d = sym (d .before .page-sound .ensures) ∙ not-false _ (d .if1 .left)
 
-is-few : (d : tie.Else2) → (leb 1 (length (start₁ (d .before .before) .args .queries .now)) && leb (length (start₁ (d .before .before) .args .queries .now)) 16) ≡ true
-unfolding start₁
+is-few : (d : tie.Else2) → (leb 1 (length (start (d .before .before) .args .queries .now)) && leb (length (start (d .before .before) .args .queries .now)) 16) ≡ true
 is-few d = sym (d .before .count-ok .ensures) ∙ not-false _ (d .if2 .left)
 
-is-under : (d : tie.Else3) → allUnder (conditionsOf (start₁ (d .before .before .before .before .before) .args .page .now)) (start₁ (d .before .before .before .before .before) .args .queries .now) ≡ true
-unfolding start₁
+is-under : (d : tie.Else3) → allUnder (conditionsOf (start (d .before .before .before .before .before) .args .page .now)) (start (d .before .before .before .before .before) .args .queries .now) ≡ true
 is-under d = sym (d .before .all-below .ensures) ∙ not-false _ (d .if3 .left)
 
 page-sound-requires : tie.Need-page-sound-requires
@@ -38,41 +35,40 @@ count-ok-requires : tie.Need-count-ok-requires
 count-ok-requires c κs = search needs
 
 returns-2 : tie.Need-returns-2
-returns-2 c = unfold start₁ in refused-11 _ _ _ _ (is-sound (c .before .before)) (sym (c .before .count-ok .ensures) ∙ not-true _ (c .if2 .taken))
+returns-2 c = refused-11 _ _ _ _ (is-sound (c .before .before)) (sym (c .before .count-ok .ensures) ∙ not-true _ (c .if2 .taken))
 
 shared-slice-read-n : tie.Need-shared-slice-read-n
-shared-slice-read-n c = unfold start₁ in omega (arith, head-of (c .before .before .before .before .before .before .before .before .before .args .page .now) (is-sound (c .before .before .before)))
+shared-slice-read-n c = omega (arith, head-of (c .before .before .before .before .before .before .before .before .before .args .page .now) (is-sound (c .before .before .before)))
 
 all-below-requires : tie.Need-all-below-requires
 all-below-requires c κs = search needs
 
 returns-3 : tie.Need-returns-3
-returns-3 c = unfold start₁ in refused-12 _ _ _ _ (is-sound (c .before .before .before .before .before)) (is-few (c .before .before .before)) (sym (c .before .all-below .ensures) ∙ not-true _ (c .if3 .taken))
+returns-3 c = refused-12 _ _ _ _ (is-sound (c .before .before .before .before .before)) (is-few (c .before .before .before)) (sym (c .before .all-below .ensures) ∙ not-true _ (c .if3 .taken))
 
 cast-size : tie.Need-cast-size
-cast-size c = unfold start₁ in omega (arith, head-of (c .before .before .before .before .before .before .before .before .before .before .before .args .page .now) (is-sound (c .before .before .before .before .before)))
+cast-size c = omega (arith, head-of (c .before .before .before .before .before .before .before .before .before .before .before .args .page .now) (is-sound (c .before .before .before .before .before)))
 
 mul-size : tie.Need-mul-size
-mul-size c = unfold start₁ in omega (arith, head-of (c .before .before .before .before .before .before .before .before .before .before .before .args .page .now) (is-sound (c .before .before .before .before .before)))
+mul-size c = omega (arith, head-of (c .before .before .before .before .before .before .before .before .before .before .before .args .page .now) (is-sound (c .before .before .before .before .before)))
 
 returns-4 : tie.Need-returns-4
-returns-4 c = unfold start₁ in refused-18 _ _ _ _ (is-sound (c .before .before .before .before .before .before)) (is-few (c .before .before .before .before)) (is-under (c .before)) (c .if4 .taken)
+returns-4 c = refused-18 _ _ _ _ (is-sound (c .before .before .before .before .before .before)) (is-few (c .before .before .before .before)) (is-under (c .before)) (c .if4 .taken)
 
 mul-if5 : tie.Need-mul-if5
 mul-if5 c = search needs
 
 returns-5 : tie.Need-returns-5
-returns-5 c = unfold start₁ in refused-19 _ _ _ _ (is-sound (c .before .before .before .before .before .before .before)) (is-few (c .before .before .before .before .before)) (is-under (c .before .before)) (c .before .if4 .left) (c .if5 .taken)
+returns-5 c = refused-19 _ _ _ _ (is-sound (c .before .before .before .before .before .before .before)) (is-few (c .before .before .before .before .before)) (is-under (c .before .before)) (c .before .if4 .left) (c .if5 .taken)
 
 solve-requires : tie.Need-solve-requires
-solve-requires c κs = unfold start₁ in (is-sound (c .before .before .before .before .before .before .before .before), is-under (c .before .before .before), omega (arith, c .before .before .if4 .left))
+solve-requires c κs = (is-sound (c .before .before .before .before .before .before .before .before), is-under (c .before .before .before), omega (arith, c .before .before .if4 .left))
 
 write-answers-requires : tie.Need-write-answers-requires
-write-answers-requires c κs =
-    unfold start₁ in (
-      λ k l. omega (arith, under-at _ _ (is-under (c .before .before .before .before .before .before .before .before)) k l, c .before .before .before .before .before .before .before .if4 .left, c .before .before .before .before .solve .ensures .same-length),
-      c .before .before .before .before .before .before .if5 .left,
-    )
+write-answers-requires c κs = (
+  λ k l. omega (arith, under-at _ _ (is-under (c .before .before .before .before .before .before .before .before)) k l, c .before .before .before .before .before .before .before .if4 .left, c .before .before .before .before .solve .ensures .same-length),
+  c .before .before .before .before .before .before .if5 .left,
+)
 
 clear-requires : tie.Need-clear-requires
 clear-requires c κs = search needs
@@ -84,7 +80,7 @@ same-length-2 : tie.Need-same-length-2
 same-length-2 c = search needs
 
 returns-6 : tie.Need-returns-6
-returns-6 c = unfold start₁ in accepted _ _ _ _ (is-sound (c .before .before .before .before .before .before .before .before .before .before .before .before .before .before .before .before .before .before .before .before)) (is-few (c .before .before .before .before .before .before .before .before .before .before .before .before .before .before .before .before .before .before)) (is-under (c .before .before .before .before .before .before .before .before .before .before .before .before .before .before .before)) (c .before .before .before .before .before .before .before .before .before .before .before .before .before .before .if4 .left) (c .before .before .before .before .before .before .before .before .before .before .before .before .before .if5 .left) (c .before .before .before .before .before .before .before .before .before .before .before .solve .ensures) (c .before .before .before .before .before .before .write-answers .ensures) (c .before .before .clear .ensures)
+returns-6 c = accepted _ _ _ _ (is-sound (c .before .before .before .before .before .before .before .before .before .before .before .before .before .before .before .before .before .before .before .before)) (is-few (c .before .before .before .before .before .before .before .before .before .before .before .before .before .before .before .before .before .before)) (is-under (c .before .before .before .before .before .before .before .before .before .before .before .before .before .before .before)) (c .before .before .before .before .before .before .before .before .before .before .before .before .before .before .if4 .left) (c .before .before .before .before .before .before .before .before .before .before .before .before .before .if5 .left) (c .before .before .before .before .before .before .before .before .before .before .before .solve .ensures) (c .before .before .before .before .before .before .write-answers .ensures) (c .before .before .clear .ensures)
 
 pub closed-reading-spec : {M : Type 1} → statement M
 closed-reading-spec =

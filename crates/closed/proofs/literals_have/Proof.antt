@@ -1,18 +1,19 @@
 -- `closed::literals_have` meets its contract. The loop's invariant: no literal passed is `code`. Assumes nothing.
 use Prim.Native.Nat.{_-_}
 use native.Mathlib.Omega.{arith}
-use Rattle.closed.proofs.Reading.{Looking, looking-first, looking-found, looking-next, looking-last}
+use Rattle.page.proofs.Scan.{Remaining, remaining-first}
+use Rattle.closed.proofs.Reading.{codesHave, codes-found, codes-next, codes-last}
 use Rattle.closed.proofs.literals_have.Statement.{statement}
 use Rattle.closed.proofs.literals_have.Tie as tie
 
 abbrev Inv-loop : tie.InvT-loop
-Inv-loop a from m code j₀ j = Looking a from m code j
+Inv-loop a from m code j₀ j = Remaining (codesHave code) a from m j
 
 abbrev μ-loop : tie.MeasureT-loop
 μ-loop a from m code j₀ j = m - j
 
 loop-holds : tie.Need-loop-holds Inv-loop μ-loop
-loop-holds c = looking-first _ _ _ _ (c .pre)
+loop-holds c = remaining-first _ _ _ _ (c .pre)
 
 cast-if1 : tie.Need-cast-if1 Inv-loop μ-loop
 cast-if1 c = omega arith
@@ -27,7 +28,7 @@ shared-slice-read-if1 : tie.Need-shared-slice-read-if1 Inv-loop μ-loop
 shared-slice-read-if1 c = omega arith
 
 returns : tie.Need-returns Inv-loop μ-loop
-returns c = looking-found _ _ _ _ (c .before .before .before .loop .inv) (omega arith) (c .if1 .taken)
+returns c = codes-found _ _ _ _ (c .before .before .before .loop .inv) (omega arith) (c .if1 .taken)
 
 add-j : tie.Need-add-j Inv-loop μ-loop
 add-j c = omega arith
@@ -36,10 +37,10 @@ loop-less : tie.Need-loop-less Inv-loop μ-loop
 loop-less c = omega arith
 
 loop-again : tie.Need-loop-again Inv-loop μ-loop
-loop-again c = looking-next _ _ _ _ (c .before .before .before .loop .inv) (omega arith) (c .if1 .left)
+loop-again c = codes-next _ _ _ _ (c .before .before .before .loop .inv) (omega arith) (c .if1 .left)
 
 returns-2 : tie.Need-returns-2 Inv-loop μ-loop
-returns-2 c = looking-last _ _ _ _ (c .before .loop .inv) (omega arith)
+returns-2 c = codes-last _ _ _ _ (c .before .loop .inv) (omega arith)
 
 pub literals-have-spec : {M : Type 1} → statement M
 literals-have-spec =

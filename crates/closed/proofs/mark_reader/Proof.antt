@@ -1,11 +1,6 @@
 -- `closed::mark_reader` meets its contract. Assumes nothing.
 use mathlib.Core.Path.{sym, _∙_}
-use Prim.Native.Nat.{_+_}
-use native.Mathlib.Omega.{arith}
-use lib.ListN.{getD}
 use borrow.Author.Needs.{needs}
-use Rattle.semantics.specs.Area.{kind}
-use Rattle.page.proofs.Scan.{span-four}
 use Rattle.closed.proofs.mark_reader.Statement.{statement}
 use Rattle.closed.proofs.mark_reader.Tie as tie
 
@@ -16,9 +11,7 @@ mul-mark-waiting : tie.Need-mul-mark-waiting
 mul-mark-waiting c = search needs
 
 shared-slice-read-mark-waiting : tie.Need-shared-slice-read-mark-waiting
-shared-slice-read-mark-waiting c =
-    let z = c .before .before .before .before .before .before .args in
-    omega (arith, span-four (kind (getD (z .a .now) (z .at + 1) 0)) (getD (z .a .now) (z .at + 3) 0))
+shared-slice-read-mark-waiting c = search needs
 
 mark-waiting-requires : tie.Need-mark-waiting-requires
 mark-waiting-requires c κs = search needs

@@ -58,12 +58,18 @@ slice-write-run : tie.Need-slice-write-run Inv-loop μ-loop
 slice-write-run c = omega (arith, c .before .before .before .before .before .before .before .before .before .before .before .before .pre .long, c .before .before .before .before .before .before .loop .inv .1 .steady .same-length, c .before .before .before .evaluate-end .ensures .steady .same-length)
 
 -- a turn: the state is held, and what is left to do falls
+abbrev start : tie.Joined1 Inv-loop μ-loop → tie.Start Inv-loop μ-loop
+start j = j .before .before .before .before .before .before .before .before .before .before .before .before
+
+abbrev at-loop : tie.Joined1 Inv-loop μ-loop → tie.At-loop Inv-loop μ-loop
+at-loop j = j .before .before .before .before .before .before
+
 turned : (j : tie.Joined1 Inv-loop μ-loop)
-    → Settling (j .before .before .before .before .before .before .before .before .before .before .before .before .args .a .now) (j .before .before .before .before .before .before .before .before .before .before .before .before .args .high) (j .before .before .before .before .before .before .before .before .before .before .before .before .args .run .now) (j .before .before .before .before .before .before .loop .inv .0) (j .if1 .run) (j .if1 .changed)
-    × (left (pageOf (j .before .before .before .before .before .before .before .before .before .before .before .before .args .a .now)) (j .before .before .before .before .before .before .before .before .before .before .before .before .args .high) (j .before .before .before .before .before .before .before .before .before .before .before .before .args .run .now) (j .if1 .run)
-    < left (pageOf (j .before .before .before .before .before .before .before .before .before .before .before .before .args .a .now)) (j .before .before .before .before .before .before .before .before .before .before .before .before .args .high) (j .before .before .before .before .before .before .before .before .before .before .before .before .args .run .now) (j .before .before .before .before .before .before .loop .run))
+    → Settling (start j .args .a .now) (start j .args .high) (start j .args .run .now) (at-loop j .loop .inv .0) (j .if1 .run) (j .if1 .changed)
+    × (left (pageOf (start j .args .a .now)) (start j .args .high) (start j .args .run .now) (j .if1 .run)
+    < left (pageOf (start j .args .a .now)) (start j .args .high) (start j .args .run .now) (at-loop j .loop .run))
 turned j =
-    let l = j .before .before .before .before .before .before .loop in
+    let l = at-loop j .loop in
     let m = j .before .before .before .before .before .loop-test .taken in
     let v = j .before .before .before .evaluate-end .ensures in
     ⊎-elim

@@ -1,0 +1,130 @@
+/* Shared by scan.c and indexed.c: limits, kinds of lines, soundness of areas and query lists, one end of a rule. */
+#ifndef COMMON_H
+#define COMMON_H
+
+#include <stddef.h>
+#include <stdint.h>
+
+enum {
+    TOP_MAX = 200,
+    CONDITIONS_MAX = 512,
+    LINES_MAX = 1024,
+    LITERALS_MAX = 8,
+    QUERIES_MAX = 16,
+    TEXT_MAX = 65535,
+    HEAD = 4,                                           /* top, C, lines, used length */
+    PAGE_MAX = HEAD + LINES_MAX * (4 + LITERALS_MAX),
+    WORDS_MAX = CONDITIONS_MAX / 64
+};
+
+/* The kind of a line, its second number. */
+enum { FACT, RULE_M, RULE_X, RULE_L, RULE_B, RULE_P, QUERY };
+
+static inline int is_rule(const uint16_t *line)
+{
+    return line[1] - 1u < RULE_P;
+}
+
+/* The line after this one. */
+static inline const uint16_t *next_line(const uint16_t *line)
+{
+    return line + 4 + (is_rule(line) ? line[3] : 0);
+}
+
+static inline int page_sound(const uint16_t *page, size_t length)
+{
+    unsigned top, count, lines, used, i, n;
+    const uint16_t *p, *end;
+
+    if (length < HEAD)
+        return 0;
+    top = page[0], count = page[1], lines = page[2], used = page[3];
+    if (top - 1 >= TOP_MAX || count - 1 >= CONDITIONS_MAX || lines > LINES_MAX || used < HEAD || used > length)
+        return 0;
+    p = page + HEAD;
+    end = page + used;
+    for (; lines > 0; lines--) {
+        if (end - p < 4 || p[0] >= count || p[1] > QUERY)
+            return 0;
+        if (is_rule(p)) {
+            n = p[3];
+            if (p[2] - 1u >= top || n - 1u >= LITERALS_MAX || (unsigned)(end - p) < 4 + n)
+                return 0;
+            p += 4;
+            for (i = 0; i < n; i++)
+                if (p[i] >= 2 * count)
+                    return 0;
+            p += n;
+        } else {
+            if (p[1] == FACT ? p[2] > p[3] || p[3] > top : p[2] > 1 || p[3] != 0)
+                return 0;
+            p += 4;
+        }
+    }
+    return p == end;
+}
+
+static inline int run_sound(const uint16_t *run, size_t length, unsigned top, unsigned count)
+{
+    const uint16_t *end;
+
+    if (length < 3 * count)
+        return 0;
+    for (end = run + 3 * count; run < end; run += 3)
+        if (run[0] > run[1] || run[1] > top || run[2] > 2 || (run[2] == 0 && (run[0] != 0 || run[1] != top)))
+            return 0;
+    return 1;
+}
+
+/* 0, or the refusal 11 or 12. */
+static inline int queries_fault(const uint16_t *queries, size_t length, unsigned count)
+{
+    size_t i;
+
+    if (length < 1 || length > QUERIES_MAX)
+        return 11;
+    for (i = 0; i < length; i++)
+        if (queries[i] >= count)
+            return 12;
+    return 0;
+}
+
+/* One end of a rule, given that end of every literal. */
+static inline unsigned rule_end(const uint16_t *rule, const uint16_t *value, unsigned top)
+{
+    const uint16_t *p = rule + 4, *end = p + rule[3];
+    unsigned v = value[*p++], w;
+
+    switch (rule[1]) {
+    case RULE_M:
+        for (; p < end; p++) {
+            w = value[*p];
+            v = w < v ? w : v;
+        }
+        break;
+    case RULE_X:
+        for (; p < end; p++) {
+            w = value[*p];
+            v = w > v ? w : v;
+        }
+        break;
+    case RULE_L:
+        for (; p < end; p++) {
+            v += value[*p];
+            v = v > top ? v - top : 0;
+        }
+        break;
+    case RULE_B:
+        for (; p < end; p++) {
+            v += value[*p];
+            v = v < top ? v : top;
+        }
+        break;
+    default:
+        for (; p < end; p++)
+            v = v * value[*p] / top;
+    }
+    return v * rule[2] / top;
+}
+
+#endif
