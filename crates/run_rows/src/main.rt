@@ -12,7 +12,7 @@ fn show(word: &[u8], number: u32) {
 
 fn show_drive(answer: DriveAnswer) {
     match answer {
-        DriveAnswer::Refused(number) => show(b"refused,", number),
+        DriveAnswer::Refused(number) => show(b"refused,", number as u32),
         DriveAnswer::Rest(taken) => show(b"rest,", taken),
         DriveAnswer::Spent(taken) => show(b"spent,", taken),
     }
@@ -20,7 +20,7 @@ fn show_drive(answer: DriveAnswer) {
 
 fn show_evaluate(answer: EvaluateAnswer) {
     match answer {
-        EvaluateAnswer::Refused(number) => show(b"refused,", number),
+        EvaluateAnswer::Refused(number) => show(b"refused,", number as u32),
         EvaluateAnswer::Unchanged => show(b"unchanged,", 0),
         EvaluateAnswer::Changed => show(b"changed,", 1),
     }
@@ -28,7 +28,7 @@ fn show_evaluate(answer: EvaluateAnswer) {
 
 fn show_value(answer: ValueAnswer) {
     match answer {
-        ValueAnswer::Refused(number) => show(b"refused,", number),
+        ValueAnswer::Refused(number) => show(b"refused,", number as u32),
         ValueAnswer::Held { low, high, rest } => {
             io::print_decimal(STDOUT_FILENO, low as u64);
             io::write_all(STDOUT_FILENO, b";");
