@@ -2,7 +2,7 @@
 use mathlib.Core.Path.{_≡_, refl, sym, _∙_, ap}
 use mathlib.Core.Bool.{true, not}
 use mathlib.Core.List.{List, [], _∷_}
-use mathlib.Core.Option.{none}
+use mathlib.Core.Option.{Option, none}
 use Prim.Native.Nat.{ℕ, _*_, _≤_, _<_}
 use native.Mathlib.Omega.{arith}
 use lib.Dec.{leb}
@@ -28,10 +28,10 @@ module _ (a : List ℕ) (ok : sound a ≡ true) (c : ℕ) (l : c < conditionsOf 
   unfolding pageOf
   accepted = first-behind a (c ∷ []) behind ok refl (asked (conditionsOf a) c l) ∙ rw (le-leb (6 * conditionsOf a) (length s) long, le-leb 2 (length w) room)
 
-  pub closed-holds : (code : ℕ) (s′ w′ : List ℕ) → ClosedOf code a (c ∷ []) s w s′ w′ → Reads (IsClosed (pageOf a)) c (record { low = getD w′ 0 0; high = getD w′ 1 0 })
+  pub closed-holds : (answer : Option ℕ) (s′ w′ : List ℕ) → ClosedOf answer a (c ∷ []) s w s′ w′ → Reads (IsClosed (pageOf a)) c (record { low = getD w′ 0 0; high = getD w′ 1 0 })
   unfolding ClosedOf
-  closed-holds code s′ w′ h =
-      let r : ClosedAs none code a (c ∷ []) s w s′ w′ = rw accepted at h in
+  closed-holds answer s′ w′ h =
+      let r : ClosedAs none answer a (c ∷ []) s w s′ w′ = rw accepted at h in
       let e : _≡_ {A = Interval} (record { low = getD w′ 0 0; high = getD w′ 1 0 }) (r .1 .reading c) =
       ap (λ (q : List ℕ). record { low = getD q 0 0; high = getD q 1 0 }) (r .1 .written) in
       record {

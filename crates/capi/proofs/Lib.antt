@@ -1,4 +1,4 @@
 -- signed codes, read back from their bits
 pub mod Signs
--- the number of the closed reading's answer
-pub mod ClosedNumber
+-- the one answer of the closed reading
+pub mod ClosedRefusal

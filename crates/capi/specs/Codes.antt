@@ -66,10 +66,11 @@ abbrev pub lineCode : ReadAnswer → ℕ
 lineCode (refusedPage number line) = line
 lineCode (readPage used) = 0
 
--- closed reading: the refusal's number, or 0
-abbrev pub numberOr : Option ℕ → ℕ
-numberOr (some k) = k
-numberOr none = 0
+-- closed reading: minus the refusal number, or 0
+abbrev pub closedCode : Option ℕ → ℤ
+closedCode (some k) = minus k
+closedCode none = pos 0
 
-unfoldable pub closedNumber : (page queries scratch answers : List ℕ) → ℕ
-closedNumber a qs scratch answers = numberOr (firstOf (closedCauses a qs scratch answers))
+-- the number of the closed reading's refusal, or none where the call does its work
+unfoldable pub closedRefusal : (page queries scratch answers : List ℕ) → Option ℕ
+closedRefusal a qs scratch answers = firstOf (closedCauses a qs scratch answers)

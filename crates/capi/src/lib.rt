@@ -5,7 +5,7 @@ ghost use lib.ListN.{length, take, drop};
 ghost use Rattle.semantics.specs.ReadPage.{readOf, lineOf, startOf};
 ghost use Rattle.semantics.specs.Operation.{openOf, evaluateOf, driveOf, valueOf, ClosedOf};
 ghost use Rattle.run.specs.Answers.{statusIf};
-ghost use Rattle.capi.specs.Codes.{minus as Codes·minus, statusCode, answerCode, takenOr, intervalOr, openCode, countsOr, readCode, lineCode, closedNumber};
+ghost use Rattle.capi.specs.Codes.{minus as Codes·minus, statusCode, answerCode, takenOr, intervalOr, openCode, countsOr, readCode, lineCode, closedCode, closedRefusal};
 
 // Minus the number of a refusal.
 fn minus(number: u8) -> i32
@@ -158,8 +158,8 @@ pub extern "C" fn simjorad_closed(
     scratch: &mut [u16],
     answers: &mut [u16],
 ) -> i32
-    ensures code { λ r. ⌜ r ≡ Codes·minus (closedNumber (now (page .entry)) (now (queries .entry)) (now (scratch .entry)) (now (answers .entry))) ⌝ }
-    ensures areas { λ _. ⌜ ClosedOf (closedNumber (now (page .entry)) (now (queries .entry)) (now (scratch .entry)) (now (answers .entry))) (now (page .entry)) (now (queries .entry)) (now (scratch .entry)) (now (answers .entry)) (now (scratch .exit)) (now (answers .exit)) ⌝ }
+    ensures code { λ r. ⌜ r ≡ closedCode (closedRefusal (now (page .entry)) (now (queries .entry)) (now (scratch .entry)) (now (answers .entry))) ⌝ }
+    ensures areas { λ _. ⌜ ClosedOf (closedRefusal (now (page .entry)) (now (queries .entry)) (now (scratch .entry)) (now (answers .entry))) (now (page .entry)) (now (queries .entry)) (now (scratch .entry)) (now (answers .entry)) (now (scratch .exit)) (now (answers .exit)) ⌝ }
 {
     let answer = closed::closed_reading(page, queries, scratch, answers);
     match answer {

@@ -3,6 +3,7 @@ use mathlib.Core.Path.{_≡_, refl, sym, _∙_, ap, ap₂, subst}
 use mathlib.Core.Bool.{Bool, true, false, _&&_, true≢false, or-true}
 use mathlib.Core.Logic.{inl, inr}
 use mathlib.Core.List.{List, [], _∷_, _++_, append-assoc}
+use mathlib.Core.Option.{none, some}
 use Prim.Native.Nat.{ℕ, zero, suc, _+_, _*_, _≤_, _<_}
 use native.Mathlib.Numerals.{add-one}
 use native.Mathlib.Omega.{arith}
@@ -155,27 +156,27 @@ ends-same I J (q ∷ qs) h =
 
 -- the refusals, and the work
 module _ (a qs s w : List ℕ) where
-  pub refused-10 : sound a ≡ false → ClosedOf 10 a qs s w s w
+  pub refused-10 : sound a ≡ false → ClosedOf (some 10) a qs s w s w
   unfolding ClosedOf
   refused-10 e = rw e (refl, refl, refl)
 
   module _ (ok : sound a ≡ true) where
-    pub refused-11 : (leb 1 (length qs) && leb (length qs) 16) ≡ false → ClosedOf 11 a qs s w s w
+    pub refused-11 : (leb 1 (length qs) && leb (length qs) 16) ≡ false → ClosedOf (some 11) a qs s w s w
     unfolding ClosedOf
     refused-11 e = rw (ok, e) (refl, refl, refl)
 
     module _ (few : (leb 1 (length qs) && leb (length qs) 16) ≡ true) where
-      pub refused-12 : allUnder (conditionsOf a) qs ≡ false → ClosedOf 12 a qs s w s w
+      pub refused-12 : allUnder (conditionsOf a) qs ≡ false → ClosedOf (some 12) a qs s w s w
       unfolding ClosedOf
       refused-12 e = rw (ok, few, conditions-is a, e) (refl, refl, refl)
 
       module _ (under : allUnder (conditionsOf a) qs ≡ true) where
-        pub refused-18 : length s < 6 * conditionsOf a → ClosedOf 18 a qs s w s w
+        pub refused-18 : length s < 6 * conditionsOf a → ClosedOf (some 18) a qs s w s w
         unfolding ClosedOf
         refused-18 l = rw (ok, few, conditions-is a, under, lt-leb (6 * conditionsOf a) (length s) l) (refl, refl, refl)
 
         module _ (long : 6 * conditionsOf a ≤ length s) where
-          pub refused-19 : length w < 2 * length qs → ClosedOf 19 a qs s w s w
+          pub refused-19 : length w < 2 * length qs → ClosedOf (some 19) a qs s w s w
           unfolding ClosedOf
           refused-19 l = rw (ok, few, conditions-is a, under, le-leb (6 * conditionsOf a) (length s) long, lt-leb (2 * length qs) (length w) l) (refl, refl, refl)
 
@@ -202,6 +203,6 @@ module _ (a qs s w : List ℕ) where
                   cleared = rw (conditions-is a) (cleared ∙ ap (λ (t : List ℕ). zeros (6 * conditionsOf a) ++ t) rest);
                 }
 
-            pub accepted : ClosedOf 0 a qs s w s′ w′
+            pub accepted : ClosedOf none a qs s w s′ w′
             unfolding ClosedOf
             accepted = rw (ok, few, conditions-is a, under, le-leb (6 * conditionsOf a) (length s) long, le-leb (2 * length qs) (length w) room) (refl, answers)

@@ -15,7 +15,7 @@ ghost use Rattle.closed.specs.Ends.{among, endOf};
 ghost use Rattle.closed.specs.Readers.{lineReads, ReadersMarked};
 ghost use Rattle.closed.specs.Settle.{flagAt, endPlace, Evaluated, SettleReady, Settled};
 ghost use Rattle.closed.specs.Round.{AllWaiting, WokenFrom, Woken, Unflagged, Reset, Restarted, RoundsBegin, RoundDone, Rounded, Alternated, Solved};
-ghost use Rattle.closed.specs.Answer.{codeOf};
+ghost use Rattle.closed.specs.Answer.{refusalOf};
 
 // Whether the literal `code` is one of the m literals from `from` on.
 fn literals_have(a: &[u16], from: usize, m: u16, code: u16) -> bool
@@ -295,7 +295,7 @@ pub fn closed_reading(
     scratch: &mut [u16],
     answers: &mut [u16],
 ) -> ClosedAnswer
-    ensures { λ r. ⌜ ClosedOf (codeOf r) (now (page .entry)) (now (queries .entry)) (now (scratch .entry)) (now (answers .entry)) (now (scratch .exit)) (now (answers .exit)) ⌝ }
+    ensures { λ r. ⌜ ClosedOf (refusalOf r) (now (page .entry)) (now (queries .entry)) (now (scratch .entry)) (now (answers .entry)) (now (scratch .exit)) (now (answers .exit)) ⌝ }
 {
     if !page::page_sound(page) {
         return ClosedAnswer::Refused(10);

@@ -109,13 +109,13 @@ ends-same n C D h (q ∷ qs) u =
     let b = both-true (ltb q n) (allUnder n qs) u in
     ap₂ {C = List ℕ} (λ (p : Interval) (l : List ℕ). p .low ∷ p .high ∷ l) (h q (ltb-true q n (b .0))) (ends-same n C D h qs (b .1))
 
-pub closed-call-one : (code code′ : ℕ) (a qs s w s₁ w₁ s₂ w₂ : List ℕ) → ClosedOf code a qs s w s₁ w₁ → ClosedOf code′ a qs s w s₂ w₂
-    → (code ≡ code′) × (s₁ ≡ s₂) × (w₁ ≡ w₂)
+pub closed-call-one : (answer answer′ : Option ℕ) (a qs s w s₁ w₁ s₂ w₂ : List ℕ) → ClosedOf answer a qs s w s₁ w₁ → ClosedOf answer′ a qs s w s₂ w₂
+    → (answer ≡ answer′) × (s₁ ≡ s₂) × (w₁ ≡ w₂)
 unfolding ClosedOf
-closed-call-one code code′ a qs s w s₁ w₁ s₂ w₂ p q = go (firstOf (closedCauses a qs s w)) refl p q
+closed-call-one answer answer′ a qs s w s₁ w₁ s₂ w₂ p q = go (firstOf (closedCauses a qs s w)) refl p q
   where
-    go : (o : Option ℕ) → firstOf (closedCauses a qs s w) ≡ o → ClosedAs o code a qs s w s₁ w₁ → ClosedAs o code′ a qs s w s₂ w₂
-        → (code ≡ code′) × (s₁ ≡ s₂) × (w₁ ≡ w₂)
+    go : (o : Option ℕ) → firstOf (closedCauses a qs s w) ≡ o → ClosedAs o answer a qs s w s₁ w₁ → ClosedAs o answer′ a qs s w s₂ w₂
+        → (answer ≡ answer′) × (s₁ ≡ s₂) × (w₁ ≡ w₂)
     go (some k) e p q = (p .0 ∙ sym (q .0), p .1 ∙ sym (q .1), p .2 ∙ sym (q .2))
     go none e p q =
         let h = no-cause-holds (closedCauses a qs s w) e in

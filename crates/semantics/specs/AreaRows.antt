@@ -2,6 +2,7 @@
 -- (`area-bench`). Assumes nothing.
 use mathlib.Core.Path.{_≡_}
 use mathlib.Core.List.{List, [], _∷_}
+use mathlib.Core.Option.{Option, none, some}
 use Prim.Native.Nat.{ℕ}
 use Rattle.fixpoint.specs.Interval.{Interval}
 use Rattle.semantics.specs.Worklist.{rest, spent}
@@ -14,13 +15,13 @@ pub data AreaRow : Type 0 where
   opensOn : (area queries run : List ℕ) → Opening → (left : List ℕ) → AreaRow
   -- a call: its answer, and the run area that it leaves
   callsOn : (area run : List ℕ) → Call → Answer → (left : List ℕ) → AreaRow
-  -- a closed reading: 0 or the refusal, and what it leaves in scratch and answers
-  closesOn : (area queries scratch answers : List ℕ) → (code : ℕ) → (scratch′ answers′ : List ℕ) → AreaRow
+  -- a closed reading: the number of a refusal, or none where the call did its work, and what it leaves in scratch and answers
+  closesOn : (area queries scratch answers : List ℕ) → (answer : Option ℕ) → (scratch′ answers′ : List ℕ) → AreaRow
 
 abbrev pub HoldsOn : AreaRow → Type 0
 HoldsOn (opensOn a qs r o left) = (openOf a qs r .answer ≡ o) × (openOf a qs r .run ≡ left)
 HoldsOn (callsOn a r c o left) = (operation a r c .answer ≡ o) × (operation a r c .run ≡ left)
-HoldsOn (closesOn a qs s w code s′ w′) = ClosedOf code a qs s w s′ w′
+HoldsOn (closesOn a qs s w answer s′ w′) = ClosedOf answer a qs s w s′ w′
 
 abbrev pub AllHoldOn : List AreaRow → Type 0
 AllHoldOn [] = Unit {0}
@@ -89,10 +90,10 @@ areaRows =
     ∷ callsOn area1 rested1 (value 1) (valued (interval 3 8) rest) rested1
     ∷ callsOn area1 opened1 (value 2) (refused 15) opened1
     ∷ callsOn area1 unreached1 (value 0) (refused 17) unreached1
-    ∷ closesOn area1 (1 ∷ []) scratch1 (9 ∷ 9 ∷ 9 ∷ []) 0 (0 ∷ 0 ∷ 0 ∷ 0 ∷ 0 ∷ 0 ∷ 0 ∷ 0 ∷ 0 ∷ 0 ∷ 0 ∷ 0 ∷ 9 ∷ []) (3 ∷ 8 ∷ 9 ∷ [])
-    ∷ closesOn area7 (1 ∷ []) scratch1 nines 10 scratch1 nines
-    ∷ closesOn area1 [] scratch1 nines 11 scratch1 nines
-    ∷ closesOn area1 (2 ∷ []) scratch1 nines 12 scratch1 nines
-    ∷ closesOn area1 (1 ∷ []) nines nines 18 nines nines
-    ∷ closesOn area1 (1 ∷ []) scratch1 (9 ∷ []) 19 scratch1 (9 ∷ [])
+    ∷ closesOn area1 (1 ∷ []) scratch1 (9 ∷ 9 ∷ 9 ∷ []) none (0 ∷ 0 ∷ 0 ∷ 0 ∷ 0 ∷ 0 ∷ 0 ∷ 0 ∷ 0 ∷ 0 ∷ 0 ∷ 0 ∷ 9 ∷ []) (3 ∷ 8 ∷ 9 ∷ [])
+    ∷ closesOn area7 (1 ∷ []) scratch1 nines (some 10) scratch1 nines
+    ∷ closesOn area1 [] scratch1 nines (some 11) scratch1 nines
+    ∷ closesOn area1 (2 ∷ []) scratch1 nines (some 12) scratch1 nines
+    ∷ closesOn area1 (1 ∷ []) nines nines (some 18) nines nines
+    ∷ closesOn area1 (1 ∷ []) scratch1 (9 ∷ []) (some 19) scratch1 (9 ∷ [])
     ∷ []

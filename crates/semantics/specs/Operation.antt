@@ -99,11 +99,11 @@ pub record ClosedAnswers (a qs scratch answers scratch′ answers′ : List ℕ)
   pub written : answers′ ≡ ends reading qs ++ drop (2 * length qs) answers
   pub cleared : scratch′ ≡ zeros (scratchLength (pageOf a)) ++ drop (scratchLength (pageOf a)) scratch
 
--- the number of the refusal, or 0; a refusal leaves both slices as they are
-abbrev pub ClosedAs : Option ℕ → (code : ℕ) → (a qs scratch answers scratch′ answers′ : List ℕ) → Type 0
-ClosedAs (some k) code a qs scratch answers scratch′ answers′ = (code ≡ k) × (scratch′ ≡ scratch) × (answers′ ≡ answers)
-ClosedAs none code a qs scratch answers scratch′ answers′ = (code ≡ 0) × ClosedAnswers a qs scratch answers scratch′ answers′
+-- The answer is the number of a refusal, or none where the call did its work. A refusal leaves both slices as they are.
+abbrev pub ClosedAs : Option ℕ → (answer : Option ℕ) → (a qs scratch answers scratch′ answers′ : List ℕ) → Type 0
+ClosedAs (some k) answer a qs scratch answers scratch′ answers′ = (answer ≡ some k) × (scratch′ ≡ scratch) × (answers′ ≡ answers)
+ClosedAs none answer a qs scratch answers scratch′ answers′ = (answer ≡ none) × ClosedAnswers a qs scratch answers scratch′ answers′
 
-unfoldable pub ClosedOf : (code : ℕ) → (a qs scratch answers scratch′ answers′ : List ℕ) → Type 0
-ClosedOf code a qs scratch answers scratch′ answers′ =
-    ClosedAs (firstOf (closedCauses a qs scratch answers)) code a qs scratch answers scratch′ answers′
+unfoldable pub ClosedOf : (answer : Option ℕ) → (a qs scratch answers scratch′ answers′ : List ℕ) → Type 0
+ClosedOf answer a qs scratch answers scratch′ answers′ =
+    ClosedAs (firstOf (closedCauses a qs scratch answers)) answer a qs scratch answers scratch′ answers′

@@ -1,7 +1,7 @@
--- `capi::simjorad_closed` meets its contract: its number is that of the answer. Assumes nothing.
+-- `capi::simjorad_closed` meets its contract: its code is that of the answer. Assumes nothing.
 use mathlib.Core.Path.{sym, ap, _∙_}
-use Rattle.closed.specs.Answer.{codeOf}
-use Rattle.capi.proofs.ClosedNumber.{closed-told}
+use Rattle.closed.specs.Answer.{refusalOf}
+use Rattle.capi.proofs.ClosedRefusal.{closed-told}
 use Rattle.capi.proofs.Signs.{returned}
 use borrow.Author.Needs.{needs}
 use Rattle.capi.proofs.simjorad_closed.Statement.{statement}
@@ -32,7 +32,7 @@ returns : tie.Need-returns
 returns c =
     let z = start (c .before .before .before .before .before .before .before .before) .args in
     let t = closed-told _ (z .page .now) (z .queries .now) (z .scratch .now) (z .answers .now) _ _ (c .before .before .before .before .before .before .before .before .closed-reading .ensures)
-    (ap codeOf (sym (c .before .before .answer .given .1))) in
+    (ap refusalOf (sym (c .before .before .answer .given .1))) in
     (returned (c .minus .result) (c .minus .ok) ∙ c .minus .ensures ∙ t .0, t .1)
 
 same-length-3 : tie.Need-same-length-3
@@ -45,7 +45,7 @@ returns-2 : tie.Need-returns-2
 returns-2 c =
     let z = start (c .before .before .before .before .before .before) .args in
     closed-told _ (z .page .now) (z .queries .now) (z .scratch .now) (z .answers .now) _ _ (c .before .before .before .before .before .before .closed-reading .ensures)
-    (ap codeOf (sym (c .enum-told .given .1)))
+    (ap refusalOf (sym (c .enum-told .given .1)))
 
 pub simjorad-closed-spec : {M : Type 1} → statement M
 simjorad-closed-spec =
