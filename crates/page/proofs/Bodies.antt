@@ -155,6 +155,12 @@ module _ (a run : List ℕ) (c : ℕ) where
     pub summing-moved : {vl vh low′ high′ at′ k′ : ℕ} → EntryValue (topOf a) a at run c vl vh → (low′ ≡ max low vl) × (high′ ≡ max high vh) → Next a at k at′ k′ → Summing at′ k′ low′ high′
     summing-moved v e m = rw (m .place, m .count) (summing-next v (e .0) (e .1) refl)
 
+    -- a line of another condition is passed
+    pub summing-passed : {at′ k′ : ℕ} → getD a at 0 ≢ c → Next a at k at′ k′ → Summing at′ k′ low high
+    summing-passed h m =
+        let e = summing-entry in
+        summing-moved (value-other (topOf a) (conditionsOf a) (usedOf a - at) a at run c (e .fits) (e .tests) h) (omega arith, omega arith) m
+
   pub summing-last : {at k low high : ℕ} → Summing at k low high → countOf a ≤ k → BodyValue a run c low high
   unfolding bodies foldFrom
   summing-last {at} {k} {low} {high} s l =

@@ -346,7 +346,7 @@ fn largest(p: Ends, q: Ends) -> Ends
     }
 }
 
-// The body value T of c at the intervals that the run area holds.
+// The body value T of c at the intervals that the run area holds. A line of another condition adds nothing and is passed at once.
 pub fn body(a: &[u16], run: &[u16], c: u16) -> Ends
     requires { ⌜ (sound (now a) ≡ true) × Graded (topOf (now a)) (conditionsOf (now a)) (now run) ⌝ }
     ensures { λ r. ⌜ BodyValue (now (a .entry)) (now (run .entry)) c (r .low) (r .high) ⌝ }
@@ -358,8 +358,10 @@ pub fn body(a: &[u16], run: &[u16], c: u16) -> Ends
     let mut best = Ends { low: 0, high: 0 };
     while line.passed < count {
         let at = line.at;
-        let v = entry_value(a, at, used - at, n, run, c);
-        best = largest(best, v);
+        if a[at] == c {
+            let v = entry_value(a, at, used - at, n, run, c);
+            best = largest(best, v);
+        }
         line = line.next(a);
     }
     best

@@ -1,5 +1,5 @@
 -- What a store to a cell of a run area leaves in the other numbers. Assumes nothing.
-use mathlib.Core.Path.{_≡_, refl, sym}
+use mathlib.Core.Path.{_≡_, refl, sym, _∙_, ap}
 use mathlib.Core.Logic.{_≢_}
 use mathlib.Core.Bool.{Bool, true, false, cond, _&&_}
 use mathlib.Core.List.{List}
@@ -8,8 +8,8 @@ use native.Mathlib.Decide.{ℕ-discrete}
 use native.Mathlib.Omega.{arith}
 use lib.Dec.{eqb, leb}
 use lib.ListN.{length, set, drop, length-set}
-use lib.Seq.{getD-set-same, getD-set-other, drop-set-lt}
-use borrow.Author.Tests.{eq-eqb, ne-eqb}
+use lib.Seq.{getD-set-same, getD-set-other, set-getD, drop-set-lt}
+use borrow.Author.Tests.{eq-eqb, ne-eqb, le-leb}
 use Rattle.fixpoint.proofs.KnowledgeOrder.{pair-eq}
 use Rattle.semantics.specs.RunArea.{intervalAt, markAt}
 use Rattle.worklist.specs.Marks.{marked}
@@ -59,3 +59,16 @@ module _ (t : Bool) (d : ℕ) (run : List ℕ) where
       same true true e = mark-same run d 2 l
       same true false e = refl
       same false s e = refl
+
+-- where nothing changes, and where the mark becomes 2
+module _ (d : ℕ) (run : List ℕ) where
+  pub stays-unreached : markAt run d ≡ 0 → (t : Bool) → run ≡ cond t (marked d run) run
+  stays-unreached e true = rw e
+  stays-unreached e false = refl
+
+  pub stays-waiting : markAt run d ≡ 2 → (t : Bool) → run ≡ cond t (marked d run) run
+  stays-waiting e true = rw e (sym (set-getD run (3 * d + 2) 0) ∙ ap (set run (3 * d + 2)) e)
+  stays-waiting e false = refl
+
+  pub now-waiting : (markAt run d ≡ 0 → ⊥) → set run (3 * d + 2) 2 ≡ marked d run
+  now-waiting h = rw (le-leb 1 (markAt run d) (omega arith))

@@ -87,14 +87,23 @@ pub fn mark_waiting(run: &mut [u16], h: u16)
     }
 }
 
-// The head of the entry at `at` waits if the entry is a rule that names c and the head is reached.
+// The head of the entry at `at` waits if the entry is a rule that names c and the head is reached. A head that is not reached
+// or that waits already stays as it is, so its literals are not looked at.
 fn mark_head(a: &[u16], at: usize, run: &mut [u16], c: u16)
     requires { ⌜ EntryIn (now a) at ⌝ }
     requires { ⌜ 3 * getD (now a) at 0 + 3 ≤ length (now run) ⌝ }
     ensures { λ r. ⌜ now (run .exit) ≡ cond (lineNames (lineAt (drop at (now (a .entry)))) c) (marked (getD (now (a .entry)) at 0) (now (run .entry))) (now (run .entry)) ⌝ }
 {
+    let place = 3 * a[at] as usize + 2;
+    let mark = run[place];
+    if mark == 0 {
+        return;
+    }
+    if mark == 2 {
+        return;
+    }
     if page::line_names(a, at, c) {
-        mark_waiting(run, a[at]);
+        run[place] = 2;
     }
 }
 

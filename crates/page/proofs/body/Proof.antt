@@ -1,9 +1,10 @@
 -- `body` hands back the body value T. Behind each line, T is the largest ends so far and what the lines still to come add (`Summing`).
 use Prim.Native.Nat.{_-_}
+use mathlib.Core.Logic.{⊎-elim}
 use native.Mathlib.Omega.{arith}
 use Rattle.page.proofs.Scan.{sound-head}
-use Rattle.page.proofs.Scanning.{entry-here}
-use Rattle.page.proofs.Bodies.{Summing, summing-start, summing-entry, summing-moved, summing-last}
+use Rattle.page.proofs.Scanning.{entry-here, room}
+use Rattle.page.proofs.Bodies.{Summing, summing-start, summing-entry, summing-moved, summing-passed, summing-last}
 use Rattle.page.proofs.body.Statement.{statement}
 use Rattle.page.proofs.body.Tie as tie
 
@@ -31,11 +32,21 @@ first-requires c κs = tt
 loop-holds : tie.Need-loop-holds Inv-loop μ-loop
 loop-holds c = let s = c .before .before .before .before .before .before in summing-start _ _ _ (s .pre .0) (s .pre .1) (c .first .ensures)
 
+mul-if2 : tie.Need-mul-if2 Inv-loop μ-loop
+mul-if2 c =
+    let h = c .before .before .loop in
+    omega (arith, room _ (h .inv .scan) (omega arith), c .before .before .before .before .before .before .before .before .before .good)
+
+shared-slice-read-if2 : tie.Need-shared-slice-read-if2 Inv-loop μ-loop
+shared-slice-read-if2 c =
+    let h = c .before .before .before .loop in
+    omega (arith, room _ (h .inv .scan) (omega arith))
+
 sub-entry-value : tie.Need-sub-entry-value Inv-loop μ-loop
-sub-entry-value c = c .before .before .loop .inv .scan .in-used
+sub-entry-value c = c .before .before .before .before .loop .inv .scan .in-used
 
 entry-value-requires : tie.Need-entry-value-requires Inv-loop μ-loop
-entry-value-requires c κs = let i = c .before .before .loop .inv in (i .graded, summing-entry _ _ _ i (omega arith))
+entry-value-requires c κs = let i = c .before .before .before .before .loop .inv in (i .graded, summing-entry _ _ _ i (omega arith))
 
 largest-requires : tie.Need-largest-requires Inv-loop μ-loop
 largest-requires c κs = tt
@@ -50,7 +61,11 @@ loop-less c = omega (arith, c .next .ensures .count)
 
 loop-again : tie.Need-loop-again Inv-loop μ-loop
 loop-again c =
-    summing-moved _ _ _ (c .before .before .before .before .before .loop .inv) (omega arith) (c .before .before .entry-value .ensures) (c .before .largest .ensures) (c .next .ensures)
+    let h = c .before .before .before .before .before .loop .inv in
+    ⊎-elim
+    (λ w. rw (w .3) (summing-moved _ _ _ h (omega arith) (w .1 .ensures) (w .2 .ensures) (c .next .ensures)))
+    (λ w. rw (w .1) (summing-passed _ _ _ h (omega arith) (w .0 .left) (c .next .ensures)))
+    (c .before .if2 .came)
 
 returns : tie.Need-returns Inv-loop μ-loop
 returns c = summing-last _ _ _ (c .before .before .loop .inv) (omega arith)
@@ -67,6 +82,8 @@ body-spec =
     cast-used
     first-requires
     loop-holds
+    mul-if2
+    shared-slice-read-if2
     sub-entry-value
     entry-value-requires
     largest-requires
