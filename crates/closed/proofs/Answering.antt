@@ -4,30 +4,52 @@ use mathlib.Core.Bool.{Bool, true, false, _&&_, true≢false, or-true}
 use mathlib.Core.Logic.{inl, inr}
 use mathlib.Core.List.{List, [], _∷_, _++_, append-assoc}
 use mathlib.Core.Option.{none, some}
-use Prim.Native.Nat.{ℕ, zero, suc, _+_, _*_, _≤_, _<_}
+use Prim.Native.Nat.{ℕ, zero, suc, _+_, _*_, _-_, _≤_, _<_}
 use native.Mathlib.Numerals.{add-one}
 use native.Mathlib.Omega.{arith}
 use lib.Dec.{eqb, leb, ltb}
 use lib.ListN.{length, getD, set, take, drop, replicate, length-append, length-take, length-drop}
 use lib.Seq.{drop-cons, take-suc, take-length, set-at, drop-drop}
-use borrow.Author.Tests.{le-leb, lt-leb, ltb-true, eq-eqb, eqb-true}
+use borrow.Author.Tests.{le-leb, lt-leb, leb-true, ltb-true, eq-eqb, eqb-true}
 use Rattle.fixpoint.specs.Interval.{Interval, Within, Assign}
-use Rattle.semantics.specs.Area.{sound, pageOf, conditionsOf, allUnder}
+use Rattle.semantics.specs.Area.{Kind, factKind, ruleKind, queryKind, noKind, kind, spanAs, span, literalsAt, every, fieldTests, lineTests, linesOk, headTests, firstLine, sound, pageOf, topOf, conditionsOf, countOf, usedOf, allUnder}
 use Rattle.semantics.specs.Operation.{ends, zeros, ClosedAnswers, ClosedOf}
 use Rattle.semantics.specs.Reading.{queried, closure, reached}
 use Rattle.semantics.specs.RunArea.{intervalAt, markAt, markOf}
 use Rattle.semantics.specs.Table.{listed}
 use Rattle.semantics.proofs.Closure.{reached-closed, reached-complete}
 use Rattle.semantics.proofs.Readings.{names-inside, closed-is}
-use Rattle.semantics.proofs.Soundness.{sound-proper, both-true}
+use Rattle.semantics.proofs.Soundness.{sound-proper, every-true, both-true}
 use Rattle.semantics.proofs.Table.{or-cases}
 use Rattle.reach.specs.Marks.{Marks}
 use Rattle.reach.specs.Opening.{Written}
-use Rattle.worklist.proofs.Head.{conditions-is}
+use Rattle.worklist.proofs.Head.{head-of, conditions-is}
 use Rattle.closed.specs.Settle.{reachedAt, waitsAt}
 use Rattle.closed.specs.Round.{closedAt, RoundsBegin, Alternated, Solved}
 use Rattle.closed.proofs.Rounding.{shut-over}
 use Rattle.closed.proofs.Stores.{beyond-more}
+
+-- a sound page has at most 8 literals to a line
+span-most : (top n : ℕ) (t : Kind) (x y : ℕ) (lits : List ℕ) → every (fieldTests top n t x y lits) ≡ true → spanAs t y ≤ 12
+span-most top n factKind x y lits e = omega arith
+span-most top n (ruleKind op) x y lits e = omega (arith, leb-true y 8 (every-true (fieldTests top n (ruleKind op) x y lits) e .1 .1 .1 .0))
+span-most top n queryKind x y lits e = omega arith
+span-most top n noKind x y lits e = omega arith
+
+lines-most : (top n k left : ℕ) (p : List ℕ) → linesOk top n k left p ≡ true → left ≤ 12 * k
+unfolding linesOk span
+lines-most top n zero left p e = omega (arith, eqb-true left 0 e)
+lines-most top n (suc k) left p e =
+    let b = both-true (every (lineTests top n left p)) (linesOk top n k (left - span p) (drop (span p) p)) e in
+    let h = both-true (leb (span p) left) (ltb (getD p 0 0) n && every (fieldTests top n (kind (getD p 1 0)) (getD p 2 0) (getD p 3 0) (literalsAt p))) (b .0) in
+    let f = both-true (ltb (getD p 0 0) n) (every (fieldTests top n (kind (getD p 1 0)) (getD p 2 0) (getD p 3 0) (literalsAt p))) (h .1) in
+    omega (arith, lines-most top n k (left - span p) (drop (span p) p) (b .1), span-most top n (kind (getD p 1 0)) (getD p 2 0) (getD p 3 0) (literalsAt p) (f .1))
+
+pub used-most : (a : List ℕ) → sound a ≡ true → usedOf a ≤ 4 + 4 * countOf a + 8192
+unfolding sound
+used-most a e =
+    let b = both-true (every (headTests a)) (linesOk (topOf a) (conditionsOf a) (countOf a) (usedOf a - firstLine) (drop firstLine a)) e in
+    omega (arith, lines-most (topOf a) (conditionsOf a) (countOf a) (usedOf a - firstLine) (drop firstLine a) (b .1), head-of a e)
 
 -- the start: the marks of the closure are written
 module _ (a qs run : List ℕ) (ok : sound a ≡ true) (long : 4 * conditionsOf a ≤ length run) {marks : List Bool} (m : Marks (closure (pageOf a) qs) marks)

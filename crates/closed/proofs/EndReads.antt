@@ -14,7 +14,9 @@ use Rattle.semantics.specs.Grade.{End, lower, upper, divided, combine, endwise,
 use Rattle.semantics.specs.Page.{Literal, positive, negative, conditionOf, mentions, Line, fact, rule, query, linesName, LiteralsBelow, AllInRange, Page, names, Proper}
 use Rattle.semantics.proofs.Soundness.{both-true}
 use Rattle.semantics.proofs.Table.{or-cases}
-use Rattle.closed.specs.Ends.{endOf, literalCode, among, linesRead, reads, EndLocal}
+use Rattle.index.specs.Readers.{among, linesRead}
+use Rattle.index.specs.Table.{endOf}
+use Rattle.closed.specs.Ends.{literalCode, reads, EndLocal}
 
 left : (a b : Bool) → a ≡ true → (a || b) ≡ true
 left a b e = rw e

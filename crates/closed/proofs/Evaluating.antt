@@ -11,15 +11,19 @@ use lib.Dec.{eqb, leb}
 use lib.ListN.{length, getD, set, length-set}
 use borrow.Author.Tests.{eq-eqb, ne-eqb}
 use Rattle.fixpoint.specs.Interval.{Interval}
-use Rattle.semantics.specs.Area.{pageOf, conditionsOf}
+use Rattle.semantics.specs.Area.{sound, pageOf, topOf, conditionsOf}
 use Rattle.semantics.specs.Page.{Page}
 use Rattle.semantics.specs.RunArea.{intervalAt, markAt}
-use Rattle.worklist.proofs.Head.{conditions-is}
+use Rattle.worklist.proofs.Head.{head-of, conditions-is}
 use Rattle.worklist.proofs.Stores.{mark-apart}
-use Rattle.closed.specs.Ends.{endOf, reads}
-use Rattle.closed.specs.Readers.{ReadersMarked}
+use Rattle.index.specs.Table.{endOf, EndValue}
+use Rattle.index.specs.Words.{has, WordsMatch}
+use Rattle.closed.specs.Ends.{reads}
+use Rattle.index.specs.Readers.{ReadersMarked}
 use Rattle.closed.specs.Settle.{endPlace, endNow, Evaluated}
+use Rattle.closed.specs.Indexed.{InStep, Evaluable}
 use Rattle.closed.proofs.Marks.{after, after-reached, after-waits}
+use Rattle.closed.proofs.Steps.{words-same, words-without, table-same, table-put, grades-put}
 use Rattle.closed.proofs.Stores.{mark-put, mark-beyond, end-is, end-fits, end-put, end-apart, end-mark, end-beyond}
 
 -- the mark of A, which is reached, is 1
@@ -99,20 +103,33 @@ module _ (e : Bool) (page : Page) (A : ℕ) (run : List ℕ) (real : A < page .c
       marks : (c : ℕ) → c < page .conditions → markAt run′ c ≡ after (reads page false c A) (cond (eqb c A) 1 (markAt run c))
       marks c l = m .marks c l ∙ ap (λ (k : ℕ). cond (leb 1 k && reads page false c A) 2 k) (end-mark first A v e c ∙ mark-put run A 1 fits c)
 
--- the code has computed the new end and its place
-pub record Placed (e : Bool) (a : List ℕ) (A : ℕ) (run : List ℕ) (v p : ℕ) : Type 0 where
-  pub real : A < conditionsOf a
-  pub long : 3 * conditionsOf a ≤ length run
-  pub reached : leb 1 (markAt run A) ≡ true
-  pub value : v ≡ endNow e (pageOf a) run A
+-- the code has computed the new end and its place, and A is out of the set
+pub record Placed (e : Bool) (a : List ℕ) (A : ℕ) (run words values : List ℕ) (v : ℕ) (words′ : List ℕ) (p : ℕ) : Type 0 where
+  pub page-sound : sound a ≡ true
+  pub ready : Evaluable e a run words values A
+  pub value : EndValue e a values A v
+  pub size : length words′ ≡ 8
+  pub removed : (k : ℕ) → k < 512 → has words′ k ≡ (has words k && not (eqb k A))
   pub place : p ≡ endPlace e A
 
-module _ {e : Bool} {a : List ℕ} {A : ℕ} {run : List ℕ} {v p : ℕ} (k : Placed e a A run v p) where
+module _ {e : Bool} {a : List ℕ} {A : ℕ} {run words values : List ℕ} {v : ℕ} {words′ : List ℕ} {p : ℕ} (k : Placed e a A run words values v words′ p) where
+  abbrev marked : List ℕ
+  marked = set run (3 * A + 2) 1
+
+  real : A < conditionsOf a
+  real = k .ready .real
+
   real′ : A < pageOf a .conditions
-  real′ = rw (conditions-is a) (k .real)
+  real′ = rw (conditions-is a) (k .ready .real)
 
   fits : 3 * A + 3 ≤ length run
-  fits = omega (arith, k .real, k .long)
+  fits = omega (arith, k .ready .real, k .ready .long)
+
+  marked-fits : 3 * A + 3 ≤ length marked
+  marked-fits = omega (arith, fits, length-set run (3 * A + 2) 1)
+
+  now : v ≡ endNow e (pageOf a) run A
+  now = k .value .is (intervalAt run) (k .ready .in-step .table)
 
   pub place-fits : p < length (set run (3 * A + 2) 1)
   place-fits = omega (arith, k .place, end-fits e A (length run) fits, length-set run (3 * A + 2) 1)
@@ -120,11 +137,41 @@ module _ {e : Bool} {a : List ℕ} {A : ℕ} {run : List ℕ} {v p : ℕ} (k : P
   pub place-small : p < 3 * A + 3
   place-small = omega (arith, k .place, end-fits e A (3 * A + 3) (le-refl (3 * A + 3)))
 
-  pub same-at : v ≡ getD (set run (3 * A + 2) 1) p 0 → Evaluated e (pageOf a) A run (set run (3 * A + 2) 1) false
-  same-at q = evaluated-same e (pageOf a) A run real′ fits (k .reached) (k .value) (q ∙ ap (λ (i : ℕ). getD (set run (3 * A + 2) 1) i 0) (k .place))
+  -- the number of A's plain literal has its place in the table, and is a byte
+  pub literal-fits : (2 * A < length values) × (v ≤ 200)
+  literal-fits = (omega (arith, k .ready .in-step .grades .long, real), omega (arith, k .value .grade, head-of a (k .page-sound) .top-most))
 
-  pub changed-at : {run′ : List ℕ} → v ≢ getD (set run (3 * A + 2) 1) p 0 → ReadersMarked (pageOf a) (2 * A) (set (set run (3 * A + 2) 1) p v) run′
-      → Evaluated e (pageOf a) A run run′ true
-  changed-at {run′} q m =
-      evaluated-changed e (pageOf a) A run real′ fits (k .reached) (k .value) (λ d. q (d ∙ sym (ap (λ (i : ℕ). getD (set run (3 * A + 2) 1) i 0) (k .place))))
-      (subst (λ (i : ℕ). ReadersMarked (pageOf a) (2 * A) (set (set run (3 * A + 2) 1) i v) run′) (k .place) m)
+  without : WordsMatch (conditionsOf a) marked words′
+  without = words-without (conditionsOf a) run A fits (k .ready .in-step .waiting) (k .size) (k .removed)
+
+  pub same-at : v ≡ getD (set run (3 * A + 2) 1) p 0 → Evaluated e (pageOf a) A run (set run (3 * A + 2) 1) false × InStep e a (set run (3 * A + 2) 1) words′ values
+  same-at q = (
+    evaluated-same e (pageOf a) A run real′ fits (k .ready .reached) now (q ∙ ap (λ (i : ℕ). getD marked i 0) (k .place)),
+    record {
+      waiting = without;
+      table = table-same e (topOf a) (conditionsOf a) values (λ c l. mark-apart run A 1 c) (k .ready .in-step .table);
+      grades = k .ready .in-step .grades;
+    },
+  )
+
+  -- the set is that of those that wait, before the readers are woken
+  pub stored-waiting : WordsMatch (conditionsOf a) (set (set run (3 * A + 2) 1) p v) words′
+  stored-waiting =
+      words-same (conditionsOf a) marked (set marked p v)
+      (λ c l. ap (λ (i : ℕ). markAt (set marked i v) c) (k .place) ∙ end-mark marked A v e c) without
+
+  pub changed-at : {run′ words″ : List ℕ} → v ≢ getD (set run (3 * A + 2) 1) p 0 → ReadersMarked (pageOf a) (2 * A) (set (set run (3 * A + 2) 1) p v) run′
+      → WordsMatch (conditionsOf a) run′ words″ → Evaluated e (pageOf a) A run run′ true × InStep e a run′ words″ (set values (2 * A) v)
+  changed-at {run′} q m w = (
+    evaluated-changed e (pageOf a) A run real′ fits (k .ready .reached) now (λ d. q (d ∙ sym (ap (λ (i : ℕ). getD marked i 0) (k .place)))) m′,
+    record {
+      waiting = w;
+      table = table-same e (topOf a) (conditionsOf a) (set values (2 * A) v) (λ c l. m′ .intervals c)
+          (table-put e (topOf a) (conditionsOf a) marked A v values marked-fits (literal-fits .0)
+          (table-same e (topOf a) (conditionsOf a) values (λ c l. mark-apart run A 1 c) (k .ready .in-step .table)));
+      grades = grades-put (topOf a) (conditionsOf a) A v (k .value .grade) (k .ready .in-step .grades);
+    },
+  )
+    where
+      m′ : ReadersMarked (pageOf a) (2 * A) (set marked (endPlace e A) v) run′
+      m′ = subst (λ (i : ℕ). ReadersMarked (pageOf a) (2 * A) (set marked i v) run′) (k .place) m

@@ -4,16 +4,17 @@ pub mod EndReads
 pub mod Phase
 -- a round: the high ends anew where they may have changed, then the low ends from where they were
 pub mod Rounds
--- the scan for the readers of a literal
-pub mod Reading
 -- what a store to the scratch leaves
 pub mod Stores
 pub mod Marks
+-- the set of those that wait, and the table of one end
+pub mod Steps
 pub mod Evaluating
 -- the loop that settles one end
 pub mod Settling
 -- who waits for the other end, and which high ends start anew
 pub mod Waking
+pub mod Gathering
 pub mod Restarting
 -- the rounds
 pub mod Rounding

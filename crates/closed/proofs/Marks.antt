@@ -6,8 +6,8 @@ use Prim.Native.Nat.{ℕ, _<_}
 use lib.Dec.{eqb, leb}
 use Rattle.semantics.specs.Page.{Page}
 use Rattle.semantics.specs.RunArea.{markAt}
-use Rattle.closed.specs.Ends.{linesRead}
-use Rattle.closed.specs.Readers.{ReadersMarked}
+use Rattle.index.specs.Readers.{linesRead}
+use Rattle.index.specs.Readers.{ReadersMarked}
 use Rattle.closed.specs.Settle.{reachedAt, waitsAt}
 
 -- what becomes of the mark of a condition that waits if it is reached and a test holds

@@ -24,7 +24,8 @@ use Rattle.fixpoint.proofs.Evaluation.{put-same, put-other}
 use Rattle.fixpoint.proofs.ChaoticStep.{kept, falls}
 use Rattle.fixpoint.proofs.ChaoticIteration.{kept-from, done}
 use Rattle.fixpoint.proofs.ChaoticHalves.{raise-system, lift-system, raise-at, lift-at}
-use Rattle.closed.specs.Ends.{endOf, EndLocal, settledEnd}
+use Rattle.index.specs.Table.{endOf}
+use Rattle.closed.specs.Ends.{EndLocal, settledEnd}
 
 abbrev pub nobody : ℕ → Bool
 nobody c = false

@@ -16,7 +16,7 @@ use Rattle.fixpoint.proofs.Sum.{sum-drop}
 use Rattle.semantics.specs.Page.{Page}
 use Rattle.semantics.specs.RunArea.{intervalAt, markAt}
 use Rattle.closed.specs.Ends.{reads}
-use Rattle.closed.specs.Readers.{ReadersMarked}
+use Rattle.index.specs.Readers.{ReadersMarked}
 use Rattle.closed.specs.Settle.{flagAt, reachedAt, waitsAt, Steady}
 use Rattle.closed.specs.Round.{Reset, Restarted}
 use Rattle.closed.proofs.Marks.{readers-reached, readers-wait}

@@ -20,7 +20,8 @@ use Rattle.fixpoint.proofs.AlternatingFixpoint.{turns-floor}
 use Rattle.fixpoint.proofs.Reachable.{lfp-alike, highs-alike, lows-alike}
 use Rattle.fixpoint.proofs.ChaoticHalves.{KeptLows}
 use Rattle.fixpoint.proofs.Tables.{turned-first, turned-start, turned-closed}
-use Rattle.closed.specs.Ends.{endOf, EndLocal, settledEnd}
+use Rattle.index.specs.Table.{endOf}
+use Rattle.closed.specs.Ends.{EndLocal, settledEnd}
 use Rattle.closed.proofs.Phase.{nobody, oneEnd, given, half, AllIn, half-system, half-at, now-at, settled-is}
 
 low-eq : {p q : Interval} → p ≡ q → p .low ≡ q .low

@@ -24,10 +24,13 @@ use Rattle.semantics.proofs.Readings.{page-system}
 use Rattle.semantics.proofs.Soundness.{sound-proper}
 use Rattle.page.specs.Graded.{Graded}
 use Rattle.worklist.proofs.Head.{Head, head-of, top-is, conditions-is}
-use Rattle.closed.specs.Ends.{endOf, reads, EndLocal, room}
+use Rattle.index.specs.Table.{endOf}
+use Rattle.closed.specs.Ends.{reads, EndLocal, room}
 use Rattle.closed.specs.Settle.{flagAt, reachedAt, waitsAt, endNow, endRoom, Steady, Evaluated, SettleReady, Settled}
+use Rattle.closed.specs.Indexed.{InStep}
 use Rattle.closed.proofs.EndReads.{page-ends}
 use Rattle.closed.proofs.Phase.{Phase, oneEnd, end-in, ends-in, phase-first, phase-in, phase-done, phase-fixed, phase-rises, phase-next, phase-falls}
+use Rattle.closed.proofs.Steps.{flag-in-step}
 use Rattle.closed.proofs.Stores.{flag-put, flag-apart, flag-mark, flag-beyond, beyond-flag, beyond-more}
 
 -- a condition that waits is reached
@@ -260,17 +263,19 @@ module _ (a : List ℕ) (e : Bool) (run₀ : List ℕ) (R : SettleReady a e run�
         }
 
     -- a turn in the code: the evaluation, and the flag if the end changed
-    module _ {A : ℕ} (real : A < conditionsOf a) (mark : markAt run A ≡ 2) {run′ : List ℕ} {t : Bool} (v : Evaluated e page A run run′ t) {run″ : List ℕ} {changed′ : Bool} where
+    module _ {A : ℕ} (real : A < conditionsOf a) (mark : markAt run A ≡ 2) {run′ words values : List ℕ} {t : Bool} (v : Evaluated e page A run run′ t)
+        (k : InStep e a run′ words values) {run″ : List ℕ} {changed′ : Bool} where
       pub turn-changed : t ≡ true → run″ ≡ set run′ (3 * conditionsOf a + A) 1 → changed′ ≡ true
-          → Settling run″ changed′ × (left page e run₀ run″ < left page e run₀ run)
+          → Settling run″ changed′ × (left page e run₀ run″ < left page e run₀ run) × InStep e a run″ words values
       unfolding pageOf
       turn-changed q p z =
-          let k : Taken e page A run (set run′ (3 * conditionsOf a + A) 1) true
+          let f : Taken e page A run (set run′ (3 * conditionsOf a + A) 1) true
           = taken-changed e page A run run′ real (omega (arith, R .long, s .steady .same-length)) (subst (Evaluated e page A run run′) q v) in
-          rw (p, z) (settling-next real (eq-eqb (markAt run A) 2 mark) k, settling-falls real (eq-eqb (markAt run A) 2 mark) k)
+          rw (p, z) (settling-next real (eq-eqb (markAt run A) 2 mark) f, settling-falls real (eq-eqb (markAt run A) 2 mark) f, flag-in-step e a run′ A 1 k)
 
-      pub turn-same : t ≡ false → run″ ≡ run′ → changed′ ≡ changed → Settling run″ changed′ × (left page e run₀ run″ < left page e run₀ run)
+      pub turn-same : t ≡ false → run″ ≡ run′ → changed′ ≡ changed
+          → Settling run″ changed′ × (left page e run₀ run″ < left page e run₀ run) × InStep e a run″ words values
       unfolding pageOf
       turn-same q p z =
-          let k : Taken e page A run run′ false = taken-same e page A run run′ (subst (Evaluated e page A run run′) q v) in
-          rw (p, z) (settling-next real (eq-eqb (markAt run A) 2 mark) k, settling-falls real (eq-eqb (markAt run A) 2 mark) k)
+          let f : Taken e page A run run′ false = taken-same e page A run run′ (subst (Evaluated e page A run run′) q v) in
+          rw (p, z) (settling-next real (eq-eqb (markAt run A) 2 mark) f, settling-falls real (eq-eqb (markAt run A) 2 mark) f, k)

@@ -12,7 +12,7 @@ use lib.Seq.{getD-set-same, getD-set-other, drop-set-lt, getD-drop, drop-drop}
 use borrow.Author.Tests.{eq-eqb, ne-eqb}
 use Rattle.fixpoint.proofs.KnowledgeOrder.{pair-eq}
 use Rattle.semantics.specs.RunArea.{intervalAt, markAt}
-use Rattle.closed.specs.Ends.{endOf}
+use Rattle.index.specs.Table.{endOf}
 use Rattle.closed.specs.Settle.{endPlace, flagAt}
 
 -- a store at i, read at j, where i and j stand for f c and f h

@@ -14,7 +14,7 @@ use Rattle.semantics.specs.RunArea.{intervalAt, markAt}
 use Rattle.worklist.specs.Marks.{marked}
 use Rattle.worklist.proofs.Stores.{marked-length, marked-apart, marked-beyond, marked-mark}
 use Rattle.closed.specs.Ends.{reads}
-use Rattle.closed.specs.Readers.{ReadersMarked}
+use Rattle.index.specs.Readers.{ReadersMarked}
 use Rattle.closed.specs.Settle.{flagAt, reachedAt, waitsAt}
 use Rattle.closed.specs.Round.{AllWaiting, WokenFrom, Woken}
 use Rattle.closed.proofs.Marks.{readers-reached, readers-wait}

@@ -1,36 +1,18 @@
 -- The two ends of an interval, and which ends of which conditions an end of a body value reads. Assumes nothing.
-use mathlib.Core.Bool.{Bool, true, false, not, _&&_, _||_}
+use mathlib.Core.Bool.{Bool, true, false, not}
 use mathlib.Core.Path.{_≡_}
-use mathlib.Core.List.{List, [], _∷_}
 use Prim.Native.Nat.{ℕ, _+_, _*_, _-_, _<_}
-use lib.Dec.{eqb}
 use Rattle.fixpoint.specs.Interval.{Interval, Assign}
 use Rattle.fixpoint.specs.AlternatingFixpoint.{highs, lows}
 use Rattle.fixpoint.specs.Sum.{sum}
-use Rattle.semantics.specs.Area.{codeOf}
-use Rattle.semantics.specs.Page.{Literal, Line, fact, rule, query, Page}
-
--- the high end, or the low end
-abbrev pub endOf : Bool → Interval → ℕ
-endOf true p = p .high
-endOf false p = p .low
+use Rattle.semantics.specs.Page.{Page}
+use Rattle.index.specs.Readers.{linesRead}
+use Rattle.index.specs.Table.{endOf}
 
 -- "a literal is 2 × condition, plus 1 if negated"
 abbrev pub literalCode : Bool → ℕ → ℕ
 literalCode true c = 2 * c + 1
 literalCode false c = 2 * c
-
--- the literal with that code is one of the list
-unfoldable pub among : ℕ → List Literal → Bool
-among code [] = false
-among code (l ∷ ls) = eqb (codeOf l) code || among code ls
-
--- some R line of a has that literal
-unfoldable pub linesRead : ℕ → List Line → ℕ → Bool
-linesRead code [] a = false
-linesRead code (fact d l h ∷ ls) a = linesRead code ls a
-linesRead code (rule d w op lits ∷ ls) a = (eqb d a && among code lits) || linesRead code ls a
-linesRead code (query r d ∷ ls) a = linesRead code ls a
 
 -- some R line of a has c, or where `negated` holds the negation of c, among its literals
 abbrev pub reads : Page → Bool → ℕ → ℕ → Bool

@@ -9,7 +9,7 @@ use Rattle.fixpoint.specs.Interval.{Within, Assign}
 use Rattle.fixpoint.specs.ChaoticIteration.{DependencyClosed}
 use Rattle.fixpoint.specs.Tables.{Turned, Topped}
 use Rattle.fixpoint.specs.WellFounded.{closed}
-use Rattle.semantics.specs.Area.{sound, pageOf, conditionsOf}
+use Rattle.semantics.specs.Area.{sound, pageOf, conditionsOf, allUnder}
 use Rattle.semantics.specs.Body.{T, unknownByDefault}
 use Rattle.semantics.specs.Page.{Page, names}
 use Rattle.semantics.specs.Reading.{reached}
@@ -45,12 +45,6 @@ pub record Woken (page : Page) (run run′ : List ℕ) : Type 0 where
   pub others : (c : ℕ) → c < page .conditions → reachedAt run c ≡ true → waitsAt run′ c ≡ false
       → (b : ℕ) → b < page .conditions → reads page true c b ≡ true → flagAt (page .conditions) run b ≡ 0
   pub beyond : drop (4 * page .conditions) run′ ≡ drop (4 * page .conditions) run
-
--- r is the lowest of n conditions that waits and is not flagged, or n if there is none
-pub record Unflagged (n : ℕ) (run : List ℕ) (r : ℕ) : Type 0 where
-  pub within : r ≤ n
-  pub below : (k : ℕ) → k < r → waitsAt run k ≡ true → 0 < flagAt n run k
-  pub found : r < n → (waitsAt run r ≡ true) × (flagAt n run r ≡ 0)
 
 -- A is flagged and has the high end 0, and whoever names A plainly waits
 pub record Reset (page : Page) (A : ℕ) (run run′ : List ℕ) : Type 0 where
@@ -120,6 +114,12 @@ pub record Alternated (a run run′ : List ℕ) : Type 0 where
   pub same-length : length run′ ≡ length run
   pub beyond : drop (4 * pageOf a .conditions) run′ ≡ drop (4 * pageOf a .conditions) run
   pub reads-closed : (c : ℕ) → c < pageOf a .conditions → reachedAt run c ≡ true → intervalAt run′ c ≡ closedAt (pageOf a) c
+
+-- the closed reading can be solved: the page is sound, the queries are conditions, and the scratch has room for the cells and the flags
+pub record SolveReady (a qs run : List ℕ) : Type 0 where
+  pub page-sound : sound a ≡ true
+  pub under : allUnder (conditionsOf a) qs ≡ true
+  pub long : 4 * conditionsOf a ≤ length run
 
 -- the scratch holds the closed reading at every condition reached from the queries
 pub record Solved (a qs run run′ : List ℕ) : Type 0 where

@@ -14,7 +14,8 @@ use Rattle.semantics.specs.Area.{sound, pageOf, conditionsOf}
 use Rattle.semantics.specs.Body.{T, unknownByDefault}
 use Rattle.semantics.specs.Page.{Page, names}
 use Rattle.semantics.specs.RunArea.{intervalAt, markAt}
-use Rattle.closed.specs.Ends.{endOf, reads, settledEnd, room}
+use Rattle.index.specs.Table.{endOf}
+use Rattle.closed.specs.Ends.{reads, settledEnd, room}
 
 -- where an end of c stands
 abbrev pub endPlace : Bool → ℕ → ℕ

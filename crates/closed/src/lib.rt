@@ -1,74 +1,19 @@
 // The closed reading, by turns of two halves: the least high ends over the low ends held, then the least low ends over the high ends held.
 ghost use mathlib.Core.Path.{_≡_};
-ghost use mathlib.Core.Bool.{true, cond};
-ghost use lib.Dec.{leb};
-ghost use mathlib.Core.List.{map, _++_};
+ghost use mathlib.Core.Bool.{true};
+ghost use mathlib.Core.List.{_++_};
 ghost use Prim.Native.Nat.{ℕ, _≤_, _+_, _<_, _*_};
-ghost use lib.ListN.{length, getD, set, take, drop};
+ghost use lib.ListN.{length, getD, set, drop};
 ghost use Rattle.semantics.specs.Operation.{ends, zeros, ClosedOf};
-ghost use Rattle.semantics.specs.Area.{sound, pageOf, allUnder, literalOf, lineAt};
-ghost use Rattle.worklist.specs.Marks.{marked};
-ghost use Rattle.semantics.specs.RunArea.{intervalAt, markAt};
-ghost use Rattle.page.specs.Graded.{Graded};
-ghost use Rattle.page.specs.Lines.{EntryIn};
-ghost use Rattle.closed.specs.Ends.{among, endOf};
-ghost use Rattle.closed.specs.Readers.{lineReads, ReadersMarked};
-ghost use Rattle.closed.specs.Settle.{flagAt, endPlace, Evaluated, SettleReady, Settled};
-ghost use Rattle.closed.specs.Round.{AllWaiting, WokenFrom, Woken, Unflagged, Reset, Restarted, RoundsBegin, RoundDone, Rounded, Alternated, Solved};
+ghost use Rattle.semantics.specs.Area.{sound, pageOf, conditionsOf, countOf, usedOf};
+ghost use Rattle.semantics.specs.RunArea.{intervalAt};
+ghost use Rattle.index.specs.Groups.{HeadsByLiteral};
+ghost use Rattle.index.specs.Readers.{ReadersMarked};
+ghost use Rattle.index.specs.Words.{WordsMatch};
+ghost use Rattle.closed.specs.Settle.{flagAt, waitsAt, endPlace, Evaluated, SettleReady, Settled};
+ghost use Rattle.closed.specs.Round.{AllWaiting, WokenFrom, Woken, Reset, Restarted, RoundsBegin, RoundDone, Rounded, Alternated, SolveReady, Solved};
+ghost use Rattle.closed.specs.Indexed.{IndexRoom, Indexed, InStep, Evaluable, Pending, Gathered};
 ghost use Rattle.closed.specs.Answer.{refusalOf};
-
-// Whether the literal `code` is one of the m literals from `from` on.
-fn literals_have(a: &[u16], from: usize, m: u16, code: u16) -> bool
-    requires { ⌜ from + m ≤ length (now a) ⌝ }
-    ensures { λ r. ⌜ r ≡ among code (map literalOf (take m (drop from (now (a .entry))))) ⌝ }
-{
-    let mut j: u16 = 0;
-    while j < m {
-        if a[from + j as usize] == code {
-            return true;
-        }
-        j += 1;
-    }
-    false
-}
-
-// Whether the entry at `at` is a rule that has the literal `code`.
-fn entry_reads(a: &[u16], at: usize, code: u16) -> bool
-    requires { ⌜ EntryIn (now a) at ⌝ }
-    ensures { λ r. ⌜ r ≡ lineReads code (lineAt (drop at (now (a .entry)))) ⌝ }
-{
-    let k = a[at + 1];
-    match k {
-        1..=5 => literals_have(a, at + 4, a[at + 3], code),
-        _ => false,
-    }
-}
-
-// The head of the entry at `at` waits if the entry is a rule that has the literal `code` and the head is reached.
-fn mark_reader(a: &[u16], at: usize, run: &mut [u16], code: u16)
-    requires { ⌜ EntryIn (now a) at ⌝ }
-    requires { ⌜ 3 * getD (now a) at 0 + 3 ≤ length (now run) ⌝ }
-    ensures { λ r. ⌜ now (run .exit) ≡ cond (lineReads code (lineAt (drop at (now (a .entry))))) (marked (getD (now (a .entry)) at 0) (now (run .entry))) (now (run .entry)) ⌝ }
-{
-    if entry_reads(a, at, code) {
-        worklist::mark_waiting(run, a[at]);
-    }
-}
-
-// Every reached condition with a rule that has the literal `code` waits.
-fn mark_readers(a: &[u16], run: &mut [u16], code: u16)
-    requires { ⌜ sound (now a) ≡ true ⌝ }
-    requires { ⌜ 3 * getD (now a) 1 0 ≤ length (now run) ⌝ }
-    ensures { λ r. ⌜ ReadersMarked (pageOf (now (a .entry))) code (now (run .entry)) (now (run .exit)) ⌝ }
-{
-    let count = a[2];
-    let mut line = page::Cursor::first();
-    while line.passed < count {
-        let at = line.at;
-        mark_reader(a, at, run, code);
-        line = line.next(a);
-    }
-}
 
 // Where the high end or the low end of c stands.
 fn place(c: u16, high: bool) -> usize
@@ -81,48 +26,91 @@ fn place(c: u16, high: bool) -> usize
     at
 }
 
-// The high end or the low end of an interval.
-fn end_of(v: page::Ends, high: bool) -> u16
-    ensures { λ r. ⌜ r ≡ endOf high (record { low = v .low; high = v .high }) ⌝ }
+// Evaluates one end of c over the table of that end; whether it changed. If it did, whoever names c plainly waits.
+fn evaluate_end(
+    a: &[u16],
+    run: &mut [u16],
+    words: &mut [u64],
+    values: &mut [u8],
+    first: &[u16],
+    places: &[u16],
+    start: &[u16],
+    heads: &[u16],
+    c: u16,
+    high: bool,
+) -> bool
+    requires { ⌜ Indexed (now a) (now first) (now places) (now start) (now heads) × Evaluable high (now a) (now run) (now words) (now values) c ⌝ }
+    ensures { λ r. ⌜ Evaluated high (pageOf (now (a .entry))) c (now (run .entry)) (now (run .exit)) r × InStep high (now (a .entry)) (now (run .exit)) (now (words .exit)) (now (values .exit)) ⌝ }
 {
-    if high {
-        return v.high;
-    }
-    v.low
-}
-
-// Evaluates one end of c on the intervals held; whether it changed. If it did, whoever names c plainly waits.
-fn evaluate_end(a: &[u16], run: &mut [u16], c: u16, high: bool) -> bool
-    requires { ⌜ (sound (now a) ≡ true) × Graded (getD (now a) 0 0) (getD (now a) 1 0) (now run) × (c < getD (now a) 1 0) × (leb 1 (markAt (now run) c) ≡ true) ⌝ }
-    ensures { λ r. ⌜ Evaluated high (pageOf (now (a .entry))) c (now (run .entry)) (now (run .exit)) r ⌝ }
-{
-    let v = end_of(page::body(a, run, c), high);
+    let v = index::value::end_value(a, first, places, values, c, high);
+    index::words::remove(words, c);
     let at = place(c, high);
     run[3 * c as usize + 2] = 1;
     if v == run[at] {
         return false;
     }
     run[at] = v;
-    mark_readers(a, run, 2 * c);
+    index::value::store_plain(values, c, v);
+    index::words::wake_readers(a, run, words, start, heads, 2 * c);
     true
 }
 
-// Settles one end of every reached condition while the other ends stay; whether any changed. Those that did are flagged.
-fn settle_ends(a: &[u16], run: &mut [u16], high: bool) -> bool
-    requires { ⌜ SettleReady (now a) high (now run) ⌝ }
+// Settles one end of every reached condition over the set of those that wait and the table of that end; whether any changed.
+fn settle_over(
+    a: &[u16],
+    run: &mut [u16],
+    words: &mut [u64],
+    values: &mut [u8],
+    first: &[u16],
+    places: &[u16],
+    start: &[u16],
+    heads: &[u16],
+    high: bool,
+) -> bool
+    requires { ⌜ SettleReady (now a) high (now run) × Indexed (now a) (now first) (now places) (now start) (now heads) × InStep high (now a) (now run) (now words) (now values) ⌝ }
     ensures { λ r. ⌜ Settled (now (a .entry)) high (now (run .entry)) (now (run .exit)) r ⌝ }
 {
     let n = a[1];
     let mut changed = false;
-    let mut c = worklist::lowest_waiting(run, n);
-    while c < n {
-        if evaluate_end(a, run, c, high) {
+    let mut c = index::words::any_in(words, 0);
+    while c < 512 {
+        if evaluate_end(a, run, words, values, first, places, start, heads, c, high) {
             changed = true;
             run[3 * n as usize + c as usize] = 1;
         }
-        c = worklist::lowest_waiting(run, n);
+        c = index::words::any_in(words, c);
     }
     changed
+}
+
+// Settles one end of every reached condition while the other ends stay; whether any changed. Those that did are flagged.
+fn settle_ends(
+    a: &[u16],
+    run: &mut [u16],
+    first: &[u16],
+    places: &[u16],
+    start: &[u16],
+    heads: &[u16],
+    high: bool,
+) -> bool
+    requires { ⌜ SettleReady (now a) high (now run) × Indexed (now a) (now first) (now places) (now start) (now heads) ⌝ }
+    ensures { λ r. ⌜ Settled (now (a .entry)) high (now (run .entry)) (now (run .exit)) r ⌝ }
+{
+    let mut words = [0u64; 8];
+    let mut values = [0u8; 1024];
+    index::words::fill_words(run, a[1], &mut words);
+    index::value::fill_ends(run, a[1], a[0], &mut values, high);
+    settle_over(
+        a,
+        run,
+        &mut words,
+        &mut values,
+        first,
+        places,
+        start,
+        heads,
+        high,
+    )
 }
 
 // Every reached condition waits, and none is flagged.
@@ -139,8 +127,8 @@ fn wait_all(run: &mut [u16], n: u16)
 }
 
 // Clears the flag of c; if it was set, whoever negates c waits.
-fn wake_from(a: &[u16], run: &mut [u16], c: u16)
-    requires { ⌜ (sound (now a) ≡ true) × (4 * getD (now a) 1 0 ≤ length (now run)) × (c < getD (now a) 1 0) ⌝ }
+fn wake_from(a: &[u16], run: &mut [u16], start: &[u16], heads: &[u16], c: u16)
+    requires { ⌜ (sound (now a) ≡ true) × (4 * conditionsOf (now a) ≤ length (now run)) × (c < conditionsOf (now a)) × HeadsByLiteral (now a) (now start) (now heads) ⌝ }
     ensures { λ r. ⌜ WokenFrom (pageOf (now (a .entry))) c (now (run .entry)) (now (run .exit)) ⌝ }
 {
     let at = 3 * a[1] as usize + c as usize;
@@ -148,104 +136,230 @@ fn wake_from(a: &[u16], run: &mut [u16], c: u16)
         return;
     }
     run[at] = 0;
-    mark_readers(a, run, 2 * c + 1);
+    index::words::mark_readers(a, run, start, heads, 2 * c + 1);
 }
 
 // Whoever negates a flagged condition waits, and none is flagged any more.
-fn wake(a: &[u16], run: &mut [u16])
-    requires { ⌜ (sound (now a) ≡ true) × (4 * getD (now a) 1 0 ≤ length (now run)) ⌝ }
+fn wake(a: &[u16], run: &mut [u16], start: &[u16], heads: &[u16])
+    requires { ⌜ (sound (now a) ≡ true) × (4 * conditionsOf (now a) ≤ length (now run)) × HeadsByLiteral (now a) (now start) (now heads) ⌝ }
     ensures { λ r. ⌜ Woken (pageOf (now (a .entry))) (now (run .entry)) (now (run .exit)) ⌝ }
 {
     let n = a[1];
     let mut c: u16 = 0;
     while c < n {
-        wake_from(a, run, c);
+        wake_from(a, run, start, heads, c);
         c += 1;
     }
 }
 
-// The lowest of n conditions that waits and is not flagged, or n if there is none.
-fn lowest_unflagged(run: &[u16], n: u16) -> u16
-    requires { ⌜ (4 * n ≤ length (now run)) × (n ≤ 512) ⌝ }
-    ensures { λ r. ⌜ Unflagged n (now (run .entry)) r ⌝ }
+// The condition h waits if it is reached; if it did not wait before, it joins the set.
+fn gather(run: &mut [u16], words: &mut [u64], h: u16)
+    requires { ⌜ (3 * h + 3 ≤ length (now run)) × (length (now words) ≡ 8) × (h < 512) ⌝ }
+    ensures { λ r. ⌜ Gathered h (now (run .entry)) (now (words .entry)) (now (run .exit)) (now (words .exit)) ⌝ }
 {
-    let mut k: u16 = 0;
-    while k < n {
-        if run[3 * k as usize + 2] == 2 {
-            if run[3 * n as usize + k as usize] == 0 {
-                return k;
-            }
+    let at = 3 * h as usize + 2;
+    let mark = run[at];
+    if mark != 2 {
+        if mark != 0 {
+            run[at] = 2;
+            index::words::insert(words, h);
         }
-        k += 1;
     }
-    n
 }
 
-// The high end of c is 0 again, c is flagged, and whoever names c plainly waits.
-fn reset(a: &[u16], run: &mut [u16], c: u16)
-    requires { ⌜ (sound (now a) ≡ true) × (4 * getD (now a) 1 0 ≤ length (now run)) × (c < getD (now a) 1 0) ⌝ }
-    ensures { λ r. ⌜ Reset (pageOf (now (a .entry))) c (now (run .entry)) (now (run .exit)) ⌝ }
+// Every reached condition that names c plainly waits; those that did not wait before join the set.
+fn gather_readers(
+    a: &[u16],
+    run: &mut [u16],
+    words: &mut [u64],
+    start: &[u16],
+    heads: &[u16],
+    c: u16,
+)
+    requires { ⌜ (sound (now a) ≡ true) × HeadsByLiteral (now a) (now start) (now heads) × (3 * conditionsOf (now a) ≤ length (now run)) × (c < conditionsOf (now a)) × Pending (conditionsOf (now a)) (now run) (now words) ⌝ }
+    ensures { λ r. ⌜ ReadersMarked (pageOf (now (a .entry))) (2 * c) (now (run .entry)) (now (run .exit)) × Pending (conditionsOf (now (a .entry))) (now (run .exit)) (now (words .exit)) ⌝ }
+{
+    let code = 2 * c as usize;
+    let end = start[code + 1] as usize;
+    let mut i = start[code] as usize;
+    while i < end {
+        gather(run, words, heads[i]);
+        i += 1;
+    }
+}
+
+// The high end of c, which is of the set, is 0 again, c is flagged, and whoever names c plainly waits.
+fn reset(a: &[u16], run: &mut [u16], words: &mut [u64], start: &[u16], heads: &[u16], c: u16)
+    requires { ⌜ (sound (now a) ≡ true) × HeadsByLiteral (now a) (now start) (now heads) × (4 * conditionsOf (now a) ≤ length (now run)) × (c < conditionsOf (now a)) × (waitsAt (now run) c ≡ true) × Pending (conditionsOf (now a)) (now run) (now words) ⌝ }
+    ensures { λ r. ⌜ Reset (pageOf (now (a .entry))) c (now (run .entry)) (now (run .exit)) × Pending (conditionsOf (now (a .entry))) (now (run .exit)) (now (words .exit)) ⌝ }
 {
     let n = a[1];
+    index::words::remove(words, c);
     run[3 * n as usize + c as usize] = 1;
     run[3 * c as usize + 1] = 0;
-    mark_readers(a, run, 2 * c);
+    gather_readers(a, run, words, start, heads, c);
+}
+
+// The same for all of the set, and for whoever joins it.
+fn restart_over(a: &[u16], run: &mut [u16], words: &mut [u64], start: &[u16], heads: &[u16])
+    requires { ⌜ (sound (now a) ≡ true) × HeadsByLiteral (now a) (now start) (now heads) × (4 * conditionsOf (now a) ≤ length (now run)) × ((c : ℕ) → c < conditionsOf (now a) → flagAt (conditionsOf (now a)) (now run) c ≡ 0) × WordsMatch (conditionsOf (now a)) (now run) (now words) ⌝ }
+    ensures { λ r. ⌜ Restarted (pageOf (now (a .entry))) (now (run .entry)) (now (run .exit)) ⌝ }
+{
+    let mut c = index::words::any_in(words, 0);
+    while c < 512 {
+        reset(a, run, words, start, heads, c);
+        c = index::words::any_in(words, c);
+    }
 }
 
 // The high ends of all who wait, or who name plainly one who does, are 0 again, and all of these wait.
-fn restart(a: &[u16], run: &mut [u16])
-    requires { ⌜ (sound (now a) ≡ true) × (4 * getD (now a) 1 0 ≤ length (now run)) × ((c : ℕ) → c < getD (now a) 1 0 → flagAt (getD (now a) 1 0) (now run) c ≡ 0) ⌝ }
+fn restart(a: &[u16], run: &mut [u16], start: &[u16], heads: &[u16])
+    requires { ⌜ (sound (now a) ≡ true) × HeadsByLiteral (now a) (now start) (now heads) × (4 * conditionsOf (now a) ≤ length (now run)) × ((c : ℕ) → c < conditionsOf (now a) → flagAt (conditionsOf (now a)) (now run) c ≡ 0) ⌝ }
     ensures { λ r. ⌜ Restarted (pageOf (now (a .entry))) (now (run .entry)) (now (run .exit)) ⌝ }
 {
-    let n = a[1];
-    let mut c = lowest_unflagged(run, n);
-    while c < n {
-        reset(a, run, c);
-        c = lowest_unflagged(run, n);
-    }
+    let mut words = [0u64; 8];
+    index::words::fill_words(run, a[1], &mut words);
+    restart_over(a, run, &mut words, start, heads);
 }
 
 // The first round: all high ends, then all low ends; whether a low end changed.
-fn first_round(a: &[u16], run: &mut [u16]) -> bool
-    requires { ⌜ RoundsBegin (now a) (now run) ⌝ }
+fn first_round(
+    a: &[u16],
+    run: &mut [u16],
+    first: &[u16],
+    places: &[u16],
+    start: &[u16],
+    heads: &[u16],
+) -> bool
+    requires { ⌜ RoundsBegin (now a) (now run) × Indexed (now a) (now first) (now places) (now start) (now heads) ⌝ }
     ensures { λ r. ⌜ Rounded (now (a .entry)) (now (run .entry)) (now (run .exit)) r ⌝ }
 {
-    settle_ends(a, run, true);
+    settle_ends(a, run, first, places, start, heads, true);
     wait_all(run, a[1]);
-    settle_ends(a, run, false)
+    settle_ends(a, run, first, places, start, heads, false)
 }
 
 // A further round: the high ends that may have changed anew from 0, then the low ends from where they are; whether a low end changed.
-fn next_round(a: &[u16], run: &mut [u16]) -> bool
-    requires { ⌜ RoundDone (now a) (now run) ⌝ }
+fn next_round(
+    a: &[u16],
+    run: &mut [u16],
+    first: &[u16],
+    places: &[u16],
+    start: &[u16],
+    heads: &[u16],
+) -> bool
+    requires { ⌜ RoundDone (now a) (now run) × Indexed (now a) (now first) (now places) (now start) (now heads) ⌝ }
     ensures { λ r. ⌜ Rounded (now (a .entry)) (now (run .entry)) (now (run .exit)) r ⌝ }
 {
-    wake(a, run);
-    restart(a, run);
-    settle_ends(a, run, true);
-    wake(a, run);
-    settle_ends(a, run, false)
+    wake(a, run, start, heads);
+    restart(a, run, start, heads);
+    settle_ends(a, run, first, places, start, heads, true);
+    wake(a, run, start, heads);
+    settle_ends(a, run, first, places, start, heads, false)
 }
 
 // Rounds until one changes no low end.
-fn alternate(a: &[u16], run: &mut [u16])
-    requires { ⌜ RoundsBegin (now a) (now run) ⌝ }
+fn alternate(
+    a: &[u16],
+    run: &mut [u16],
+    first: &[u16],
+    places: &[u16],
+    start: &[u16],
+    heads: &[u16],
+)
+    requires { ⌜ RoundsBegin (now a) (now run) × Indexed (now a) (now first) (now places) (now start) (now heads) ⌝ }
     ensures { λ r. ⌜ Alternated (now (a .entry)) (now (run .entry)) (now (run .exit)) ⌝ }
 {
-    let mut changed = first_round(a, run);
+    let mut changed = first_round(a, run, first, places, start, heads);
     while changed {
-        changed = next_round(a, run);
+        changed = next_round(a, run, first, places, start, heads);
     }
+}
+
+// The closed reading of every condition reached from the queries, in the scratch; the arrays take the index of the page.
+fn solve_over(
+    a: &[u16],
+    queries: &[u16],
+    run: &mut [u16],
+    first: &mut [u16],
+    places: &mut [u16],
+    start: &mut [u16],
+    heads: &mut [u16],
+)
+    requires { ⌜ SolveReady (now a) (now queries) (now run) × IndexRoom (now a) (now first) (now places) (now start) (now heads) ⌝ }
+    ensures { λ r. ⌜ Solved (now (a .entry)) (now (queries .entry)) (now (run .entry)) (now (run .exit)) ⌝ }
+{
+    index::build::lines_by_head(a, first, places);
+    index::build::heads_by_literal(a, start, heads);
+    let marks = reach::closure_by_index(a, queries, first, places);
+    reach::write_run(run, a[1], 0, &marks);
+    alternate(a, run, first, places, start, heads);
+}
+
+// The same, with arrays for a small page.
+fn solve_small(a: &[u16], queries: &[u16], run: &mut [u16])
+    requires { ⌜ SolveReady (now a) (now queries) (now run) × (conditionsOf (now a) ≤ 64) × (countOf (now a) ≤ 128) × (usedOf (now a) ≤ 4 * countOf (now a) + 516) ⌝ }
+    ensures { λ r. ⌜ Solved (now (a .entry)) (now (queries .entry)) (now (run .entry)) (now (run .exit)) ⌝ }
+{
+    let mut first = [0u16; 65];
+    let mut places = [0u16; 128];
+    let mut start = [0u16; 129];
+    let mut heads = [0u16; 512];
+    solve_over(
+        a,
+        queries,
+        run,
+        &mut first,
+        &mut places,
+        &mut start,
+        &mut heads,
+    );
+}
+
+// The same, with arrays for every page.
+fn solve_large(a: &[u16], queries: &[u16], run: &mut [u16])
+    requires { ⌜ SolveReady (now a) (now queries) (now run) ⌝ }
+    ensures { λ r. ⌜ Solved (now (a .entry)) (now (queries .entry)) (now (run .entry)) (now (run .exit)) ⌝ }
+{
+    let mut first = [0u16; 513];
+    let mut places = [0u16; 1024];
+    let mut start = [0u16; 1025];
+    let mut heads = [0u16; 8192];
+    solve_over(
+        a,
+        queries,
+        run,
+        &mut first,
+        &mut places,
+        &mut start,
+        &mut heads,
+    );
+}
+
+// Whether the arrays for a small page hold the index of a page: up to 64 conditions, 128 lines and 512 literals.
+fn is_small(a: &[u16]) -> bool
+    requires { ⌜ 4 ≤ length (now a) ⌝ }
+    ensures { λ r. ⌜ (r ≡ true → (conditionsOf (now (a .entry)) ≤ 64) × (countOf (now (a .entry)) ≤ 128) × (usedOf (now (a .entry)) ≤ 4 * countOf (now (a .entry)) + 516)) ⌝ }
+{
+    if 64 < a[1] {
+        return false;
+    }
+    if 128 < a[2] {
+        return false;
+    }
+    a[3] <= 4 * a[2] + 516
 }
 
 // The closed reading of every condition reached from the queries, in the scratch.
 fn solve(a: &[u16], queries: &[u16], run: &mut [u16])
-    requires { ⌜ (sound (now a) ≡ true) × (allUnder (getD (now a) 1 0) (now queries) ≡ true) × (4 * getD (now a) 1 0 ≤ length (now run)) ⌝ }
+    requires { ⌜ SolveReady (now a) (now queries) (now run) ⌝ }
     ensures { λ r. ⌜ Solved (now (a .entry)) (now (queries .entry)) (now (run .entry)) (now (run .exit)) ⌝ }
 {
-    let marks = reach::closure_of(a, queries);
-    reach::write_run(run, a[1], 0, &marks);
-    alternate(a, run);
+    if is_small(a) {
+        solve_small(a, queries, run);
+    } else {
+        solve_large(a, queries, run);
+    }
 }
 
 // Low and high of the condition q, as the answer to the query i.

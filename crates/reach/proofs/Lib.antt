@@ -1,11 +1,13 @@
--- marking, one condition or several
-pub mod Adding
--- what queries, literals and lines name
+-- sets of conditions as marks
+pub mod Sets
+-- what queries and literals name
 pub mod Naming
--- a scan over the lines that marks what they name
-pub mod Following
--- the passes, until one adds nothing
-pub mod Passes
+-- what a condition names, by its group of the index
+pub mod Grouping
+-- marking and listing what is reached
+pub mod Listing
+-- the closure by the list of reached conditions
+pub mod Closing
 -- R and E
 pub mod Counting
 -- the run area that an opening writes

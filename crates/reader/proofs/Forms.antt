@@ -3,26 +3,25 @@ use mathlib.Core.Path.{_≡_, refl, sym, _∙_, ap, subst}
 use mathlib.Core.Bool.{Bool, true, false, _&&_, _||_, false≢true}
 use mathlib.Core.List.{List, [], _∷_, map}
 use mathlib.Core.Logic.{_⊎_, inl, inr, ⊎-elim}
-use Prim.Native.Nat.{ℕ, suc, _+_, _≤_, _<_}
+use Prim.Native.Nat.{ℕ, suc, _+_, _*_, _≤_, _<_}
 use native.Mathlib.Omega.{arith}
-use lib.Dec.{eqb, leb}
+use native.Mathlib.Decide.{decLt}
+use lib.Dec.{ltb, leb}
 use lib.ListN.{length, getD, drop, length-drop, length-map}
-use borrow.Author.Tests.{eq-eqb, ne-eqb, eqb-true, le-leb, lt-leb, leb-true}
-use Rattle.semantics.specs.Area.{every, codeOf, kindOf, lineCode}
-use Rattle.semantics.specs.Page.{Line, fact, rule, query}
-use Rattle.semantics.specs.Text.{textLines, field, isNumber, valueOf, isLetter, isOp, opIn, isReading, readingIn, literalIn, allLiterals, factForm, isFact, ruleForm, isRule, queryForm, isQuery, hasForm, lineIn}
+use borrow.Author.Tests.{ne-eqb, eqb-true, le-leb, lt-leb, leb-true, lt-ltb, le-ltb}
+use Rattle.semantics.specs.Grade.{Op}
+use Rattle.semantics.specs.Area.{every, allUnder, codeOf, lineCode}
+use Rattle.semantics.specs.Page.{Literal, positive, negative, Reading, Line, fact, rule, query}
+use Rattle.semantics.specs.Text.{field, isNumber, isLetter, isOp, opIn, isReading, readingIn, literalIn, allLiterals, factForm, isFact, ruleForm, isRule, queryForm, isQuery, hasForm, lineIn, literalRanges, rangeTests}
 use Rattle.semantics.proofs.TestLists.{fails, passes}
-use Rattle.reader.specs.declared.line.Parsed.{Parsed}
-use Rattle.reader.specs.Cursor.{fieldsAt, fieldAt, linesAfter, letterThen}
+use Rattle.reader.specs.declared.line.Entry.{Entry}
+use Rattle.reader.specs.declared.line.Entry.the-variants.{Good, Form, Range}
+use Rattle.reader.specs.Cursor.{Within, fieldsAt, fieldAt, letterThen}
 use Rattle.reader.specs.Pairs.{pairTests, PairThen}
-use Rattle.reader.specs.Lines.{codesOf, codeIn, Holds, Parses, LiteralsAt, kindAt, readingAt}
+use Rattle.reader.specs.Lines.{codeIn, Ends, Put, LinePut, EntryAt, RuleAt, ruleRange, restTests, restCodes, kindAt, readingAt}
 use Rattle.reader.proofs.Tokens.{NumberLast}
 use Rattle.reader.proofs.Fields.{some-field}
-use Rattle.reader.proofs.Letters.{LetterThen, letter-absent, op-one, op-known, op-none, reading-one, reading-known, reading-none}
-
--- a line of no form
-pub formless : (s : List ℕ) (at : ℕ) {fs : List (List ℕ)} {p : Parsed} → p .form ≡ false → hasForm fs ≡ false → Parses s at fs p
-formless s at e n = record { form = e ∙ sym n; holds = λ h. absurd (false≢true (sym e ∙ h)) }
+use Rattle.reader.proofs.Letters.{LetterThen, letter-absent, letter-or, op-one, op-known, op-none, reading-one, reading-known, reading-none}
 
 or-false : (t : Bool) → (t || false) ≡ t
 or-false true = refl
@@ -40,13 +39,27 @@ unless : (t : Bool) → (t ≡ true → ⊥) → t ≡ false
 unless true h = absurd (h refl)
 unless false h = refl
 
+-- the line at a place says `line`, and the next begins at the place `next`
+pub record Says (s : List ℕ) (at : ℕ) (line : Line) (next : ℕ) : Type 0 where
+  pub form : hasForm (fieldsAt (drop at s)) ≡ true
+  pub is : lineIn (fieldsAt (drop at s)) ≡ line
+  pub ends : Ends s at (length (lineCode line)) next
+
+module _ (s : List ℕ) (at top n : ℕ) {line : Line} {next : ℕ} (h : Says s at line next) where
+  pub far-entry : every (rangeTests top n line) ≡ false → (hasForm (fieldsAt (drop at s)) ≡ true) × (every (rangeTests top n (lineIn (fieldsAt (drop at s)))) ≡ false)
+  far-entry e = (h .form, rw (h .is) e)
+
+  pub put-entry : every (rangeTests top n line) ≡ true → {buffer : List ℕ} {start : ℕ} {buffer′ : List ℕ} {end : ℕ} → Put buffer start (lineCode line) buffer′ end → end ≤ start + 12
+      → LinePut s at top n buffer start buffer′ next end
+  put-entry e p f = record { form = h .form; ranges = rw (h .is) e; entry = rw (h .is) p; few = f; ends = rw (h .is) (h .ends) }
+
 -- A fact: `F`, and the fields gs.
 module _ (gs : List (List ℕ)) where
   fact-form : hasForm ((70 ∷ []) ∷ gs) ≡ isFact ((70 ∷ []) ∷ gs)
   unfolding hasForm isRule isQuery
   fact-form = or-false (isFact ((70 ∷ []) ∷ gs))
 
-  pub no-fact : every (pairTests gs) ≡ false → hasForm ((70 ∷ []) ∷ gs) ≡ false
+  no-fact : every (pairTests gs) ≡ false → hasForm ((70 ∷ []) ∷ gs) ≡ false
   unfolding isFact
   no-fact h =
       let ts = factForm ((70 ∷ []) ∷ gs) in
@@ -57,11 +70,14 @@ module _ (gs : List (List ℕ)) where
       let ok : every (pairTests gs) ≡ true = rw (passes ts 2 e, passes ts 3 e) (rw (le-leb 3 (length gs) (omega arith))) in
       false≢true (sym h ∙ ok))
 
-module _ (s : List ℕ) (at : ℕ) where
-  module _ {v w b : ℕ} (k : PairThen s at v w b) where
-    pub no-high : (isNumber (fieldAt s b) ≡ false) ⊎ (2 ≤ length (fieldsAt (drop b s))) → hasForm ((70 ∷ []) ∷ fieldsAt (drop at s)) ≡ false
+module _ (s : List ℕ) (at : ℕ) (k₀ : LetterThen s at 70) where
+  pub no-pair : every (pairTests (fieldsAt (drop (at + 2) s))) ≡ false → hasForm (fieldsAt (drop at s)) ≡ false
+  no-pair h = rw (k₀ .fields) (no-fact (fieldsAt (drop (at + 2) s)) h)
+
+  module _ {v w b : ℕ} (k : PairThen s (at + 2) v w b) where
+    pub no-high : (isNumber (fieldAt s b) ≡ false) ⊎ (2 ≤ length (fieldsAt (drop b s))) → hasForm (fieldsAt (drop at s)) ≡ false
     unfolding isFact
-    no-high h = rw (k .fields, fact-form (k .f ∷ k .g ∷ fieldsAt (drop b s))) (go h)
+    no-high h = rw (k₀ .fields, k .fields, fact-form (k .f ∷ k .g ∷ fieldsAt (drop b s))) (go h)
       where
         go : (isNumber (fieldAt s b) ≡ false) ⊎ (2 ≤ length (fieldsAt (drop b s))) → isFact ((70 ∷ []) ∷ k .f ∷ k .g ∷ fieldsAt (drop b s)) ≡ false
         go (inl n) = fails (factForm ((70 ∷ []) ∷ k .f ∷ k .g ∷ fieldsAt (drop b s))) 4 n
@@ -70,8 +86,9 @@ module _ (s : List ℕ) (at : ℕ) where
             (ne-eqb (suc (suc (suc (length (fieldsAt (drop b s)))))) 4 (λ z. omega arith))
 
     module _ {h e : ℕ} (l : NumberLast s b h e) where
-      fact-fields : fieldsAt (drop at s) ≡ k .f ∷ k .g ∷ fieldAt s b ∷ []
-      fact-fields = k .fields ∙ ap (λ (fs : List (List ℕ)). k .f ∷ k .g ∷ fs) (l .fields)
+      fact-fields : fieldsAt (drop at s) ≡ (70 ∷ []) ∷ k .f ∷ k .g ∷ fieldAt s b ∷ []
+      fact-fields =
+          k₀ .fields ∙ ap (λ (fs : List (List ℕ)). (70 ∷ []) ∷ fs) (k .fields ∙ ap (λ (fs : List (List ℕ)). k .f ∷ k .g ∷ fs) (l .fields))
 
       is-fact : isFact ((70 ∷ []) ∷ k .f ∷ k .g ∷ fieldAt s b ∷ []) ≡ true
       unfolding isFact
@@ -81,21 +98,31 @@ module _ (s : List ℕ) (at : ℕ) where
       unfolding lineIn
       fact-line = rw (is-fact, k .value, k .value′, l .value)
 
-      pub a-fact : (p : Parsed) → p .form ≡ true → codesOf p ≡ v ∷ 0 ∷ w ∷ h ∷ [] → p .count ≡ 0 → p .next ≡ e → Parses s at ((70 ∷ []) ∷ fieldsAt (drop at s)) p
-      a-fact p t d n q =
-          rw fact-fields
-          (record {
-            form = t ∙ sym (fact-form (k .f ∷ k .g ∷ fieldAt s b ∷ []) ∙ is-fact);
-            holds = λ z.
-                record {
-                  codes = d ∙ rw fact-line;
-                  count = rw n;
-                  few = omega arith;
-                  lines = k .lines ∙ l .lines ∙ rw q;
-                  ahead = omega (arith, k .ahead, l .ahead);
-                  inside = omega (arith, l .inside);
-                };
-          })
+      pub a-fact : Says s at (fact v w h) e
+      a-fact =
+          record {
+            form = ap hasForm fact-fields ∙ fact-form (k .f ∷ k .g ∷ fieldAt s b ∷ []) ∙ is-fact;
+            is = ap lineIn fact-fields ∙ fact-line;
+            ends = record {
+              lines = k₀ .lines ∙ k .lines ∙ l .lines;
+              ahead = omega (arith, k .ahead, l .ahead);
+              inside = l .inside;
+            };
+          }
+
+-- The ranges of a fact.
+module _ (top n c l h : ℕ) where
+  pub fact-condition : n ≤ c → every (rangeTests top n (fact c l h)) ≡ false
+  fact-condition e = fails (rangeTests top n (fact c l h)) 0 (le-ltb c n e)
+
+  pub fact-high : top < h → every (rangeTests top n (fact c l h)) ≡ false
+  fact-high e = fails (rangeTests top n (fact c l h)) 2 (lt-leb h top e)
+
+  pub fact-low : h < l → every (rangeTests top n (fact c l h)) ≡ false
+  fact-low e = fails (rangeTests top n (fact c l h)) 3 (lt-leb l h e)
+
+  pub fact-good : c < n → h ≤ top → l ≤ h → every (rangeTests top n (fact c l h)) ≡ true
+  fact-good e f g = rw (lt-ltb c n e, le-leb l top (omega arith), le-leb h top f, le-leb l h g)
 
 -- A query: `Q`, and the fields gs.
 module _ (gs : List (List ℕ)) where
@@ -103,7 +130,7 @@ module _ (gs : List (List ℕ)) where
   unfolding hasForm isFact isRule
   query-form = refl
 
-  pub no-reading : readingAt (letterThen gs) ≡ 2 → hasForm ((81 ∷ []) ∷ gs) ≡ false
+  no-reading : readingAt (letterThen gs) ≡ 2 → hasForm ((81 ∷ []) ∷ gs) ≡ false
   unfolding isQuery
   no-reading h = query-form ∙ go (letter-absent isReading reading-one gs (reading-none (letterThen gs) h))
     where
@@ -111,44 +138,56 @@ module _ (gs : List (List ℕ)) where
       go (inl n) = fails (queryForm ((81 ∷ []) ∷ gs)) 2 n
       go (inr l) = fails (queryForm ((81 ∷ []) ∷ gs)) 1 (ne-eqb (suc (length gs)) 3 (λ z. omega arith))
 
-module _ (s : List ℕ) (at : ℕ) {r : ℕ} (k : LetterThen s at r) where
-  pub no-query : (isNumber (fieldAt s (at + 2)) ≡ false) ⊎ (2 ≤ length (fieldsAt (drop (at + 2) s))) → hasForm ((81 ∷ []) ∷ fieldsAt (drop at s)) ≡ false
-  unfolding isQuery
-  no-query h = rw (k .fields, query-form ((r ∷ []) ∷ fieldsAt (drop (at + 2) s))) (go h)
-    where
-      go : (isNumber (fieldAt s (at + 2)) ≡ false) ⊎ (2 ≤ length (fieldsAt (drop (at + 2) s))) → isQuery ((81 ∷ []) ∷ (r ∷ []) ∷ fieldsAt (drop (at + 2) s)) ≡ false
-      go (inl n) = fails (queryForm ((81 ∷ []) ∷ (r ∷ []) ∷ fieldsAt (drop (at + 2) s))) 3 n
-      go (inr l) =
-          fails (queryForm ((81 ∷ []) ∷ (r ∷ []) ∷ fieldsAt (drop (at + 2) s))) 1
-          (ne-eqb (suc (suc (length (fieldsAt (drop (at + 2) s))))) 3 (λ z. omega arith))
+module _ (s : List ℕ) (at : ℕ) (k₀ : LetterThen s at 81) where
+  pub no-reading-letter : readingAt (letterThen (fieldsAt (drop (at + 2) s))) ≡ 2 → hasForm (fieldsAt (drop at s)) ≡ false
+  no-reading-letter h = rw (k₀ .fields) (no-reading (fieldsAt (drop (at + 2) s)) h)
 
-  module _ (n : readingAt r ≡ 2 → ⊥) {v e : ℕ} (l : NumberLast s (at + 2) v e) where
-    query-fields : fieldsAt (drop at s) ≡ (r ∷ []) ∷ fieldAt s (at + 2) ∷ []
-    query-fields = k .fields ∙ ap (λ (fs : List (List ℕ)). (r ∷ []) ∷ fs) (l .fields)
+  module _ {r : ℕ} (k : LetterThen s (at + 2) r) where
+    four : at + 2 + 2 ≡ at + 4
+    four = omega arith
 
-    is-query : isQuery ((81 ∷ []) ∷ (r ∷ []) ∷ fieldAt s (at + 2) ∷ []) ≡ true
+    pub query-place : Within s (at + 4)
+    query-place = rw four at (k .place)
+
+    letters : fieldsAt (drop at s) ≡ (81 ∷ []) ∷ (r ∷ []) ∷ fieldsAt (drop (at + 4) s)
+    letters = k₀ .fields ∙ ap (λ (fs : List (List ℕ)). (81 ∷ []) ∷ fs) (rw four at (k .fields))
+
+    pub no-query : (isNumber (fieldAt s (at + 4)) ≡ false) ⊎ (2 ≤ length (fieldsAt (drop (at + 4) s))) → hasForm (fieldsAt (drop at s)) ≡ false
     unfolding isQuery
-    is-query = rw (reading-known r n .0, l .number)
+    no-query h = rw (letters, query-form ((r ∷ []) ∷ fieldsAt (drop (at + 4) s))) (go h)
+      where
+        go : (isNumber (fieldAt s (at + 4)) ≡ false) ⊎ (2 ≤ length (fieldsAt (drop (at + 4) s))) → isQuery ((81 ∷ []) ∷ (r ∷ []) ∷ fieldsAt (drop (at + 4) s)) ≡ false
+        go (inl n) = fails (queryForm ((81 ∷ []) ∷ (r ∷ []) ∷ fieldsAt (drop (at + 4) s))) 3 n
+        go (inr l) =
+            fails (queryForm ((81 ∷ []) ∷ (r ∷ []) ∷ fieldsAt (drop (at + 4) s))) 1
+            (ne-eqb (suc (suc (length (fieldsAt (drop (at + 4) s))))) 3 (λ z. omega arith))
 
-    query-line : lineCode (lineIn ((81 ∷ []) ∷ (r ∷ []) ∷ fieldAt s (at + 2) ∷ [])) ≡ v ∷ 6 ∷ readingAt r ∷ 0 ∷ []
-    unfolding lineIn isFact isRule
-    query-line = reading-known r n .1 (valueOf (fieldAt s (at + 2))) ∙ rw (l .value)
+    module _ (n : readingAt r ≡ 2 → ⊥) {v e : ℕ} (l : NumberLast s (at + 4) v e) where
+      query-fields : fieldsAt (drop at s) ≡ (81 ∷ []) ∷ (r ∷ []) ∷ fieldAt s (at + 4) ∷ []
+      query-fields = letters ∙ ap (λ (fs : List (List ℕ)). (81 ∷ []) ∷ (r ∷ []) ∷ fs) (l .fields)
 
-    pub a-query : (p : Parsed) → p .form ≡ true → codesOf p ≡ v ∷ 6 ∷ readingAt r ∷ 0 ∷ [] → p .count ≡ 0 → p .next ≡ e → Parses s at ((81 ∷ []) ∷ fieldsAt (drop at s)) p
-    a-query p t d m q =
-        rw query-fields
-        (record {
-          form = t ∙ sym (query-form ((r ∷ []) ∷ fieldAt s (at + 2) ∷ []) ∙ is-query);
-          holds = λ z.
-              record {
-                codes = d ∙ sym query-line;
-                count = rw m;
-                few = omega arith;
-                lines = k .lines ∙ l .lines ∙ rw q;
-                ahead = omega (arith, l .ahead);
-                inside = omega (arith, l .inside);
-              };
-        })
+      is-query : isQuery ((81 ∷ []) ∷ (r ∷ []) ∷ fieldAt s (at + 4) ∷ []) ≡ true
+      unfolding isQuery
+      is-query = rw (reading-known r n .0, l .number)
+
+      query-line : lineIn ((81 ∷ []) ∷ (r ∷ []) ∷ fieldAt s (at + 4) ∷ []) ≡ query (readingIn (r ∷ [])) v
+      unfolding lineIn isFact isRule
+      query-line = rw (l .value)
+
+      pub query-codes : v ∷ 6 ∷ readingAt r ∷ 0 ∷ [] ≡ lineCode (query (readingIn (r ∷ [])) v)
+      query-codes = sym (reading-known r n .1 v)
+
+      pub a-query : Says s at (query (readingIn (r ∷ [])) v) e
+      a-query =
+          record {
+            form = ap hasForm query-fields ∙ query-form ((r ∷ []) ∷ fieldAt s (at + 4) ∷ []) ∙ is-query;
+            is = ap lineIn query-fields ∙ query-line;
+            ends = record {
+              lines = k₀ .lines ∙ k .lines ∙ rw four (l .lines);
+              ahead = rw (← query-codes) (omega (arith, l .ahead));
+              inside = l .inside;
+            };
+          }
 
 -- A rule: `R`, and the fields gs.
 module _ (gs : List (List ℕ)) where
@@ -156,7 +195,7 @@ module _ (gs : List (List ℕ)) where
   unfolding hasForm isFact isQuery
   rule-form = or-false (isRule ((82 ∷ []) ∷ gs))
 
-  pub no-rule : every (pairTests gs) ≡ false → hasForm ((82 ∷ []) ∷ gs) ≡ false
+  no-rule : every (pairTests gs) ≡ false → hasForm ((82 ∷ []) ∷ gs) ≡ false
   unfolding isRule
   no-rule h =
       let ts = ruleForm ((82 ∷ []) ∷ gs) in
@@ -167,66 +206,131 @@ module _ (gs : List (List ℕ)) where
       let ok : every (pairTests gs) ≡ true = rw (passes ts 3 e, passes ts 4 e) (rw (le-leb 3 (length gs) (omega (arith, length-drop 3 gs)))) in
       false≢true (sym h ∙ ok))
 
-module _ (s : List ℕ) (at : ℕ) {v w b : ℕ} (k : PairThen s at v w b) where
-  pub no-op : kindAt (letterThen (fieldsAt (drop b s))) ≡ 0 → hasForm ((82 ∷ []) ∷ fieldsAt (drop at s)) ≡ false
-  unfolding isRule
-  no-op h =
-      let gs = fieldsAt (drop b s) in
-      rw (k .fields, rule-form (k .f ∷ k .g ∷ gs)) (go (letter-absent isOp op-one gs (op-none (letterThen gs) h)))
-    where
-      go : (isOp (fieldAt s b) ≡ false) ⊎ (length (fieldsAt (drop b s)) ≤ 1) → isRule ((82 ∷ []) ∷ k .f ∷ k .g ∷ fieldsAt (drop b s)) ≡ false
-      go (inl n) = fails (ruleForm ((82 ∷ []) ∷ k .f ∷ k .g ∷ fieldsAt (drop b s))) 5 n
-      go (inr l) =
-          let gs = fieldsAt (drop b s) in
-          fails (ruleForm ((82 ∷ []) ∷ k .f ∷ k .g ∷ gs)) 1 (lt-leb 1 (length (drop 1 gs)) (omega (arith, length-drop 1 gs)))
+-- behind the condition and the weight: an op letter and 1 to 8 literals
+pub no-rest : (gs : List (List ℕ)) → kindAt (letterThen gs) ≡ 0 → every (restTests gs) ≡ false
+no-rest gs h = go (letter-absent isOp op-one gs (op-none (letterThen gs) h))
+  where
+    go : (isOp (field gs 0) ≡ false) ⊎ (length gs ≤ 1) → every (restTests gs) ≡ false
+    go (inl n) = fails (restTests gs) 2 n
+    go (inr l) = fails (restTests gs) 0 (lt-leb 1 (length (drop 1 gs)) (omega (arith, length-drop 1 gs)))
 
-  module _ {r : ℕ} (m : LetterThen s b r) (n : kindAt r ≡ 0 → ⊥) where
-    rule-fields : fieldsAt (drop at s) ≡ k .f ∷ k .g ∷ (r ∷ []) ∷ fieldsAt (drop (b + 2) s)
-    rule-fields = k .fields ∙ ap (λ (fs : List (List ℕ)). k .f ∷ k .g ∷ fs) (m .fields)
+module _ (s : List ℕ) (at : ℕ) {r : ℕ} (k : LetterThen s at r) (n : kindAt r ≡ 0 → ⊥) where
+  pub rest-form : every (restTests (fieldsAt (drop at s))) ≡ (leb (length (fieldsAt (drop (at + 2) s))) 8 && allLiterals (fieldsAt (drop (at + 2) s)))
+  rest-form =
+      let hs = fieldsAt (drop (at + 2) s) in
+      rw (k .fields, le-leb 1 (length hs) (some-field (drop (at + 2) s)), op-known r n .0, and-true (allLiterals hs))
 
-    is-rule : isRule ((82 ∷ []) ∷ k .f ∷ k .g ∷ (r ∷ []) ∷ fieldsAt (drop (b + 2) s)) ≡ (leb (length (fieldsAt (drop (b + 2) s))) 8 && allLiterals (fieldsAt (drop (b + 2) s)))
+  pub rest-codes : (c w : ℕ) → restCodes c w (fieldsAt (drop at s)) ≡ c ∷ kindAt r ∷ w ∷ length (fieldsAt (drop (at + 2) s)) ∷ map codeIn (fieldsAt (drop (at + 2) s))
+  rest-codes c w = rw (k .fields, op-known r n .1)
+
+-- the ranges of a rule
+even-below : (c n : ℕ) → ltb (2 * c) (2 * n) ≡ ltb c n
+even-below c n = go (decLt c n)
+  where
+    go : Dec (c < n) → ltb (2 * c) (2 * n) ≡ ltb c n
+    go (yes h) = rw (lt-ltb c n h, lt-ltb (2 * c) (2 * n) (omega arith))
+    go (no h) = rw (le-ltb c n (omega arith), le-ltb (2 * c) (2 * n) (omega arith))
+
+odd-below : (c n : ℕ) → ltb (2 * c + 1) (2 * n) ≡ ltb c n
+odd-below c n = go (decLt c n)
+  where
+    go : Dec (c < n) → ltb (2 * c + 1) (2 * n) ≡ ltb c n
+    go (yes h) = rw (lt-ltb c n h, lt-ltb (2 * c + 1) (2 * n) (omega arith))
+    go (no h) = rw (le-ltb c n (omega arith), le-ltb (2 * c + 1) (2 * n) (omega arith))
+
+literals-under : (n : ℕ) (lits : List Literal) → allUnder (2 * n) (map codeOf lits) ≡ every (literalRanges n lits)
+unfolding allUnder
+literals-under n [] = refl
+literals-under n (positive c ∷ lits) = rw (even-below c n, literals-under n lits)
+literals-under n (negative c ∷ lits) = rw (odd-below c n, literals-under n lits)
+
+and-four : (a b c d : Bool) → ((a && (b && c)) && d) ≡ (a && (b && (c && d)))
+and-four true true c d = refl
+and-four true false c d = refl
+and-four false b c d = refl
+
+-- what `rule_range` answers
+module _ (top n c w : ℕ) where
+  pub rule-far : n ≤ c → false ≡ ruleRange top n c w
+  unfolding ruleRange
+  rule-far h = rw (le-ltb c n h)
+
+  pub rule-light : c < n → w < 1 → false ≡ ruleRange top n c w
+  unfolding ruleRange
+  rule-light h l = rw (lt-ltb c n h, lt-leb 1 w l)
+
+  pub rule-weight : c < n → 1 ≤ w → leb w top ≡ ruleRange top n c w
+  unfolding ruleRange
+  rule-weight h l = rw (lt-ltb c n h, le-leb 1 w l)
+
+rule-ranges : (top n c w : ℕ) (op : Op) (fs : List (List ℕ)) → every (rangeTests top n (rule c w op (map literalIn fs))) ≡ (ruleRange top n c w && allUnder (2 * n) (map codeIn fs))
+unfolding ruleRange
+rule-ranges top n c w op fs =
+    sym (rw (map-map fs, literals-under n (map literalIn fs)) (and-four (ltb c n) (leb 1 w) (leb w top) (every (literalRanges n (map literalIn fs)))))
+
+module _ (s : List ℕ) (at : ℕ) (k₀ : LetterThen s at 82) where
+  pub no-rule-pair : every (pairTests (fieldsAt (drop (at + 2) s))) ≡ false → hasForm (fieldsAt (drop at s)) ≡ false
+  no-rule-pair h = rw (k₀ .fields) (no-rule (fieldsAt (drop (at + 2) s)) h)
+
+  module _ {v w b : ℕ} (k : PairThen s (at + 2) v w b) where
+    rule-fields : fieldsAt (drop at s) ≡ (82 ∷ []) ∷ k .f ∷ k .g ∷ fieldsAt (drop b s)
+    rule-fields = k₀ .fields ∙ ap (λ (fs : List (List ℕ)). (82 ∷ []) ∷ fs) (k .fields)
+
+    is-rule : isRule ((82 ∷ []) ∷ k .f ∷ k .g ∷ fieldsAt (drop b s)) ≡ every (restTests (fieldsAt (drop b s)))
     unfolding isRule
-    is-rule =
-        let gs = fieldsAt (drop (b + 2) s) in
-        rw (le-leb 1 (length gs) (some-field (drop (b + 2) s)), k .first, k .second, op-known r n .0, and-true (allLiterals gs))
+    is-rule = rw (k .first, k .second)
 
-    module _ {p : Parsed} (l : LiteralsAt s (b + 2) v (kindAt r) w p) where
-      rule-codes : p .form ≡ true → codesOf p ≡ lineCode (lineIn ((82 ∷ []) ∷ k .f ∷ k .g ∷ (r ∷ []) ∷ fieldsAt (drop (b + 2) s)))
+    has-rule : hasForm (fieldsAt (drop at s)) ≡ every (restTests (fieldsAt (drop b s)))
+    has-rule = ap hasForm rule-fields ∙ rule-form (k .f ∷ k .g ∷ fieldsAt (drop b s)) ∙ is-rule
+
+    abbrev the-rule : Line
+    the-rule = rule v w (opIn (field (fieldsAt (drop b s)) 0)) (map literalIn (drop 1 (fieldsAt (drop b s))))
+
+    module _ (t : every (restTests (fieldsAt (drop b s))) ≡ true) where
+      rule-line : lineIn (fieldsAt (drop at s)) ≡ the-rule
       unfolding lineIn isFact
-      rule-codes t =
-          let gs = fieldsAt (drop (b + 2) s) in
-          l .holds t .codes ∙ rw (is-rule, sym (l .form) ∙ t, k .value, k .value′, op-known r n .1, length-map gs literalIn) (rw map-map)
+      rule-line = ap lineIn rule-fields ∙ rw (is-rule, t, k .value, k .value′)
 
-      pub a-rule : Parses s at ((82 ∷ []) ∷ fieldsAt (drop at s)) p
-      a-rule =
-          rw rule-fields
-          (record {
-            form = l .form ∙ sym (rule-form (k .f ∷ k .g ∷ (r ∷ []) ∷ fieldsAt (drop (b + 2) s)) ∙ is-rule);
-            holds = λ t.
-                let q = l .holds t in
-                record {
-                  codes = rule-codes t;
-                  count = q .count;
-                  few = q .few;
-                  lines = k .lines ∙ m .lines ∙ q .lines;
-                  ahead = omega (arith, k .ahead, q .ahead);
-                  inside = q .inside;
-                };
-          })
+      rule-codes : restCodes v w (fieldsAt (drop b s)) ≡ lineCode the-rule
+      rule-codes = let hs = drop 1 (fieldsAt (drop b s)) in rw (length-map hs literalIn, map-map hs)
 
--- A line that begins with a letter, and any other.
-module _ (s : List ℕ) (at : ℕ) {r : ℕ} (k : LetterThen s at r) where
-  pub a-line : {p : Parsed} → Parses s (at + 2) ((r ∷ []) ∷ fieldsAt (drop (at + 2) s)) p → Parses s at (fieldsAt (drop at s)) p
-  a-line {p} h =
-      rw (k .fields)
-      (record {
-        form = h .form;
-        holds = λ t.
-            let w = h .holds t in
-            record { codes = w .codes; count = w .count; few = w .few; lines = k .lines ∙ w .lines; ahead = omega (arith, w .ahead); inside = w .inside };
-      })
+      a-rule : {next : ℕ} → Ends s b (length (drop 1 (fieldsAt (drop b s)))) next → Says s at the-rule next
+      a-rule e =
+          let hs = drop 1 (fieldsAt (drop b s)) in
+          let size : length (lineCode the-rule) ≡ 4 + length hs = omega (arith, ap length rule-codes, length-map hs codeIn) in
+          record {
+            form = has-rule ∙ t;
+            is = rule-line;
+            ends = record {
+              lines = k₀ .lines ∙ k .lines ∙ e .lines;
+              ahead = omega (arith, size, k .ahead, e .ahead);
+              inside = e .inside;
+            };
+          }
 
-pub no-line : (fs : List (List ℕ)) → (letterThen fs ≡ 70 → ⊥) → (letterThen fs ≡ 82 → ⊥) → (letterThen fs ≡ 81 → ⊥) → hasForm fs ≡ false
+    -- a rule by what stands behind its weight
+    rule-entry-of : (top n : ℕ) (buffer : List ℕ) (start : ℕ) (buffer′ : List ℕ) (r : Entry)
+        → RuleAt s b v w (ruleRange top n v w) (2 * n) buffer start buffer′ r → EntryAt s at top n buffer start buffer′ r
+    rule-entry-of top n buffer start buffer′ (Good next end) q =
+        put-entry s at top n (a-rule (q .form) (q .ends))
+        (rule-ranges top n v w (opIn (field (fieldsAt (drop b s)) 0)) (drop 1 (fieldsAt (drop b s))) ∙ q .good)
+        (rw (rule-codes (q .form)) at (q .entry))
+        (q .few)
+    rule-entry-of top n buffer start buffer′ Form q = has-rule ∙ q
+    rule-entry-of top n buffer start buffer′ Range q = (
+      has-rule ∙ q .0,
+      ap (λ (l : Line). every (rangeTests top n l)) (rule-line (q .0))
+          ∙ rule-ranges top n v w (opIn (field (fieldsAt (drop b s)) 0)) (drop 1 (fieldsAt (drop b s)))
+          ∙ q .1,
+    )
+
+    pub rule-entry : (top n : ℕ) (ok : Bool) → ok ≡ ruleRange top n v w → (buffer : List ℕ) (start : ℕ) (buffer′ : List ℕ) (r : Entry)
+        → RuleAt s b v w ok (2 * n) buffer start buffer′ r → EntryAt s at top n buffer start buffer′ r
+    rule-entry top n ok o buffer start buffer′ r q =
+        rule-entry-of top n buffer start buffer′ r (subst (λ (t : Bool). RuleAt s b v w t (2 * n) buffer start buffer′ r) o q)
+
+-- A line that begins with none of the letters.
+no-line : (fs : List (List ℕ)) → (letterThen fs ≡ 70 → ⊥) → (letterThen fs ≡ 82 → ⊥) → (letterThen fs ≡ 81 → ⊥) → hasForm fs ≡ false
 unfolding hasForm isFact isRule isQuery
 no-line fs a b d =
     let x = letterThen fs in
@@ -247,3 +351,20 @@ no-line fs a b d =
     go-query : (isLetter 81 (field fs 0) ≡ false) ⊎ (length fs ≤ 1) → isQuery fs ≡ false
     go-query (inl n) = fails (queryForm fs) 0 n
     go-query (inr l) = fails (queryForm fs) 1 (ne-eqb (length fs) 3 (λ z. omega arith))
+
+pub gone-line : (fs : List (List ℕ)) → letterThen fs ≡ 0 → hasForm fs ≡ false
+gone-line fs e = no-line fs (λ z. omega arith) (λ z. omega arith) (λ z. omega arith)
+
+pub other-line : (s : List ℕ) (at : ℕ) → (getD s at 10 ≡ 70 → ⊥) → (getD s at 10 ≡ 82 → ⊥) → (getD s at 10 ≡ 81 → ⊥) → hasForm (fieldsAt (drop at s)) ≡ false
+other-line s at a b d =
+    let fs = fieldsAt (drop at s) in
+    ⊎-elim (λ (e : letterThen fs ≡ getD s at 10). no-line fs (λ z. a (sym e ∙ z)) (λ z. b (sym e ∙ z)) (λ z. d (sym e ∙ z)))
+    (λ (e : letterThen fs ≡ 0). gone-line fs e)
+    (letter-or s at)
+
+-- the condition of a query
+pub query-condition : (top n c : ℕ) (r : Reading) → n ≤ c → every (rangeTests top n (query r c)) ≡ false
+query-condition top n c r h = rw (le-ltb c n h)
+
+pub query-good : (top n c : ℕ) (r : Reading) → c < n → every (rangeTests top n (query r c)) ≡ true
+query-good top n c r h = rw (lt-ltb c n h)

@@ -1,30 +1,40 @@
 -- The first line, by what the parser has read of it. Assumes nothing.
 use mathlib.Core.Path.{_≡_, refl, sym, _∙_, ap}
-use mathlib.Core.Bool.{Bool, true, false, false≢true}
+use mathlib.Core.Bool.{true, false, false≢true}
 use mathlib.Core.List.{List, [], _∷_}
 use mathlib.Core.Logic.{_⊎_, inl, inr, ⊎-elim}
-use Prim.Native.Nat.{ℕ, suc, _+_, _≤_, _<_}
+use Prim.Native.Nat.{ℕ, suc, _≤_}
 use native.Mathlib.Omega.{arith}
-use lib.ListN.{length, drop}
+use lib.ListN.{length, getD, drop}
 use borrow.Author.Tests.{ne-eqb}
-use Rattle.semantics.specs.Text.{textLines, field, isNumber, valueOf, isLetter, headForm, isHead}
+use Rattle.semantics.specs.Text.{field, isNumber, valueOf, isLetter, headForm, isHead}
 use Rattle.semantics.proofs.TestLists.{fails}
 use Rattle.reader.specs.declared.check.Head.{Head}
-use Rattle.reader.specs.Cursor.{fieldsAt, fieldAt, linesAfter, letterThen}
-use Rattle.reader.specs.Checks.{HeadSays, HeadAt}
+use Rattle.reader.specs.Cursor.{fieldsAt, fieldAt, letterThen}
+use Rattle.reader.specs.Checks.{HeadAt}
 use Rattle.reader.proofs.Tokens.{NumberThen, NumberLast}
-use Rattle.reader.proofs.Letters.{LetterThen, letter-absent}
+use Rattle.reader.proofs.Letters.{LetterThen, letter-absent, letter-or}
 
 pub headless : (s : List ℕ) {h : Head} → h .form ≡ false → isHead (fieldsAt s) ≡ false → HeadAt s h
 headless s e n = record { form = e ∙ sym n; says = λ t. absurd (false≢true (sym e ∙ t)) }
 
-pub no-head-letter : (fs : List (List ℕ)) → (letterThen fs ≡ 71 → ⊥) → isHead fs ≡ false
+no-head-letter : (fs : List (List ℕ)) → (letterThen fs ≡ 71 → ⊥) → isHead fs ≡ false
 unfolding isHead
 no-head-letter fs n = go (letter-absent (isLetter 71) (λ f. refl) fs (ne-eqb (letterThen fs) 71 n))
   where
     go : (isLetter 71 (field fs 0) ≡ false) ⊎ (length fs ≤ 1) → isHead fs ≡ false
     go (inl e) = fails (headForm fs) 0 e
     go (inr l) = fails (headForm fs) 1 (ne-eqb (length fs) 3 (λ z. omega arith))
+
+-- no letter, and another byte than `G`
+pub gone-head : (s : List ℕ) → letterThen (fieldsAt (drop 0 s)) ≡ 0 → isHead (fieldsAt s) ≡ false
+gone-head s e = no-head-letter (fieldsAt s) (λ z. omega arith)
+
+pub other-head : (s : List ℕ) → (getD s 0 10 ≡ 71 → ⊥) → isHead (fieldsAt s) ≡ false
+other-head s n =
+    ⊎-elim (λ (e : letterThen (fieldsAt s) ≡ getD s 0 10). no-head-letter (fieldsAt s) (λ z. n (sym e ∙ z)))
+    (λ (e : letterThen (fieldsAt s) ≡ 0). gone-head s e)
+    (letter-or s 0)
 
 module _ (s : List ℕ) (k : LetterThen s 0 71) where
   pub no-top : (isNumber (fieldAt s 2) ≡ false) ⊎ (length (fieldsAt (drop 2 s)) ≡ 1) → isHead (fieldsAt s) ≡ false
@@ -61,5 +71,7 @@ module _ (s : List ℕ) (k : LetterThen s 0 71) where
                 top = sym (ap (λ (fs : List (List ℕ)). valueOf (field fs 1)) g ∙ t .value);
                 conditions = sym (ap (λ (fs : List (List ℕ)). valueOf (field fs 2)) g ∙ l .value);
                 lines = k .lines ∙ t .lines ∙ l .lines;
+                ahead = omega (arith, t .ahead, l .ahead);
+                inside = l .inside;
               };
         }

@@ -1,31 +1,31 @@
--- The letter that is a whole field, what `letter_then` answers, and the op and reading letters. Assumes nothing.
+-- The letter that is a whole field, and the op and reading letters. Assumes nothing.
 use mathlib.Core.Path.{_≡_, refl, sym, _∙_, ap}
-use mathlib.Core.Bool.{Bool, true, false, cond, _&&_, _||_, false≢true}
+use mathlib.Core.Bool.{Bool, true, false, cond, _&&_, _||_}
 use mathlib.Core.List.{List, [], _∷_}
 use mathlib.Core.Logic.{_⊎_, inl, inr, ⊎-elim}
-use Prim.Native.Nat.{ℕ, zero, suc, _+_, _≤_, _<_}
+use Prim.Native.Nat.{ℕ, suc, _+_, _≤_, _<_}
 use native.Mathlib.Omega.{arith}
 use native.Mathlib.Decide.{ℕ-discrete}
 use lib.Dec.{eqb, leb}
 use lib.ListN.{length, getD, drop}
-use borrow.Author.Tests.{eq-eqb, ne-eqb, eqb-true, le-leb, lt-leb, leb-true, leb-false}
+use borrow.Author.Tests.{ne-eqb, eqb-true, le-leb, leb-true, leb-false}
 use Rattle.semantics.specs.Area.{kindOf, lineCode}
-use Rattle.semantics.specs.Grade.{Op, M, X, L, B, P}
-use Rattle.semantics.specs.Page.{Reading, K, W, query}
-use Rattle.semantics.specs.Text.{field, isLetter, isOp, opIn, isReading, readingIn}
-use Rattle.reader.specs.Cursor.{fieldsAt, fieldAt, linesAfter, letterThen}
+use Rattle.semantics.specs.Grade.{M, X, L, B, P}
+use Rattle.semantics.specs.Page.{K, W, query}
+use Rattle.semantics.specs.Text.{field, isOp, opIn, isReading, readingIn}
+use Rattle.reader.specs.Cursor.{Within, fieldsAt, fieldAt, linesAfter, letterThen}
 use Rattle.reader.specs.Lines.{kindAt, readingAt}
-use Rattle.reader.proofs.Places.{within, comma-fields, newline-fields, other-fields}
+use Rattle.reader.proofs.Places.{byte-here, within, within-next, comma-fields, newline-fields, other-fields}
 use Rattle.reader.proofs.Numbers.{both-true}
 use Rattle.reader.proofs.Fields.{Comma, Newline, some-field, follows}
 
--- What `letter_then` answers, by the byte x at the place and the byte y after it.
+-- The letter at a place, or 0, by the byte x there and the byte y after it.
 module _ (s : List ℕ) (at : ℕ) {x : ℕ} (b : x ≡ getD s at 10) where
-  pub letter-comma : x ≡ 44 → 0 ≡ letterThen (fieldsAt (drop at s))
+  letter-comma : x ≡ 44 → 0 ≡ letterThen (fieldsAt (drop at s))
   unfolding letterThen
   letter-comma e = rw (comma-fields s at (sym b ∙ e))
 
-  pub letter-newline : x ≡ 10 → 0 ≡ letterThen (fieldsAt (drop at s))
+  letter-newline : x ≡ 10 → 0 ≡ letterThen (fieldsAt (drop at s))
   unfolding letterThen
   letter-newline e = rw (newline-fields s at (sym b ∙ e))
 
@@ -33,12 +33,12 @@ module _ (s : List ℕ) (at : ℕ) {x : ℕ} (b : x ≡ getD s at 10) where
     letter-fields : fieldsAt (drop at s) ≡ (getD s at 10 ∷ fieldAt s (at + 1)) ∷ drop 1 (fieldsAt (drop (at + 1) s))
     letter-fields = other-fields s at (λ e. n (b ∙ e)) (λ e. m (b ∙ e))
 
-    pub letter-is : y ≡ 44 → x ≡ letterThen (fieldsAt (drop at s))
+    letter-is : y ≡ 44 → x ≡ letterThen (fieldsAt (drop at s))
     unfolding letterThen
     letter-is e =
         rw (letter-fields, comma-fields s (at + 1) (sym d ∙ e), le-leb 2 (suc (length (fieldsAt (drop (at + 1 + 1) s)))) (omega (arith, some-field (drop (at + 1 + 1) s)))) b
 
-    pub letter-not : (y ≡ 44 → ⊥) → 0 ≡ letterThen (fieldsAt (drop at s))
+    letter-not : (y ≡ 44 → ⊥) → 0 ≡ letterThen (fieldsAt (drop at s))
     unfolding letterThen
     letter-not k = go (ℕ-discrete y 10)
       where
@@ -48,11 +48,11 @@ module _ (s : List ℕ) (at : ℕ) {x : ℕ} (b : x ≡ getD s at 10) where
             let f = fieldAt s (at + 1 + 1) in
             rw (letter-fields, other-fields s (at + 1) (λ e. l (d ∙ e)) (λ e. k (d ∙ e)), ne-eqb (suc (suc (length f))) 1 (λ z. omega arith))
 
--- What an answer other than 0 says of the fields.
+-- What a letter says of the fields.
 pub record LetterThen (s : List ℕ) (at r : ℕ) : Type 0 where
   pub fields : fieldsAt (drop at s) ≡ (r ∷ []) ∷ fieldsAt (drop (at + 2) s)
   pub lines : linesAfter (drop at s) ≡ linesAfter (drop (at + 2) s)
-  pub inside : at + 2 ≤ length s
+  pub place : Within s (at + 2)
 
 letter-tests : (t : Bool) (y r : ℕ) → r ≡ cond t y 0 → (r ≡ 0 → ⊥) → (t ≡ true) × (r ≡ y)
 letter-tests true y r e n = (refl, e)
@@ -63,32 +63,65 @@ single [] r l e = absurd (omega arith)
 single (b ∷ []) r l e = rw e
 single (b ∷ d ∷ f) r l e = absurd (omega arith)
 
-module _ (s : List ℕ) (at : ℕ) {r : ℕ} (a : r ≡ letterThen (fieldsAt (drop at s))) where
-  pub letter-then : (r ≡ 0 → ⊥) → LetterThen s at r
+module _ (s : List ℕ) (at : ℕ) (p : Within s at) {r : ℕ} (a : r ≡ letterThen (fieldsAt (drop at s))) where
+  letter-then : (r ≡ 0 → ⊥) → LetterThen s at r
   unfolding letterThen
   letter-then n =
       let fs = fieldsAt (drop at s) in
       let f = field fs 0 in
       let w = letter-tests (eqb (length f) 1 && leb 2 (length fs)) (getD f 0 0) r a n in
-      let p = both-true (eqb (length f) 1) (leb 2 (length fs)) (w .0) in
-      let l : length f ≡ 1 = eqb-true (length f) 1 (p .0) in
-      let m : 2 ≤ length fs = leb-true 2 (length fs) (p .1) in
+      let q = both-true (eqb (length f) 1) (leb 2 (length fs)) (w .0) in
+      let l : length f ≡ 1 = eqb-true (length f) 1 (q .0) in
+      let m : 2 ≤ length fs = leb-true 2 (length fs) (q .1) in
       let e : f ≡ r ∷ [] = single f r l (w .1) in
       let two : at + 1 + 1 ≡ at + 2 = omega arith in
       ⊎-elim
       (λ (k : (getD s (at + 1) 10 ≡ 44) × Comma s at (at + 1)).
       let h : at + 1 < length s = within s (at + 1) (λ z. omega (arith, k .0)) in
+      let v : Within s (at + 1) = record { inside = h; ended = p .ended } in
       let g : LetterThen s at r =
       record {
         fields = k .1 .fields ∙ rw (e, two);
         lines = k .1 .lines ∙ rw two;
-        inside = omega arith;
+        place = rw two at (within-next s (at + 1) v (λ z. omega (arith, k .0)));
       } in
       g)
       (λ (k : (getD s (at + 1) 10 ≡ 10) × Newline s at (at + 1)). absurd (omega (arith, ap length (k .1 .fields))))
       (follows s at (at + 1) (omega arith))
 
--- A test of a field that looks for one letter: where the letter that `letter_then` answers fails it, so does the first field, or it is the only one.
+-- A line that begins with the letter x.
+module _ (s : List ℕ) (at : ℕ) (p : Within s at) {x : ℕ} (b : getD s at 10 ≡ x) (m : x ≡ 44 → ⊥) (n : x ≡ 10 → ⊥) where
+  pub letter-next : Within s (at + 1)
+  letter-next = within-next s at p (λ e. n (sym b ∙ e))
+
+  byte-next : getD s (at + 1) 0 ≡ getD s (at + 1) 10
+  byte-next = let l : at + 1 < length s = letter-next .inside in byte-here s (at + 1) l
+
+  pub letter-here : (x ≡ 0 → ⊥) → getD s (at + 1) 0 ≡ 44 → LetterThen s at x
+  letter-here z e = letter-then s at p (letter-is s at (sym b) m n byte-next e) z
+
+  pub letter-gone : (getD s (at + 1) 0 ≡ 44 → ⊥) → letterThen (fieldsAt (drop at s)) ≡ 0
+  letter-gone e = sym (letter-not s at (sym b) m n byte-next e)
+
+-- The letter is the byte at the place, or 0.
+pub letter-or : (s : List ℕ) (at : ℕ) → (letterThen (fieldsAt (drop at s)) ≡ getD s at 10) ⊎ (letterThen (fieldsAt (drop at s)) ≡ 0)
+letter-or s at = first (ℕ-discrete (getD s at 10) 44)
+  where
+    third : (getD s at 10 ≡ 44 → ⊥) → (getD s at 10 ≡ 10 → ⊥) → Dec (getD s (at + 1) 10 ≡ 44)
+        → (letterThen (fieldsAt (drop at s)) ≡ getD s at 10) ⊎ (letterThen (fieldsAt (drop at s)) ≡ 0)
+    third m n (yes e) = inl (sym (letter-is s at refl m n refl e))
+    third m n (no e) = inr (sym (letter-not s at refl m n refl e))
+
+    second : (getD s at 10 ≡ 44 → ⊥) → Dec (getD s at 10 ≡ 10)
+        → (letterThen (fieldsAt (drop at s)) ≡ getD s at 10) ⊎ (letterThen (fieldsAt (drop at s)) ≡ 0)
+    second m (yes e) = inr (sym (letter-newline s at refl e))
+    second m (no n) = third m n (ℕ-discrete (getD s (at + 1) 10) 44)
+
+    first : Dec (getD s at 10 ≡ 44) → (letterThen (fieldsAt (drop at s)) ≡ getD s at 10) ⊎ (letterThen (fieldsAt (drop at s)) ≡ 0)
+    first (yes e) = inr (sym (letter-comma s at refl e))
+    first (no m) = second m (ℕ-discrete (getD s at 10) 10)
+
+-- A test of a field that looks for one letter: where the letter fails it, so does the first field, or it is the only one.
 pub letter-absent : (test : List ℕ → Bool) → ((f : List ℕ) → test f ≡ (eqb (length f) 1 && test (getD f 0 0 ∷ []))) → (fs : List (List ℕ))
     → test (letterThen fs ∷ []) ≡ false → (test (field fs 0) ≡ false) ⊎ (length fs ≤ 1)
 unfolding letterThen
@@ -167,14 +200,46 @@ reading-known b = go (eqb b 75) (eqb b 87)
     go false true h = (refl, λ c. refl)
     go false false h = absurd (h refl)
 
--- the answer 0 is no letter
-pub kind-letter : (r : ℕ) → (kindAt r ≡ 0 → ⊥) → r ≡ 0 → ⊥
-unfolding kindAt
-kind-letter r n e = n (ap kindAt e)
+-- the letters of an op or a reading: none is a comma, byte 10 or 0
+module _ (x : ℕ) where
+  pub kind-comma : (kindAt x ≡ 0 → ⊥) → x ≡ 44 → ⊥
+  unfolding kindAt
+  kind-comma n e = n (ap kindAt e)
 
-pub reading-letter : (r : ℕ) → (readingAt r ≡ 2 → ⊥) → r ≡ 0 → ⊥
+  pub kind-newline : (kindAt x ≡ 0 → ⊥) → x ≡ 10 → ⊥
+  unfolding kindAt
+  kind-newline n e = n (ap kindAt e)
+
+  pub kind-zero : (kindAt x ≡ 0 → ⊥) → x ≡ 0 → ⊥
+  unfolding kindAt
+  kind-zero n e = n (ap kindAt e)
+
+  pub reading-comma : (readingAt x ≡ 2 → ⊥) → x ≡ 44 → ⊥
+  unfolding readingAt
+  reading-comma n e = n (ap readingAt e)
+
+  pub reading-newline : (readingAt x ≡ 2 → ⊥) → x ≡ 10 → ⊥
+  unfolding readingAt
+  reading-newline n e = n (ap readingAt e)
+
+  pub reading-zero : (readingAt x ≡ 2 → ⊥) → x ≡ 0 → ⊥
+  unfolding readingAt
+  reading-zero n e = n (ap readingAt e)
+
+-- what the letter 0 is, and so a byte that is none
+pub zero-kind : {r : ℕ} → r ≡ 0 → kindAt r ≡ 0
+unfolding kindAt
+zero-kind e = ap kindAt e
+
+pub zero-reading : {r : ℕ} → r ≡ 0 → readingAt r ≡ 2
 unfolding readingAt
-reading-letter r n e = n (ap readingAt e)
+zero-reading e = ap readingAt e
+
+pub none-kind : (s : List ℕ) (at : ℕ) → kindAt (getD s at 10) ≡ 0 → kindAt (letterThen (fieldsAt (drop at s))) ≡ 0
+none-kind s at h = ⊎-elim (λ e. ap kindAt e ∙ h) (λ e. zero-kind e) (letter-or s at)
+
+pub none-reading : (s : List ℕ) (at : ℕ) → readingAt (getD s at 10) ≡ 2 → readingAt (letterThen (fieldsAt (drop at s))) ≡ 2
+none-reading s at h = ⊎-elim (λ e. ap readingAt e ∙ h) (λ e. zero-reading e) (letter-or s at)
 
 -- any other letter
 pub kind-other : (b : ℕ) → (b ≡ 77 → ⊥) → (b ≡ 88 → ⊥) → (b ≡ 76 → ⊥) → (b ≡ 66 → ⊥) → (b ≡ 80 → ⊥) → 0 ≡ kindAt b

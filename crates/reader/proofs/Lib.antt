@@ -4,17 +4,19 @@ pub mod Fields
 -- the number and the literal at a place
 pub mod Numbers
 pub mod Tokens
+pub mod Digits
+-- the forms of the lines
 pub mod Letters
 pub mod Pairs
 pub mod Forms
+-- the entries that are put into a buffer
+pub mod Writes
 pub mod Literals
--- the ranges of a line, the first pass
-pub mod Ranges
+pub mod Rules
+-- the first line, the other lines, the text as a whole
 pub mod Heads
 pub mod Passes
 pub mod Texts
--- the second pass
-pub mod Writes
 pub mod Results
 -- showing a line
 pub mod Shows

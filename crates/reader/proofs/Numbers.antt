@@ -4,17 +4,15 @@ use mathlib.Core.Bool.{Bool, true, false, not, cond, _&&_, _||_}
 use mathlib.Core.List.{List, [], _∷_}
 use Prim.Native.Nat.{ℕ, zero, suc, _+_, _*_, _-_, _≤_, _<_}
 use native.Mathlib.Omega.{arith}
-use native.Mathlib.Numerals.{add-one}
 use native.Mathlib.Decide.{ℕ-discrete}
 use mathlib.Core.Logic.{_⊎_, inl, inr, ⊎-elim}
 use lib.Dec.{eqb, leb}
-use lib.ListN.{length, getD, drop}
-use borrow.Author.Tests.{eq-eqb, ne-eqb, eqb-true, eqb-false, le-leb, lt-leb, leb-true, leb-false}
+use lib.ListN.{length, getD}
+use borrow.Author.Tests.{eq-eqb, ne-eqb, eqb-true, le-leb, lt-leb, leb-true}
 use Rattle.semantics.proofs.TestLists.{fails, passes}
 use Rattle.semantics.specs.Text.{field, isDigit, allDigits, isNumber, valueFrom, valueOf}
-use Rattle.reader.specs.declared.field.Field.{Field}
 use Rattle.reader.specs.declared.field.Field.the-variants.{Number, Bad}
-use Rattle.reader.specs.Cursor.{fieldsAt, fieldAt, classOf, pick, numberTo}
+use Rattle.reader.specs.Cursor.{fieldAt, classOf, DigitIs, numberTo}
 use Rattle.reader.proofs.Places.{comma-fields, newline-fields, other-fields}
 
 pub and-false : (t : Bool) {u : Bool} → u ≡ false → (t && u) ≡ false
@@ -29,24 +27,28 @@ pub both-true : (t u : Bool) → (t && u) ≡ true → (t ≡ true) × (u ≡ tr
 both-true true u e = (refl, e)
 both-true false u e = let z : _≡_ {A = ℕ} 0 1 = cc in absurd (omega arith)
 
--- The class that each arm of `class_at` gives to the byte x, which is y.
-module _ {x y : ℕ} (e : x ≡ y) where
-  pub class-ends : (x ≡ 10) ⊎ (x ≡ 44) → 10 ≡ classOf y
-  unfolding classOf
-  class-ends (inl h) = ap classOf (sym h ∙ e)
-  class-ends (inr h) = ap classOf (sym h ∙ e)
+-- What `digit` answers for a byte below `0`, and for any other.
+low-class : (b : ℕ) → b < 48 → 9 < classOf b
+unfolding classOf
+low-class b h = rw (lt-leb 48 b h) (go (eqb b 44 || eqb b 10))
+  where
+    go : (t : Bool) → 9 < cond t 10 11
+    go true = omega arith
+    go false = omega arith
 
-  pub class-digits : 48 ≤ x → x ≤ 57 → x - 48 ≡ classOf y
-  unfolding classOf
-  class-digits h l = rw (← e, le-leb 48 x h, le-leb x 57 l)
+pub digit-low : (b : ℕ) → b < 48 → DigitIs b (b + 4294967248)
+digit-low b h = record { is = λ z. absurd (omega arith); other = λ z. low-class b h }
 
-  pub class-low : x < 48 → ((x ≡ 10) ⊎ (x ≡ 44) → ⊥) → 11 ≡ classOf y
-  unfolding classOf
-  class-low h n = rw (← e, lt-leb 48 x h, ne-eqb x 44 (λ z. n (inr z)), ne-eqb x 10 (λ z. n (inl z)))
+digit-value : (b : ℕ) → 48 ≤ b → b ≤ 57 → b - 48 ≡ classOf b
+unfolding classOf
+digit-value b h l = rw (le-leb 48 b h, le-leb b 57 l)
 
-  pub class-high : 57 < x → 11 ≡ classOf y
-  unfolding classOf
-  class-high h = rw (← e, le-leb 48 x (omega arith), lt-leb x 57 h, ne-eqb x 44 (λ z. omega arith), ne-eqb x 10 (λ z. omega arith))
+high-class : (b : ℕ) → 57 < b → 11 ≡ classOf b
+unfolding classOf
+high-class b h = rw (le-leb 48 b (omega arith), lt-leb b 57 h, ne-eqb b 44 (λ z. omega arith), ne-eqb b 10 (λ z. omega arith))
+
+pub digit-high : (b : ℕ) → 48 ≤ b → DigitIs b (b - 48)
+digit-high b h = record { is = λ z. digit-value b h (omega arith); other = λ z. omega (arith, high-class b (omega arith)) }
 
 -- What a class says of its byte.
 pub digit-least : (b : ℕ) → isDigit b ≡ true → (48 ≤ b) × (b ≤ 57)
@@ -73,7 +75,7 @@ class-other b = go (isDigit b) refl (eqb b 44 || eqb b 10)
     go true e u h = let l = digit-least b e in absurd (omega arith)
     go false e u h = refl
 
-class-end : (b : ℕ) → classOf b ≡ 10 → (b ≡ 44) ⊎ (b ≡ 10)
+pub class-end : (b : ℕ) → classOf b ≡ 10 → (b ≡ 44) ⊎ (b ≡ 10)
 unfolding classOf
 class-end b = go (isDigit b) refl (eqb b 44) (eqb b 10) refl refl
   where
@@ -83,7 +85,7 @@ class-end b = go (isDigit b) refl (eqb b 44) (eqb b 10) refl refl
     go false e false true p q h = inr (eqb-true b 10 q)
     go false e false false p q h = absurd (omega arith)
 
-class-most : (b : ℕ) → (classOf b ≡ 10 → ⊥) → (classOf b ≡ 11 → ⊥) → classOf b ≤ 9
+pub class-most : (b : ℕ) → (classOf b ≡ 10 → ⊥) → (classOf b ≡ 11 → ⊥) → classOf b ≤ 9
 unfolding classOf
 class-most b = go (isDigit b) refl (eqb b 44 || eqb b 10)
   where

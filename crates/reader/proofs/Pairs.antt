@@ -1,20 +1,17 @@
--- What `two_numbers` answers. Assumes nothing.
-use mathlib.Core.Path.{_≡_, refl, sym, _∙_, ap, subst}
-use mathlib.Core.Bool.{Bool, true, false}
-use mathlib.Core.List.{List, [], _∷_}
-use mathlib.Core.Logic.{_⊎_, inl, inr, ⊎-elim}
-use Prim.Native.Nat.{ℕ, suc, _+_, _≤_, _<_}
+-- Two numbers at a place, and more fields behind them. Assumes nothing.
+use mathlib.Core.Path.{_≡_, _∙_, ap}
+use mathlib.Core.Bool.{false}
+use mathlib.Core.List.{List, _∷_}
+use mathlib.Core.Logic.{_⊎_, inl, inr}
+use Prim.Native.Nat.{ℕ, suc}
 use native.Mathlib.Omega.{arith}
-use lib.Dec.{leb}
 use lib.ListN.{length, drop}
 use borrow.Author.Tests.{lt-leb}
 use Rattle.semantics.specs.Area.{every}
-use Rattle.semantics.specs.Text.{field, isNumber}
+use Rattle.semantics.specs.Text.{isNumber}
 use Rattle.semantics.proofs.TestLists.{fails}
-use Rattle.reader.specs.declared.field.Pair.{Pair}
-use Rattle.reader.specs.declared.field.Pair.the-variants.{Numbers, Bad}
 use Rattle.reader.specs.Cursor.{fieldsAt, fieldAt}
-use Rattle.reader.specs.Pairs.{pairTests, PairThen, PairAt}
+use Rattle.reader.specs.Pairs.{pairTests, PairThen}
 use Rattle.reader.proofs.Tokens.{NumberThen}
 
 module _ (s : List ℕ) (at : ℕ) where
@@ -39,12 +36,5 @@ module _ (s : List ℕ) (at : ℕ) where
         value′ = k .value;
         lines = h .lines ∙ k .lines;
         ahead = omega (arith, h .ahead, k .ahead);
-        inside = k .inside;
+        place = k .place;
       }
-
-  -- the answer by its cases
-  pub pair-numbers : {r : Pair} → PairAt s at r → {v w e : ℕ} → r ≡ Numbers v w e → PairThen s at v w e
-  pair-numbers {r} p h = subst (PairAt s at) h p
-
-  pub pair-bad : {r : Pair} → PairAt s at r → r ≡ Bad → every (pairTests (fieldsAt (drop at s))) ≡ false
-  pair-bad {r} p h = subst (PairAt s at) h p

@@ -2,7 +2,7 @@
 use mathlib.Core.Path.{_≡_, refl, sym, _∙_, ap}
 use mathlib.Core.Bool.{Bool, true, false}
 use mathlib.Core.List.{List, [], _∷_}
-use Prim.Native.Nat.{ℕ, zero, suc, _+_, _≤_, _<_}
+use Prim.Native.Nat.{ℕ, zero, suc, _+_, _-_, _≤_, _<_}
 use native.Mathlib.Omega.{arith}
 use native.Mathlib.Numerals.{add-one}
 use native.Mathlib.Decide.{decLt}
@@ -12,7 +12,7 @@ use lib.Seq.{drop-cons}
 use borrow.Author.Tests.{eq-eqb, ne-eqb}
 use Rattle.semantics.specs.Text.{parted, textLines, fieldsOf, field}
 use Rattle.semantics.specs.ReadPage.{startFrom}
-use Rattle.reader.specs.Cursor.{fieldsAt, linesAfter}
+use Rattle.reader.specs.Cursor.{Within, fieldsAt, linesAfter}
 
 parted-cons : (t : Bool) (b : ℕ) (parts : List (List ℕ)) → parted t b parts ≡ getD (parted t b parts) 0 [] ∷ drop 1 (parted t b parts)
 parted-cons true b parts = refl
@@ -34,6 +34,16 @@ within s i h = go (decLt i (length s))
     go : Dec (i < length s) → i < length s
     go (yes l) = l
     go (no n) = absurd (h (List·getD-eq-default s 10 (omega arith)))
+
+-- a byte other than the 10 that ends the text has a byte behind it
+pub within-next : (s : List ℕ) (i : ℕ) → Within s i → (getD s i 10 ≡ 10 → ⊥) → Within s (i + 1)
+within-next s i w h = record { inside = go (decLt (i + 1) (length s)); ended = w .ended }
+  where
+    go : Dec (i + 1 < length s) → i + 1 < length s
+    go (yes l) = l
+    go (no n) =
+        let e : i ≡ length s - 1 = omega (arith, w .inside) in
+        absurd (h (ap (λ (k : ℕ). getD s k 10) e ∙ w .ended))
 
 module _ (s : List ℕ) (i : ℕ) where
   -- at a comma an empty field ends

@@ -1,25 +1,25 @@
 -- A text as a whole: the refusals of the text, of its first line and of the others. Assumes nothing.
-use mathlib.Core.Path.{_≡_, refl, sym, _∙_, ap, subst}
-use mathlib.Core.Bool.{Bool, true, false, not, _&&_, _||_}
-use mathlib.Core.List.{List, [], _∷_}
-use mathlib.Core.Option.{Option, none, some}
-use Prim.Native.Nat.{ℕ, suc, _+_, _-_, _≤_, _<_}
+use mathlib.Core.Path.{_≡_, sym, _∙_, ap, subst}
+use mathlib.Core.Bool.{Bool, true, false}
+use mathlib.Core.List.{List}
+use mathlib.Core.Option.{some}
+use Prim.Native.Nat.{ℕ, _-_, _≤_, _<_}
 use native.Mathlib.Omega.{arith}
-use lib.Dec.{eqb, ltb, leb}
+use lib.Dec.{leb}
 use lib.ListN.{length, getD, drop}
 use borrow.Author.Tests.{eq-eqb, ne-eqb, lt-ltb, le-ltb, le-leb, lt-leb, leb-true}
-use Rattle.semantics.specs.Area.{every, lineCodes}
-use Rattle.semantics.specs.Text.{textLines, fieldsOf, field, valueOf, isHead, hasForm, headRanges, topIn, conditionsIn, linesIn}
-use Rattle.semantics.specs.ReadPage.{Refusal, orElse, badLine, badLineOf, textRefusal}
-use Rattle.semantics.proofs.ReadLines.{good-line}
+use Rattle.semantics.specs.Area.{every}
+use Rattle.semantics.specs.Text.{textLines, headRanges, topIn, conditionsIn}
+use Rattle.semantics.specs.ReadPage.{badLine, badLineOf, textRefusal}
 use Rattle.semantics.proofs.TestLists.{passes}
 use Rattle.reader.specs.declared.check.Head.{Head}
 use Rattle.reader.specs.declared.check.Tally.{Tally}
 use Rattle.reader.specs.declared.check.Tally.the-variants.{Good, Bad}
 use Rattle.reader.specs.declared.check.Checked.{Checked}
 use Rattle.reader.specs.declared.check.Checked.the-variants.{Page, Refused}
-use Rattle.reader.specs.Cursor.{fieldsAt, linesAfter}
-use Rattle.reader.specs.Checks.{HeadSays, HeadAt, AllGood, Tallied, allFormed, Accepted, CheckedAs}
+use Rattle.reader.specs.Cursor.{Within, fieldsAt, linesAfter}
+use Rattle.reader.specs.Checks.{LinesFit, TextFits, HeadAt, AllGood, Tallied, CheckedAs}
+use Rattle.reader.proofs.Places.{byte-here}
 use Rattle.reader.proofs.Forms.{and-true}
 
 -- What `head_in_range` answers.
@@ -36,12 +36,6 @@ module _ (top n : ℕ) where
 
     pub conditions-most : 1 ≤ n → leb n 512 ≡ every (headRanges top n)
     conditions-most h = rw (le-leb 1 top l, le-leb top 200 m, le-leb 1 n h, and-true (leb n 512))
-
--- lines of which none is bad have their forms
-formed-all : (top n k : ℕ) (ls : List (List ℕ)) → badLine top n k ls ≡ none → allFormed ls ≡ true
-unfolding allFormed
-formed-all top n k [] e = refl
-formed-all top n k (l ∷ ls) e = let w = good-line top n k l ls e in rw (w .form) (formed-all top n (suc k) ls (w .others))
 
 -- The lines of a text, by its first line h.
 module _ (s : List ℕ) {h : Head} (w : HeadAt s h) where
@@ -62,6 +56,9 @@ module _ (s : List ℕ) {h : Head} (w : HeadAt s h) where
     unfolding linesAfter
     rest = w .says e .lines
 
+    pub lines-fit : Within s 0 → (buffer : List ℕ) → TextFits s buffer → LinesFit s (h .next) buffer
+    lines-fit p buffer f = record { ended = p .ended; least = w .says e .ahead; inside = w .says e .inside; fits = f }
+
     module _ {t : Bool} (r : t ≡ every (headRanges (h .top) (h .conditions))) where
       ranged : every (headRanges (topIn (textLines s)) (conditionsIn (textLines s))) ≡ t
       ranged = sym (r ∙ rw (tops, counts))
@@ -70,6 +67,9 @@ module _ (s : List ℕ) {h : Head} (w : HeadAt s h) where
       unfolding badLineOf fieldsAt
       far-head g = rw (sym (w .form) ∙ e, ranged, g)
 
+      low-top : t ≡ true → h .top ≤ 200
+      low-top g = leb-true (h .top) 200 (passes (headRanges (h .top) (h .conditions)) 1 (sym r ∙ g))
+
       pub few-conditions : t ≡ true → h .conditions ≤ 512
       few-conditions g = leb-true (h .conditions) 512 (passes (headRanges (h .top) (h .conditions)) 3 (sym r ∙ g))
 
@@ -77,25 +77,27 @@ module _ (s : List ℕ) {h : Head} (w : HeadAt s h) where
       unfolding badLineOf fieldsAt
       good-head g = rw (sym (w .form) ∙ e, ranged, g) (rw (tops, counts, rest))
 
-      module _ (g : t ≡ true) {y : Tally} (q : Tallied s (h .next) (h .top) (h .conditions) y) where
-        pub accepted : {k u : ℕ} → y ≡ Good k u → CheckedAs (badLineOf (textLines s)) s (Page (h .top) (h .conditions) k u (h .next))
+      module _ (g : t ≡ true) (buffer : List ℕ) {y : Tally} (q : Tallied s (h .next) (h .top) (h .conditions) buffer y) where
+        pub accepted : {k u : ℕ} → y ≡ Good k u → CheckedAs (badLineOf (textLines s)) s buffer (Page (h .top) (h .conditions) k u)
         accepted {k} {u} d =
-            let a : AllGood s (h .next) (h .top) (h .conditions) k u = subst (Tallied s (h .next) (h .top) (h .conditions)) d q in (
+            let a : AllGood s (h .next) (h .top) (h .conditions) buffer k u = subst (Tallied s (h .next) (h .top) (h .conditions) buffer) d q in (
               good-head g ∙ a .good,
               record {
                 top = tops;
                 conditions = counts;
-                lines = rest;
-                count = a .count;
-                used = a .used;
-                formed = formed-all (h .top) (h .conditions) 2 (textLines (drop (h .next) s)) (a .good);
+                count = a .count ∙ ap length (sym rest);
+                used = a .used ∙ rw rest;
+                low = low-top g;
+                small = few-conditions g;
                 few = a .few;
                 short = a .short;
+                room = a .room;
+                filled = a .filled ∙ rw rest;
               },
             )
 
-        pub refused : {number line : ℕ} → y ≡ Bad number line → CheckedAs (badLineOf (textLines s)) s (Refused number line)
-        refused d = good-head g ∙ subst (Tallied s (h .next) (h .top) (h .conditions)) d q
+        pub refused : {number line : ℕ} → y ≡ Bad number line → CheckedAs (badLineOf (textLines s)) s buffer (Refused number line)
+        refused d = good-head g ∙ subst (Tallied s (h .next) (h .top) (h .conditions) buffer) d q
 
 -- The text before its lines.
 module _ (s : List ℕ) where
@@ -117,5 +119,10 @@ module _ (s : List ℕ) where
       unfolding textRefusal
       ended m = rw (le-ltb 65535 (length s) h, ne-eqb (length s) 0 n, ← b, eq-eqb x 10 m)
 
-      pub checked : x ≡ 10 → (r : Checked) → CheckedAs (badLineOf (textLines s)) s r → CheckedAs (textRefusal s) s r
-      checked m r q = rw (ended m) q
+      pub text-place : x ≡ 10 → Within s 0
+      text-place m =
+          let l : length s - 1 < length s = omega arith in
+          record { inside = omega arith; ended = sym (byte-here s (length s - 1) l) ∙ sym b ∙ m }
+
+      pub checked : x ≡ 10 → (buffer : List ℕ) (r : Checked) → CheckedAs (badLineOf (textLines s)) s buffer r → CheckedAs (textRefusal s) s buffer r
+      checked m buffer r q = rw (ended m) q

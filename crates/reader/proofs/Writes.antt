@@ -1,21 +1,13 @@
--- Runs of stores, and the entries that the second pass writes one after the other. Assumes nothing.
+-- Runs of stores, and the numbers that they put into a buffer. Assumes nothing.
 use mathlib.Core.Path.{_≡_, refl, sym, _∙_, ap}
-use mathlib.Core.Bool.{Bool, true, false, _&&_}
-use mathlib.Core.List.{List, [], _∷_, _++_}
-use Prim.Native.Nat.{ℕ, suc, _+_, _-_, _≤_, _<_}
+use mathlib.Core.List.{List, [], _∷_, _++_, append-assoc}
+use Prim.Native.Nat.{ℕ, zero, suc, _+_, _-_, _≤_, _<_}
 use native.Mathlib.Omega.{arith}
 use native.Mathlib.Nat.{add-zero}
 use native.Mathlib.Numerals.{add-one, add-two, add-three}
-use lib.ListN.{length, getD, take, drop, set, length-append, drop-of-length-le}
-use lib.Seq.{sets, length-sets, take-suc, take-all, length-take-le}
-use Rattle.semantics.specs.Area.{lineCode, lineCodes}
-use Rattle.semantics.specs.Text.{textLines, fieldsOf, hasForm, lineIn, linesIn}
-use Rattle.reader.specs.declared.line.Parsed.{Parsed}
-use Rattle.reader.specs.Cursor.{fieldsAt, linesAfter}
-use Rattle.reader.specs.Lines.{codesOf, Holds, Parses}
-use Rattle.reader.specs.Checks.{entriesOf, allFormed}
-use Rattle.reader.proofs.Places.{line-here}
-use Rattle.reader.proofs.Numbers.{both-true}
+use lib.ListN.{length, getD, take, drop, set, length-append}
+use lib.Seq.{sets, sets-eq, set-split, length-sets, take-suc, take-all, take-at, drop-at, take-take, take-append-add, length-take-le}
+use Rattle.reader.specs.Lines.{Put}
 
 pub four-sets : (l : List ℕ) (at a b c d : ℕ) → set (set (set (set l at a) (at + 1) b) (at + 2) c) (at + 3) d ≡ sets l at (a ∷ b ∷ c ∷ d ∷ [])
 four-sets l at a b c d = rw (add-one, add-two, add-three)
@@ -38,51 +30,68 @@ sets-more l at ns i h =
 pub sets-all : (l : List ℕ) (at : ℕ) (ns : List ℕ) (i : ℕ) → length ns ≤ i → sets l at (take i ns) ≡ sets l at ns
 sets-all l at ns i h = rw (take-all i ns h)
 
--- The entries from the place `from` of the text on stand in the area from 4 on, as far as the place i of the text and the place e of the area.
-pub record Writing (s : List ℕ) (from : ℕ) (area₀ area : List ℕ) (i e : ℕ) : Type 0 where
-  pub written : sets area₀ 4 (entriesOf s from) ≡ sets area e (entriesOf s i)
-  pub size : length area ≡ length area₀
-  pub room : e + length (entriesOf s i) ≤ length area₀
-  pub formed : allFormed (textLines (drop i s)) ≡ true
+pub three-sets : (l : List ℕ) (at a b c : ℕ) → set (set (set l at a) (at + 1) b) (at + 2) c ≡ sets l at (a ∷ b ∷ c ∷ [])
+three-sets l at a b c = rw (add-one, add-two)
 
-pub writing-first : (s : List ℕ) (from : ℕ) (area : List ℕ) → allFormed (textLines (drop from s)) ≡ true → 4 + length (entriesOf s from) ≤ length area → Writing s from area area from 4
-writing-first s from area f h = record { written = refl; size = refl; room = h; formed = f }
+-- the part of a list behind a place
+pub drop-take : (i m : ℕ) (l : List ℕ) → drop i (take (i + m) l) ≡ take m (drop i l)
+drop-take zero m l = let e : 0 + m ≡ m = omega arith in rw e
+drop-take (suc i) m [] = let e : suc i + m ≡ suc (i + m) = omega arith in rw e (sym (take-all m [] (omega arith)))
+drop-take (suc i) m (x ∷ l) = let e : suc i + m ≡ suc (i + m) = omega arith in rw e (drop-take i m l)
 
-module _ (s : List ℕ) (from : ℕ) (area₀ : List ℕ) {area : List ℕ} {i e : ℕ} (w : Writing s from area₀ area i e) where
-  pub writing-done : length s ≤ i → area ≡ sets area₀ 4 (entriesOf s from)
-  unfolding textLines linesIn lineCodes
-  writing-done h = sym (w .written ∙ rw (drop-of-length-le s h))
+-- a list whose front is given in two parts
+module _ (l : List ℕ) (i m : ℕ) (xs ys : List ℕ) (k : length xs ≡ i) (h : take (i + m) l ≡ xs ++ ys) where
+  first-part : take i l ≡ xs
+  first-part = sym (take-take i (i + m) l (omega arith)) ∙ ap (take i) h ∙ take-at xs ys i k
 
-  module _ (h : i < length s) {p : Parsed} (q : Parses s i (fieldsAt (drop i s)) p) where
-    pub has-form : p .form ≡ true
-    unfolding allFormed fieldsAt
-    has-form =
-        let l = getD (textLines (drop i s)) 0 [] in
-        let both : (hasForm (fieldsOf l) && allFormed (linesAfter (drop i s))) ≡ true = ap allFormed (sym (line-here s i h)) ∙ w .formed in
-        q .form ∙ both-true (hasForm (fieldsOf l)) (allFormed (linesAfter (drop i s))) both .0
+  second-part : take m (drop i l) ≡ ys
+  second-part = sym (drop-take i m l) ∙ ap (drop i) h ∙ drop-at xs ys i k
 
-    pub held : Holds s i (lineCode (lineIn (fieldsAt (drop i s)))) p
-    held = q .holds has-form
+-- a run of stores puts its numbers
+pub put-run : (l : List ℕ) (i : ℕ) (us : List ℕ) {l′ : List ℕ} {end : ℕ} → i + length us ≤ length l → l′ ≡ sets l i us → end ≡ i + length us → Put l i us l′ end
+put-run l i us {l′} {end} h e k =
+    let n : length (take i l ++ us) ≡ end = omega (arith, length-append (take i l) us, length-take-le i l (omega arith)) in
+    record {
+      put = ap (take end) (e ∙ sets-eq us l i h) ∙ take-at (take i l ++ us) (drop (i + length us) l) end n;
+      size = k;
+    }
 
-    entries : entriesOf s i ≡ codesOf p ++ entriesOf s (p .next)
-    unfolding linesIn lineCodes fieldsAt
-    entries =
-        let l = getD (textLines (drop i s)) 0 [] in
-        ap (λ (ls : List (List ℕ)). lineCodes (linesIn ls)) (line-here s i h ∙ ap (λ (ls : List (List ℕ)). l ∷ ls) (held .lines))
-        ∙ ap (λ (c : List ℕ). c ++ entriesOf s (p .next)) (sym (held .codes))
+-- The entry of a rule: three numbers, the literals behind a fourth, and then the fourth, their count.
+module _ (l : List ℕ) (i a b c m : ℕ) (codes l₁ l₂ l₃ : List ℕ) (room : i + 12 ≤ length l) (size : length l₂ ≡ length l) (few : m ≤ 8) (count : length codes ≡ m)
+    (e₁ : l₁ ≡ sets l i (a ∷ b ∷ c ∷ [])) (e₂ : Put l₁ (i + 4) codes l₂ (i + 4 + m)) (e₃ : l₃ ≡ set l₂ (i + 3) m) where
+  three-first : take (i + 3) l₁ ≡ take i l ++ (a ∷ b ∷ c ∷ [])
+  three-first = put-run l i (a ∷ b ∷ c ∷ []) (omega arith) e₁ refl .put
 
-    pub entry-room : e + 4 + p .count ≤ length area
-    entry-room = omega (arith, w .room, w .size, ap length entries, length-append (codesOf p) (entriesOf s (p .next)), held .count)
+  length-first : length l₁ ≡ length l
+  length-first = ap length e₁ ∙ length-sets l i (a ∷ b ∷ c ∷ [])
 
-    pub writing-next : Writing s from area₀ (sets area e (codesOf p)) (p .next) (e + 4 + p .count)
-    unfolding allFormed
-    writing-next =
-        let l = getD (textLines (drop i s)) 0 [] in
-        let n : e + length (codesOf p) ≡ e + 4 + p .count = omega (arith, held .count) in
-        let both : (hasForm (fieldsOf l) && allFormed (linesAfter (drop i s))) ≡ true = ap allFormed (sym (line-here s i h)) ∙ w .formed in
-        record {
-          written = w .written ∙ ap (sets area e) entries ∙ sym (sets-append area e (codesOf p) (entriesOf s (p .next))) ∙ rw n;
-          size = length-sets area e (codesOf p) ∙ w .size;
-          room = omega (arith, w .room, ap length entries, length-append (codesOf p) (entriesOf s (p .next)), held .count);
-          formed = ap allFormed (sym (held .lines)) ∙ both-true (hasForm (fieldsOf l)) (allFormed (linesAfter (drop i s))) both .1;
-        }
+  front : take (i + 3) l₂ ≡ take i l ++ (a ∷ b ∷ c ∷ [])
+  front =
+      let k : length (take (i + 4) l₁) ≡ i + 4 = length-take-le (i + 4) l₁ (omega (arith, length-first)) in
+      let f : take (i + 4) l₂ ≡ take (i + 4) l₁ = first-part l₂ (i + 4) m (take (i + 4) l₁) codes k (e₂ .put) in
+      sym (take-take (i + 3) (i + 4) l₂ (omega arith)) ∙ ap (take (i + 3)) f ∙ take-take (i + 3) (i + 4) l₁ (omega arith) ∙ three-first
+
+  behind : take m (drop (i + 4) l₂) ≡ codes
+  behind =
+      let k : length (take (i + 4) l₁) ≡ i + 4 = length-take-le (i + 4) l₁ (omega (arith, length-first)) in
+      second-part l₂ (i + 4) m (take (i + 4) l₁) codes k (e₂ .put)
+
+  whole : l₃ ≡ take (i + 3) l₂ ++ (m ∷ drop (i + 4) l₂)
+  whole =
+      let k : suc (i + 3) ≡ i + 4 = omega arith in
+      e₃ ∙ set-split l₂ (i + 3) m (omega arith) ∙ ap (λ (j : ℕ). take (i + 3) l₂ ++ (m ∷ drop j l₂)) k
+
+  pub rule-put : Put l i (a ∷ b ∷ c ∷ m ∷ codes) l₃ (i + 4 + m)
+  rule-put =
+      let k : length (take (i + 3) l₂) ≡ i + 3 = length-take-le (i + 3) l₂ (omega arith) in
+      let n : i + 4 + m ≡ length (take (i + 3) l₂) + suc m = omega arith in
+      record {
+        put =
+            ap (take (i + 4 + m)) whole
+            ∙ ap (λ (j : ℕ). take j (take (i + 3) l₂ ++ (m ∷ drop (i + 4) l₂))) n
+            ∙ take-append-add (take (i + 3) l₂) (m ∷ drop (i + 4) l₂) (suc m)
+            ∙ ap (λ (t : List ℕ). take (i + 3) l₂ ++ (m ∷ t)) behind
+            ∙ ap (λ (t : List ℕ). t ++ (m ∷ codes)) front
+            ∙ append-assoc (take i l) (a ∷ b ∷ c ∷ []) (m ∷ codes);
+        size = omega arith;
+      }

@@ -1,74 +1,22 @@
-// The first pass over a text: every line is parsed and checked, and the used length is summed.
+// The lines of a text: each is parsed and checked, and its entry is put into a buffer.
 ghost use mathlib.Core.Path.{_≡_};
 ghost use mathlib.Core.Bool.{false};
-ghost use Prim.Native.Nat.{ℕ, _≤_};
-ghost use lib.ListN.{length, take};
-ghost use Rattle.semantics.specs.Area.{every, allUnder};
+ghost use Prim.Native.Nat.{_≤_};
+ghost use Rattle.semantics.specs.Area.{every};
 ghost use Rattle.semantics.specs.Text.{textLines, headRanges};
 ghost use Rattle.semantics.specs.ReadPage.{badLineOf, textRefusal};
-ghost use Rattle.reader.specs.Checks.{inRange, HeadAt, Tallied, CheckedAs};
+ghost use Rattle.reader.specs.Cursor.{Within};
+ghost use Rattle.reader.specs.Checks.{TextFits, LinesFit, HeadAt, Tallied, CheckedAs};
 use crate::field::Field;
-use crate::field::letter_then;
 use crate::field::number_before;
-use crate::line::Parsed;
+use crate::line::Entry;
 use crate::line::parse_line;
-
-// Every number is below the limit.
-fn all_below(numbers: &[u16], limit: u16) -> bool
-    ensures { λ r. ⌜ r ≡ allUnder limit (now (numbers .entry)) ⌝ }
-{
-    let mut i: usize = 0;
-    while i < numbers.len() {
-        if limit <= numbers[i] {
-            return false;
-        }
-        i += 1;
-    }
-    true
-}
-
-// The numbers of a line are in range.
-fn in_range(line: Parsed, top: u16, conditions: u16) -> bool
-    requires { ⌜ (length (take (line .count) (line .literals)) ≡ line .count) × (conditions ≤ 512) ⌝ }
-    ensures { λ r. ⌜ r ≡ inRange top conditions (line .condition) (line .kind) (line .x) (line .y) (take (line .count) (line .literals)) ⌝ }
-{
-    let condition = line.condition;
-    if conditions <= condition {
-        return false;
-    }
-    let kind = line.kind;
-    let x = line.x;
-    let y = line.y;
-    match kind {
-        0 => {
-            if top < x {
-                return false;
-            }
-            if top < y {
-                return false;
-            }
-            x <= y
-        }
-        1..=5 => {
-            if x < 1 {
-                return false;
-            }
-            if top < x {
-                return false;
-            }
-            let literals = line.literals;
-            let n = line.count;
-            all_below(&literals[..n], 2 * conditions)
-        }
-        _ => true,
-    }
-}
 
 // The first line, `G,top,C`, and the place behind it.
 pub struct Head {
     pub form: bool,
-    pub top: u16,
-    pub conditions: u16,
+    pub top: u32,
+    pub conditions: u32,
     pub next: usize,
 }
 
@@ -84,9 +32,13 @@ fn no_head() -> Head
 }
 
 fn parse_head(bytes: &[u8]) -> Head
+    requires { ⌜ Within (now bytes) 0 ⌝ }
     ensures { λ r. ⌜ HeadAt (now (bytes .entry)) r ⌝ }
 {
-    if letter_then(bytes, 0) != b'G' {
+    if bytes[0] != b'G' {
+        return no_head();
+    }
+    if bytes[1] != b',' {
         return no_head();
     }
     let Field::Number(top, a) = number_before(bytes, 2, b',') else {
@@ -109,10 +61,10 @@ pub enum Tally {
     Bad { number: u16, line: usize },
 }
 
-// The lines from a place on, which is where line 2 begins.
-fn check_lines(bytes: &[u8], from: usize, top: u16, conditions: u16) -> Tally
-    requires { ⌜ conditions ≤ 512 ⌝ }
-    ensures { λ r. ⌜ Tallied (now (bytes .entry)) from top conditions r ⌝ }
+// The lines from a place on, which is where line 2 begins. Their entries are put behind the four numbers of the head.
+fn read_lines(bytes: &[u8], from: usize, top: u32, conditions: u32, buffer: &mut [u16]) -> Tally
+    requires { ⌜ LinesFit (now bytes) from (now buffer) × (conditions ≤ 512) ⌝ }
+    ensures { λ r. ⌜ Tallied (now (bytes .entry)) from top conditions (now (buffer .exit)) r ⌝ }
 {
     let mut at = from;
     let mut line: usize = 2;
@@ -121,15 +73,19 @@ fn check_lines(bytes: &[u8], from: usize, top: u16, conditions: u16) -> Tally
         if line == 1026 {
             return Tally::Bad { number: 5, line };
         }
-        let parsed = parse_line(bytes, at);
-        if !parsed.form {
-            return Tally::Bad { number: 3, line };
+        let entry = parse_line(bytes, at, top, conditions, buffer, used);
+        match entry {
+            Entry::Good { next, end } => {
+                at = next;
+                used = end;
+            }
+            Entry::Form => {
+                return Tally::Bad { number: 3, line };
+            }
+            Entry::Range => {
+                return Tally::Bad { number: 4, line };
+            }
         }
-        if !in_range(parsed, top, conditions) {
-            return Tally::Bad { number: 4, line };
-        }
-        used = used + 4 + parsed.count;
-        at = parsed.next;
         line += 1;
     }
     Tally::Good {
@@ -139,7 +95,7 @@ fn check_lines(bytes: &[u8], from: usize, top: u16, conditions: u16) -> Tally
 }
 
 // Top and C of the first line are in range.
-fn head_in_range(top: u16, conditions: u16) -> bool
+fn head_in_range(top: u32, conditions: u32) -> bool
     ensures { λ r. ⌜ r ≡ every (headRanges top conditions) ⌝ }
 {
     if top < 1 {
@@ -154,14 +110,13 @@ fn head_in_range(top: u16, conditions: u16) -> bool
     conditions <= 512
 }
 
-// What a text comes to: the numbers of its page and the place of its second line, or a refusal.
+// What a text comes to: the numbers of its page, or a refusal.
 pub enum Checked {
     Page {
-        top: u16,
-        conditions: u16,
+        top: u32,
+        conditions: u32,
         count: usize,
         used: usize,
-        from: usize,
     },
     Refused {
         number: u16,
@@ -170,8 +125,9 @@ pub enum Checked {
 }
 
 // The lines of a text.
-fn check_all(bytes: &[u8]) -> Checked
-    ensures { λ r. ⌜ CheckedAs (badLineOf (textLines (now (bytes .entry)))) (now (bytes .entry)) r ⌝ }
+fn check_all(bytes: &[u8], buffer: &mut [u16]) -> Checked
+    requires { ⌜ Within (now bytes) 0 × TextFits (now bytes) (now buffer) ⌝ }
+    ensures { λ r. ⌜ CheckedAs (badLineOf (textLines (now (bytes .entry)))) (now (bytes .entry)) (now (buffer .exit)) r ⌝ }
 {
     let head = parse_head(bytes);
     if !head.form {
@@ -183,22 +139,22 @@ fn check_all(bytes: &[u8]) -> Checked
         return Checked::Refused { number: 4, line: 1 };
     }
     let from = head.next;
-    let tally = check_lines(bytes, from, top, conditions);
+    let tally = read_lines(bytes, from, top, conditions, buffer);
     match tally {
         Tally::Good { count, used } => Checked::Page {
             top,
             conditions,
             count,
             used,
-            from,
         },
         Tally::Bad { number, line } => Checked::Refused { number, line },
     }
 }
 
 // The text as a whole.
-pub fn check_page(bytes: &[u8]) -> Checked
-    ensures { λ r. ⌜ CheckedAs (textRefusal (now (bytes .entry))) (now (bytes .entry)) r ⌝ }
+pub fn check_page(bytes: &[u8], buffer: &mut [u16]) -> Checked
+    requires { ⌜ TextFits (now bytes) (now buffer) ⌝ }
+    ensures { λ r. ⌜ CheckedAs (textRefusal (now (bytes .entry))) (now (bytes .entry)) (now (buffer .exit)) r ⌝ }
 {
     let n = bytes.len();
     if 65535 < n {
@@ -210,5 +166,5 @@ pub fn check_page(bytes: &[u8]) -> Checked
     if bytes[n - 1] != b'\n' {
         return Checked::Refused { number: 2, line: 0 };
     }
-    check_all(bytes)
+    check_all(bytes, buffer)
 }

@@ -1,135 +1,81 @@
-// The fields of a line: numbers and literals. A place is an index into the text; past the text's end the byte is 10, which ends a line.
+// The fields of a line: numbers and literals. A place is an index into a text that ends with byte 10, so a byte that is not 10 has a
+// byte behind it, and no length is tested.
 ghost use mathlib.Core.Path.{_≡_};
-ghost use Prim.Native.Nat.{ℕ, _≤_, _+_};
-ghost use lib.ListN.{length, getD, drop};
-ghost use Rattle.reader.specs.Cursor.{fieldsAt, classOf, numberTo, numberBefore, literalTo, letterThen};
-ghost use Rattle.reader.specs.Pairs.{PairAt};
+ghost use Prim.Native.Nat.{_<_, _+_};
+ghost use lib.ListN.{length};
+ghost use Rattle.reader.specs.Cursor.{classOf, Within, DigitIs, SignIs, DigitsAt, LiteralAt, numberBefore, EndsIn};
 
-// The byte at a place.
-pub fn byte_at(bytes: &[u8], i: usize) -> u8
-    ensures { λ r. ⌜ r ≡ getD (now (bytes .entry)) i 10 ⌝ }
+// A digit's value; more than 9 for any other byte.
+fn digit(b: u8) -> u32
+    ensures { λ r. ⌜ DigitIs b r ⌝ }
 {
-    if i < bytes.len() {
-        return bytes[i];
+    if b < b'0' {
+        return b as u32 + 4294967248;
     }
-    10
-}
-
-// A byte's class: 0 to 9 a digit of that value, 10 the end of a field, 11 any other.
-fn class_at(bytes: &[u8], i: usize) -> u8
-    ensures { λ r. ⌜ r ≡ classOf (getD (now (bytes .entry)) i 10) ⌝ }
-{
-    let b = byte_at(bytes, i);
-    match b {
-        b'0'..=b'9' => b - b'0',
-        b'\n' | b',' => 10,
-        _ => 11,
-    }
-}
-
-// The letter that is the whole field at a place, where another field follows; 0 where there is none such.
-pub fn letter_then(bytes: &[u8], at: usize) -> u8
-    requires { ⌜ at ≤ length (now bytes) ⌝ }
-    ensures { λ r. ⌜ r ≡ letterThen (fieldsAt (drop at (now (bytes .entry)))) ⌝ }
-{
-    let letter = byte_at(bytes, at);
-    if letter == b',' {
-        return 0;
-    }
-    if letter == b'\n' {
-        return 0;
-    }
-    if byte_at(bytes, at + 1) == b',' {
-        return letter;
-    }
-    0
+    b as u32 - 48
 }
 
 // A number, and a place behind it.
 pub enum Field {
-    Number(u16, usize),
+    Number(u32, usize),
     Bad,
 }
 
-// The number that is the whole field at a place, and the place of the comma or the byte 10 that ends it.
-fn read_number(bytes: &[u8], at: usize) -> Field
-    requires { ⌜ at ≤ length (now bytes) ⌝ }
-    ensures { λ r. ⌜ r ≡ numberTo (now (bytes .entry)) at ⌝ }
+// The digits of a number, which has no leading zero, and the place behind them. Whether the field ends there is for the caller to see.
+fn digits(bytes: &[u8], at: usize) -> Field
+    requires { ⌜ Within (now bytes) at ⌝ }
+    ensures { λ r. ⌜ DigitsAt (now (bytes .entry)) at r ⌝ }
 {
-    let a = class_at(bytes, at);
+    let a = digit(bytes[at]);
     if 9 < a {
         return Field::Bad;
     }
-    let b = class_at(bytes, at + 1);
-    if b == 10 {
-        return Field::Number(a as u16, at + 1);
-    }
-    if b == 11 {
-        return Field::Bad;
-    }
     if a == 0 {
-        return Field::Bad;
+        return Field::Number(a, at + 1);
     }
-    let c = class_at(bytes, at + 2);
-    if c == 10 {
-        return Field::Number(a as u16 * 10 + b as u16, at + 2);
+    let b = digit(bytes[at + 1]);
+    if 9 < b {
+        return Field::Number(a, at + 1);
     }
-    if c == 11 {
-        return Field::Bad;
+    let c = digit(bytes[at + 2]);
+    if 9 < c {
+        return Field::Number(a * 10 + b, at + 2);
     }
-    if class_at(bytes, at + 3) == 10 {
-        return Field::Number((a as u16 * 10 + b as u16) * 10 + c as u16, at + 3);
-    }
-    Field::Bad
+    Field::Number((a * 10 + b) * 10 + c, at + 3)
 }
 
-// The number that is the whole field at a place and ends at the byte `mark`, and the place behind that byte.
+// The number that is the whole field at a place and ends at `mark`, a comma or byte 10, and the place behind that byte.
 pub fn number_before(bytes: &[u8], at: usize, mark: u8) -> Field
-    requires { ⌜ at ≤ length (now bytes) ⌝ }
-    ensures { λ r. ⌜ r ≡ numberBefore (now (bytes .entry)) at mark ⌝ }
+    requires { ⌜ Within (now bytes) at × (classOf mark ≡ 10) ⌝ }
+    ensures { λ r. ⌜ (r ≡ numberBefore (now (bytes .entry)) at mark) × EndsIn (now (bytes .entry)) r ⌝ }
 {
-    let Field::Number(value, end) = read_number(bytes, at) else {
+    let Field::Number(value, end) = digits(bytes, at) else {
         return Field::Bad;
     };
-    if byte_at(bytes, end) == mark {
+    if bytes[end] == mark {
         return Field::Number(value, end + 1);
     }
     Field::Bad
 }
 
-// Two numbers, and the place behind the comma that follows them.
-pub enum Pair {
-    Numbers(u16, u16, usize),
-    Bad,
-}
-
-// The numbers that are the next two fields, where more fields follow.
-pub fn two_numbers(bytes: &[u8], at: usize) -> Pair
-    requires { ⌜ at ≤ length (now bytes) ⌝ }
-    ensures { λ r. ⌜ PairAt (now (bytes .entry)) at r ⌝ }
+// 1 for the sign of a negation, 0 for any other byte.
+fn sign(b: u8) -> usize
+    ensures { λ r. ⌜ SignIs b r ⌝ }
 {
-    let Field::Number(first, a) = number_before(bytes, at, b',') else {
-        return Pair::Bad;
-    };
-    let Field::Number(second, b) = number_before(bytes, a, b',') else {
-        return Pair::Bad;
-    };
-    Pair::Numbers(first, second, b)
-}
-
-// The code of the literal that is the whole field at a place, and the place of the comma or the byte 10 that ends it.
-pub fn read_literal(bytes: &[u8], at: usize) -> Field
-    requires { ⌜ at ≤ length (now bytes) ⌝ }
-    ensures { λ r. ⌜ r ≡ literalTo (now (bytes .entry)) at ⌝ }
-{
-    if byte_at(bytes, at) == b'!' {
-        let Field::Number(negated, end) = read_number(bytes, at + 1) else {
-            return Field::Bad;
-        };
-        return Field::Number(2 * negated + 1, end);
+    if b == b'!' {
+        return 1;
     }
-    let Field::Number(condition, end) = read_number(bytes, at) else {
+    0
+}
+
+// The code of the literal at a place, and the place behind its digits. Whether the field ends there is for the caller to see.
+pub fn read_literal(bytes: &[u8], at: usize) -> Field
+    requires { ⌜ Within (now bytes) at ⌝ }
+    ensures { λ r. ⌜ LiteralAt (now (bytes .entry)) at r ⌝ }
+{
+    let negated = sign(bytes[at]);
+    let Field::Number(condition, end) = digits(bytes, at + negated) else {
         return Field::Bad;
     };
-    Field::Number(2 * condition, end)
+    Field::Number(2 * condition + negated as u32, end)
 }

@@ -1,6 +1,11 @@
+mod indexed;
+
 ghost use mathlib.Core.Path.{_≡_};
+ghost use mathlib.Core.Bool.{true};
 ghost use Prim.Native.Nat.{ℕ};
+ghost use Rattle.semantics.specs.Area.{sound, pageOf};
 ghost use Rattle.semantics.specs.Operation.{evaluateOf, valueOf, driveOf};
+ghost use Rattle.semantics.specs.RunArea.{runSound};
 ghost use Rattle.run.specs.Answers.{Answered, evaluateAnswerOf, valueAnswerOf, driveAnswerOf};
 
 // What an evaluation answers: the number of a refusal, or whether it changed the condition.
@@ -72,16 +77,12 @@ pub enum DriveAnswer {
     Spent(u32),
 }
 
-// Drive: 10 page area not sound, 14 run area too short or not sound. The areas are tested once; an evaluation keeps the run area sound.
-pub fn drive(page: &[u16], run: &mut [u16], allowance: u32) -> DriveAnswer
+// Drive over the areas alone: each search reads the marks and each evaluation reads the page.
+fn drive_scanning(page: &[u16], run: &mut [u16], allowance: u32) -> DriveAnswer
+    requires { ⌜ sound (now page) ≡ true ⌝ }
+    requires { ⌜ runSound (pageOf (now page)) (now run) ≡ true ⌝ }
     ensures { λ r. ⌜ Answered (driveOf (now (page .entry)) (now (run .entry)) allowance) (driveAnswerOf r) (now (run .exit)) ⌝ }
 {
-    if !page::page_sound(page) {
-        return DriveAnswer::Refused(10);
-    }
-    if !worklist::run_sound(page, run) {
-        return DriveAnswer::Refused(14);
-    }
     let n = page[1];
     let mut taken: u32 = 0;
     loop {
@@ -95,4 +96,25 @@ pub fn drive(page: &[u16], run: &mut [u16], allowance: u32) -> DriveAnswer
         worklist::step(page, run, c);
         taken += 1;
     }
+}
+
+// Drive: 10 page area not sound, 14 run area too short or not sound. The areas are tested once; an evaluation keeps the run area sound.
+// An index is built for four evaluations or more, and none for a run at rest.
+pub fn drive(page: &[u16], run: &mut [u16], allowance: u32) -> DriveAnswer
+    ensures { λ r. ⌜ Answered (driveOf (now (page .entry)) (now (run .entry)) allowance) (driveAnswerOf r) (now (run .exit)) ⌝ }
+{
+    if !page::page_sound(page) {
+        return DriveAnswer::Refused(10);
+    }
+    if !worklist::run_sound(page, run) {
+        return DriveAnswer::Refused(14);
+    }
+    if allowance < 4 {
+        return drive_scanning(page, run, allowance);
+    }
+    let n = page[1];
+    if n <= worklist::lowest_waiting(run, n) {
+        return DriveAnswer::Rest(0);
+    }
+    indexed::drive_indexed(page, run, allowance)
 }

@@ -123,7 +123,7 @@ pub fn mark_dependants(a: &[u16], run: &mut [u16], c: u16)
 }
 
 // Whether two intervals differ, at either end.
-fn differs(low: u16, high: u16, new_low: u16, new_high: u16) -> bool
+pub fn differs(low: u16, high: u16, new_low: u16, new_high: u16) -> bool
     ensures { λ r. ⌜ r ≡ not (same (record { low = low; high = high }) (record { low = «new_low»; high = «new_high» })) ⌝ }
 {
     if low != new_low {
@@ -133,7 +133,7 @@ fn differs(low: u16, high: u16, new_low: u16, new_high: u16) -> bool
 }
 
 // The cell of c becomes low, high, mark.
-fn store_cell(run: &mut [u16], c: u16, low: u16, high: u16, mark: u16)
+pub fn store_cell(run: &mut [u16], c: u16, low: u16, high: u16, mark: u16)
     requires { ⌜ 3 * c + 3 ≤ length (now run) ⌝ }
     ensures { λ r. ⌜ now (run .exit) ≡ stored c low high mark (now (run .entry)) ⌝ }
 {

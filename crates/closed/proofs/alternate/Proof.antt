@@ -6,19 +6,19 @@ use Rattle.closed.proofs.alternate.Statement.{statement}
 use Rattle.closed.proofs.alternate.Tie as tie
 
 abbrev Inv-loop : tie.InvT-loop
-Inv-loop a run₀ changed₀ run changed = Going a run₀ run changed
+Inv-loop a run₀ first places start heads changed₀ run changed = Going a run₀ run changed
 
 abbrev μ-loop : tie.MeasureT-loop
-μ-loop a run₀ changed₀ run changed = goingRoom a run changed
+μ-loop a run₀ first places start heads changed₀ run changed = goingRoom a run changed
 
 first-round-requires : tie.Need-first-round-requires Inv-loop μ-loop
-first-round-requires c κs = c .before .before .before .pre
+first-round-requires c κs = c .before .before .before .before .before .before .before .pre
 
 loop-holds : tie.Need-loop-holds Inv-loop μ-loop
 loop-holds c = going-first _ (c .before .before .first-round .ensures)
 
 next-round-requires : tie.Need-next-round-requires Inv-loop μ-loop
-next-round-requires c κs = c .before .before .loop .inv .done
+next-round-requires c κs = (c .before .before .loop .inv .done, c .before .before .before .before .before .before .before .before .before .before .before .before .before .pre .1)
 
 loop-less : tie.Need-loop-less Inv-loop μ-loop
 loop-less c = going-falls _ (c .before .before .before .before .loop-test .taken) (c .before .before .next-round .ensures)

@@ -62,7 +62,7 @@ returns-5 : tie.Need-returns-5
 returns-5 c = refused-19 _ _ _ _ (is-sound (c .before .before .before .before .before .before .before)) (is-few (c .before .before .before .before .before)) (is-under (c .before .before)) (c .before .if4 .left) (c .if5 .taken)
 
 solve-requires : tie.Need-solve-requires
-solve-requires c κs = (is-sound (c .before .before .before .before .before .before .before .before), is-under (c .before .before .before), omega (arith, c .before .before .if4 .left))
+solve-requires c κs = record { page-sound = is-sound (c .before .before .before .before .before .before .before .before); under = is-under (c .before .before .before); long = omega (arith, c .before .before .if4 .left) }
 
 write-answers-requires : tie.Need-write-answers-requires
 write-answers-requires c κs = (

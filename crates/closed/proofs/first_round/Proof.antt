@@ -8,22 +8,22 @@ use Rattle.closed.proofs.first_round.Statement.{statement}
 use Rattle.closed.proofs.first_round.Tie as tie
 
 settle-ends-requires : tie.Need-settle-ends-requires
-settle-ends-requires c κs = first-ready _ (c .before .before .before .pre)
+settle-ends-requires c κs = (first-ready _ (c .before .before .before .before .before .before .before .pre .0), c .before .before .before .before .before .before .before .pre .1)
 
 shared-slice-read-wait-all : tie.Need-shared-slice-read-wait-all
-shared-slice-read-wait-all c = omega (arith, head-of (c .before .before .before .before .before .before .before .before .args .a .now) (c .before .before .before .before .before .before .before .before .pre .standing .page-sound))
+shared-slice-read-wait-all c = omega (arith, head-of (c .before .before .before .before .before .before .before .before .before .before .before .before .args .a .now) (c .before .before .before .before .before .before .before .before .before .before .before .before .pre .1 .page-sound))
 
 wait-all-requires : tie.Need-wait-all-requires
-wait-all-requires c κs = (omega (arith, c .before .before .before .before .before .before .before .before .pre .standing .long, c .before .before .before .before .settle-ends .ensures .steady .same-length), head-of (c .before .before .before .before .before .before .before .before .args .a .now) (c .before .before .before .before .before .before .before .before .pre .standing .page-sound) .few)
+wait-all-requires c κs = (omega (arith, c .before .before .before .before .before .before .before .before .before .before .before .before .pre .0 .standing .long, c .before .before .before .before .settle-ends .ensures .steady .same-length), head-of (c .before .before .before .before .before .before .before .before .before .before .before .before .args .a .now) (c .before .before .before .before .before .before .before .before .before .before .before .before .pre .1 .page-sound) .few)
 
 settle-ends-requires-2 : tie.Need-settle-ends-requires-2
-settle-ends-requires-2 c κs = unfold pageOf in lows-ready _ (first-highs _ (c .before .before .before .before .before .before .before .before .before .before .before .before .pre) (c .before .before .before .before .before .before .before .before .settle-ends .ensures) (c .before .before .before .wait-all .ensures))
+settle-ends-requires-2 c κs = unfold pageOf in (lows-ready _ (first-highs _ (c .before .before .before .before .before .before .before .before .before .before .before .before .before .before .before .before .pre .0) (c .before .before .before .before .before .before .before .before .settle-ends .ensures) (c .before .before .before .wait-all .ensures)), c .before .before .before .before .before .before .before .before .before .before .before .before .before .before .before .before .pre .1)
 
 same-length : tie.Need-same-length
 same-length c = search needs
 
 returns : tie.Need-returns
-returns c = unfold pageOf in first-rounded _ (c .before .before .before .before .before .before .before .before .before .before .before .before .before .before .before .pre) (c .before .before .before .before .before .before .before .before .before .before .before .settle-ends .ensures) (c .before .before .before .before .before .before .wait-all .ensures) (c .before .before .settle-ends2 .ensures)
+returns c = unfold pageOf in first-rounded _ (c .before .before .before .before .before .before .before .before .before .before .before .before .before .before .before .before .before .before .before .pre .0) (c .before .before .before .before .before .before .before .before .before .before .before .settle-ends .ensures) (c .before .before .before .before .before .before .wait-all .ensures) (c .before .before .settle-ends2 .ensures)
 
 pub first-round-spec : {M : Type 1} → statement M
 first-round-spec =

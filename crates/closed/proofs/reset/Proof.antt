@@ -4,13 +4,17 @@ use native.Mathlib.Omega.{arith}
 use lib.ListN.{length-set}
 use Rattle.semantics.specs.Area.{pageOf}
 use Rattle.worklist.proofs.Head.{head-of}
+use Rattle.closed.proofs.Gathering.{pending-without}
 use Rattle.closed.proofs.Restarting.{reset-done}
 use borrow.Author.Needs.{needs}
 use Rattle.closed.proofs.reset.Statement.{statement}
 use Rattle.closed.proofs.reset.Tie as tie
 
 shared-slice-read-n : tie.Need-shared-slice-read-n
-shared-slice-read-n c = omega (arith, head-of (c .before .before .before .args .a .now) (c .before .before .before .pre .0))
+shared-slice-read-n c = omega (arith, head-of (c .before .before .before .before .before .before .args .a .now) (c .before .before .before .before .before .before .pre .0))
+
+remove-requires : tie.Need-remove-requires
+remove-requires c κs = (c .before .before .before .before .before .before .before .pre .5 .size, omega (arith, c .before .before .before .before .before .before .before .pre .3, head-of (c .before .before .before .before .before .before .before .args .a .now) (c .before .before .before .before .before .before .before .pre .0) .few))
 
 cast-run : tie.Need-cast-run
 cast-run c = search needs
@@ -37,25 +41,33 @@ mul-run-4 : tie.Need-mul-run-4
 mul-run-4 c = search needs
 
 slice-write-run-2 : tie.Need-slice-write-run-2
-slice-write-run-2 c = simp length-set (omega (arith, c .before .before .before .pre))
+slice-write-run-2 c = simp length-set (omega (arith, c .before .before .before .before .before .before .before .before .before .before .pre .2, c .before .before .before .before .before .before .before .before .before .before .pre .3))
 
-mul-mark-readers : tie.Need-mul-mark-readers
-mul-mark-readers c = omega (arith, head-of (c .before .before .before .before .args .a .now) (c .before .before .before .before .pre .0))
-
-mark-readers-requires : tie.Need-mark-readers-requires
-mark-readers-requires c κs = (c .before .before .before .before .pre .0, simp length-set (omega (arith, c .before .before .before .before .pre)))
+gather-readers-requires : tie.Need-gather-readers-requires
+gather-readers-requires c κs = let z = c .before .before .before .before .before .before .before .before .before .before .before .before in (
+  z .pre .0,
+  z .pre .1,
+  simp length-set (omega (arith, z .pre .2)),
+  z .pre .3,
+  pending-without _ _ _ (z .pre .3) (z .pre .2) (z .pre .4) (z .pre .5) (c .before .before .before .before .remove .ensures .0) (c .before .before .before .before .remove .ensures .1),
+)
 
 same-length : tie.Need-same-length
-same-length c = c .before .before .mark-readers .ensures .same-length ∙ simp length-set
+same-length c = c .before .before .before .before .gather-readers .ensures .0 .same-length ∙ simp length-set
+
+same-length-2 : tie.Need-same-length-2
+same-length-2 c = search needs
 
 returns : tie.Need-returns
-returns c = unfold pageOf in reset-done (pageOf (c .before .before .before .before .before .before .before .args .a .now)) (c .before .before .before .before .before .before .before .args .c) (c .before .before .before .before .before .before .before .args .run .now) (c .before .before .before .before .before .before .before .pre .2) (c .before .before .before .before .before .before .before .pre .1) (c .before .before .mark-readers .ensures)
+returns c = let z = c .before .before .before .before .before .before .before .before .before .before .before .before .before .before .before .before .before in
+    unfold pageOf in (reset-done (pageOf (z .args .a .now)) (z .args .c) (z .args .run .now) (z .pre .3) (z .pre .2) (c .before .before .before .before .gather-readers .ensures .0), c .before .before .before .before .gather-readers .ensures .1)
 
 pub reset-spec : {M : Type 1} → statement M
 reset-spec =
     tie.close
     (tie.spec
     shared-slice-read-n
+    remove-requires
     cast-run
     mul-run
     add-run
@@ -65,7 +77,7 @@ reset-spec =
     add-run-2
     mul-run-4
     slice-write-run-2
-    mul-mark-readers
-    mark-readers-requires
+    gather-readers-requires
     same-length
+    same-length-2
     returns)

@@ -1,40 +1,38 @@
 -- `closed::solve` meets its contract. Assumes nothing.
-use native.Mathlib.Omega.{arith}
 use Rattle.worklist.proofs.Head.{head-of}
-use Rattle.closed.proofs.Answering.{rounds-begin, solved}
 use borrow.Author.Needs.{needs}
 use Rattle.closed.proofs.solve.Statement.{statement}
 use Rattle.closed.proofs.solve.Tie as tie
 
-closure-of-requires : tie.Need-closure-of-requires
-closure-of-requires c κs = search needs
+is-small-requires : tie.Need-is-small-requires
+is-small-requires c κs = head-of (c .before .before .before .args .a .now) (c .before .before .before .pre .page-sound) .four
 
-shared-slice-read-write-run : tie.Need-shared-slice-read-write-run
-shared-slice-read-write-run c = omega (arith, head-of (c .before .before .before .before .before .before .args .a .now) (c .before .before .before .before .before .before .pre .0))
+solve-small-requires : tie.Need-solve-small-requires
+solve-small-requires c κs = let e = c .before .before .is-small .ensures (c .before .if1 .taken) in (c .before .before .before .before .before .before .pre, e .0, e .1, e .2)
 
-slice-aggregate-write-run : tie.Need-slice-aggregate-write-run
-slice-aggregate-write-run c = search needs
-
-write-run-requires : tie.Need-write-run-requires
-write-run-requires c κs = (omega (arith, c .before .before .before .before .before .before .before .pre .2), omega (arith, head-of (c .before .before .before .before .before .before .before .args .a .now) (c .before .before .before .before .before .before .before .pre .0), c .before .before .before .closure-of .ensures .size))
-
-alternate-requires : tie.Need-alternate-requires
-alternate-requires c κs = rounds-begin _ _ _ (c .before .before .before .before .before .before .before .before .before .before .before .pre .0) (c .before .before .before .before .before .before .before .before .before .before .before .pre .2) (c .before .before .before .before .before .before .before .closure-of .ensures) (c .before .before .before .write-run .ensures)
+solve-large-requires : tie.Need-solve-large-requires
+solve-large-requires c κs = search needs
 
 same-length : tie.Need-same-length
 same-length c = search needs
 
 returns : tie.Need-returns
-returns c = solved _ _ _ (c .before .before .before .before .before .before .before .before .before .before .before .before .before .before .pre .0) (c .before .before .before .before .before .before .before .before .before .before .before .before .before .before .pre .2) (c .before .before .before .before .before .before .before .before .before .before .closure-of .ensures) (c .before .before .before .before .before .before .write-run .ensures) (c .before .before .alternate .ensures)
+returns c = search needs
+
+same-length-2 : tie.Need-same-length-2
+same-length-2 c = search needs
+
+returns-2 : tie.Need-returns-2
+returns-2 c = search needs
 
 pub solve-spec : {M : Type 1} → statement M
 solve-spec =
     tie.close
     (tie.spec
-    closure-of-requires
-    shared-slice-read-write-run
-    slice-aggregate-write-run
-    write-run-requires
-    alternate-requires
+    is-small-requires
+    solve-small-requires
+    solve-large-requires
     same-length
-    returns)
+    returns
+    same-length-2
+    returns-2)

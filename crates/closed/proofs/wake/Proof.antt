@@ -8,22 +8,22 @@ use Rattle.closed.proofs.wake.Statement.{statement}
 use Rattle.closed.proofs.wake.Tie as tie
 
 abbrev Inv-loop : tie.InvT-loop
-Inv-loop a run₀ n c₀ run c = Waking (pageOf a) run₀ run c
+Inv-loop a run₀ start heads n c₀ run c = Waking (pageOf a) run₀ run c
 
 abbrev μ-loop : tie.MeasureT-loop
-μ-loop a run₀ n c₀ run c = n - c
+μ-loop a run₀ start heads n c₀ run c = n - c
 
 shared-slice-read-n : tie.Need-shared-slice-read-n Inv-loop μ-loop
-shared-slice-read-n c = omega (arith, head-of (c .before .before .before .args .a .now) (c .before .before .before .pre .0))
+shared-slice-read-n c = omega (arith, head-of (c .before .before .before .before .before .args .a .now) (c .before .before .before .before .before .pre .0))
 
 loop-holds : tie.Need-loop-holds Inv-loop μ-loop
 loop-holds c = waking-first _ _
 
 wake-from-requires : tie.Need-wake-from-requires Inv-loop μ-loop
-wake-from-requires c κs = (c .before .before .before .before .before .before .pre .0, omega (arith, c .before .before .before .before .before .before .pre .1, c .before .before .loop .inv .same-length), c .before .loop-test .taken)
+wake-from-requires c κs = (c .before .before .before .before .before .before .before .before .pre .0, omega (arith, c .before .before .before .before .before .before .before .before .pre .1, c .before .before .loop .inv .same-length), c .before .loop-test .taken, c .before .before .before .before .before .before .before .before .pre .2)
 
 add-c : tie.Need-add-c Inv-loop μ-loop
-add-c c = omega (arith, head-of (c .before .before .before .before .before .before .before .before .before .args .a .now) (c .before .before .before .before .before .before .before .before .before .pre .0))
+add-c c = omega (arith, head-of (c .before .before .before .before .before .before .before .before .before .before .before .args .a .now) (c .before .before .before .before .before .before .before .before .before .before .before .pre .0))
 
 loop-less : tie.Need-loop-less Inv-loop μ-loop
 loop-less c = omega arith

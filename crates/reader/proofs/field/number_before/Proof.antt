@@ -1,18 +1,17 @@
+-- `number_before` meets its contract. Assumes nothing.
 use borrow.Author.Needs.{needs}
 use native.Mathlib.Omega.{arith}
-use Rattle.reader.proofs.Fields.{field-within}
-use Rattle.reader.proofs.Tokens.{Numbered, numbered, not-numbered, before-none, before-number, before-other}
+use Rattle.reader.specs.Cursor.{Digits}
+use Rattle.reader.proofs.Tokens.{some-digits, none-there, before-none, ends-number, ends-other}
 use Rattle.reader.proofs.field.number_before.Statement.{statement}
 use Rattle.reader.proofs.field.number_before.Tie as tie
 
--- what `read_number` answered, where the byte behind the number has been read
-at-number : (c : tie.After-byte-at) → let a = c .before .before .before .before .before .before .args in Numbered (a .bytes .now) (a .at) (c .before .before .value .given .0 .0) (c .before .before .value .given .0 .1 .0)
-at-number c =
-    let a = c .before .before .before .before .before .before .args in
-    numbered (a .bytes .now) (a .at) (c .before .before .before .before .read-number .ensures) (c .before .before .value .given .1)
+-- the digits at the place
+digits-here : (c : tie.After-known-told) → Digits (c .before .before .before .before .before .args .bytes .now) (c .before .before .before .before .before .args .at) (c .before .value .given .0 .0) (c .before .value .given .0 .1 .0)
+digits-here c = some-digits (c .before .before .before .before .before .args .bytes .now) (c .before .before .before .before .before .args .at) (c .before .before .before .digits .ensures) (c .before .value .given .1)
 
-read-number-requires : tie.Need-read-number-requires
-read-number-requires c κs = search needs
+digits-requires : tie.Need-digits-requires
+digits-requires c κs = search needs
 
 enum-known-value : tie.Need-enum-known-value
 enum-known-value c = search needs
@@ -21,38 +20,29 @@ enum-told : tie.Need-enum-told
 enum-told c = search needs
 
 returns : tie.Need-returns
-returns c =
-    let a = c .before .before .before .before .args in
-    before-none (a .bytes .now) (a .at) (a .mark) (not-numbered (a .bytes .now) (a .at) (c .before .before .read-number .ensures) (c .enum-told .given .1))
+returns c = (before-none (c .before .before .before .before .args .bytes .now) (c .before .before .before .before .args .at) (c .before .before .before .before .args .mark) (none-there (c .before .before .before .before .args .bytes .now) (c .before .before .before .before .args .at) (c .before .before .digits .ensures) (c .enum-told .given .1)), omega arith)
 
-byte-at-requires : tie.Need-byte-at-requires
-byte-at-requires c κs = search needs
+shared-slice-read-if1 : tie.Need-shared-slice-read-if1
+shared-slice-read-if1 c = digits-here (c .before) .place .inside
 
-add-t9 : tie.Need-add-t9
-add-t9 c =
-    let a = c .before .before .before .before .before .before .before .args in
-    let n = at-number (c .before) in
-    omega (arith, n .end, field-within (a .bytes .now) (a .at) (c .before .before .before .before .before .before .before .pre))
+add-t10 : tie.Need-add-t10
+add-t10 c = omega (arith, digits-here (c .before .before) .place .inside)
 
 returns-2 : tie.Need-returns-2
-returns-2 c =
-    let a = c .before .before .before .before .before .before .before .args in
-    before-number (a .bytes .now) (a .at) (a .mark) (at-number (c .before)) (c .before .byte-at .ensures) (c .if1 .taken)
+returns-2 c = (ends-number (c .before .before .before .before .before .before .before .args .bytes .now) (c .before .before .before .before .before .before .before .args .at) (c .before .before .before .before .before .before .before .args .mark) (c .before .before .before .before .before .before .before .pre .1) (digits-here (c .before .before)) (c .if1 .taken), omega (arith, digits-here (c .before .before) .place .inside))
 
 returns-3 : tie.Need-returns-3
-returns-3 c =
-    let a = c .before .before .before .before .before .before .before .args in
-    before-other (a .bytes .now) (a .at) (a .mark) (at-number (c .before)) (c .before .byte-at .ensures) (c .if1 .left)
+returns-3 c = (ends-other (c .before .before .before .before .before .before .before .args .bytes .now) (c .before .before .before .before .before .before .before .args .at) (c .before .before .before .before .before .before .before .args .mark) (c .before .before .before .before .before .before .before .pre .1) (digits-here (c .before .before)) (c .if1 .left), omega arith)
 
 pub number-before-spec : {M : Type 1} → statement M
 number-before-spec =
     tie.close
     (tie.spec
-    read-number-requires
+    digits-requires
     enum-known-value
     enum-told
     returns
-    byte-at-requires
-    add-t9
+    shared-slice-read-if1
+    add-t10
     returns-2
     returns-3)

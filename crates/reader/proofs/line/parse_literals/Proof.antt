@@ -1,30 +1,30 @@
 -- `parse_literals` meets its contract: the loop reads one literal a turn, `Reading`. Assumes nothing.
-use Prim.Native.Nat.{ℕ, _+_, _-_, _≤_}
-use mathlib.Core.Path.{_≡_, refl}
-use native.Mathlib.Omega.{arith}
 use borrow.Author.Needs.{needs}
-use lib.ListN.{length}
-use Rattle.reader.proofs.Literals.{Reading, reading-none, not-literal, literal-inside, reading-last, reading-more, too-many}
+use Prim.Native.Nat.{_-_}
+use mathlib.Core.Path.{refl, sym, _∙_, ap}
+use native.Mathlib.Omega.{arith}
+use lib.ListN.{length-set}
+use Rattle.reader.specs.Cursor.{classOf, Coded}
+use Rattle.reader.proofs.Tokens.{comma-class, newline-class}
+use Rattle.reader.proofs.Literals.{Reading, some-literal, no-literal, reading-none, too-many, not-literal, byte-behind, not-ended, reading-more, reading-last}
 use Rattle.reader.proofs.line.parse_literals.Statement.{statement}
 use Rattle.reader.proofs.line.parse_literals.Tie as tie
 
 abbrev Inv-loop : tie.InvT-loop
-Inv-loop bytes at condition weight kind literals₀ n₀ i₀ literals n i = Reading bytes at literals n i
+Inv-loop bytes at limit buffer₀ start ok good₀ n₀ i₀ buffer good n i = Reading bytes at limit buffer₀ start ok buffer good n i
 
 abbrev μ-loop : tie.MeasureT-loop
-μ-loop bytes at condition weight kind literals₀ n₀ i₀ literals n i = 8 - n
+μ-loop bytes at limit buffer₀ start ok good₀ n₀ i₀ buffer good n i = 8 - n
 
--- the literal's field ends within the text
-inside-here : (c : tie.After-known-told Inv-loop μ-loop) → c .before .code .given .0 .1 .0 ≤ length (c .before .before .before .before .before .before .before .args .bytes .now)
-inside-here c =
-    let a = c .before .before .before .before .before .before .before .args in
-    literal-inside (a .bytes .now) (a .at) (a .condition) (a .kind) (a .weight) (c .before .before .before .before .before .loop .inv) (c .before .before .before .read-literal .ensures) (c .before .code .given .1)
+-- the literal that has been read
+code-here : (c : tie.After-known-told Inv-loop μ-loop) → Coded (c .before .before .before .before .before .before .before .before .args .bytes .now) (c .before .before .before .before .before .loop .i) (c .before .code .given .0 .0) (c .before .code .given .0 .1 .0)
+code-here c = some-literal (c .before .before .before .before .before .before .before .before .args .bytes .now) (c .before .before .before .before .before .loop .i) (c .before .before .before .read-literal .ensures) (c .before .code .given .1)
 
 loop-holds : tie.Need-loop-holds Inv-loop μ-loop
-loop-holds c = reading-none (c .before .args .bytes .now) (c .before .args .at) _ refl (c .before .pre)
+loop-holds c = reading-none (c .before .before .args .bytes .now) (c .before .before .args .at) (c .before .before .args .limit) (c .before .before .args .buffer .now) (c .before .before .args .start) (c .before .before .args .ok) (c .before .before .pre .0) (c .before .before .pre .1)
 
 read-literal-requires : tie.Need-read-literal-requires Inv-loop μ-loop
-read-literal-requires c κs = c .before .loop .inv .inside
+read-literal-requires c κs = (c .before .loop) .inv .place
 
 enum-known-code : tie.Need-enum-known-code Inv-loop μ-loop
 enum-known-code c = search needs
@@ -32,52 +32,78 @@ enum-known-code c = search needs
 enum-told : tie.Need-enum-told Inv-loop μ-loop
 enum-told c = search needs
 
-no-form-requires : tie.Need-no-form-requires Inv-loop μ-loop
-no-form-requires c κs = search needs
+no-literals-requires : tie.Need-no-literals-requires Inv-loop μ-loop
+no-literals-requires c κs = search needs
+
+same-length : tie.Need-same-length Inv-loop μ-loop
+same-length c = (c .before .before .before .before .before .loop) .inv .same
 
 returns : tie.Need-returns Inv-loop μ-loop
-returns c =
-    let a = c .before .before .before .before .before .before .before .args in
-    not-literal (a .bytes .now) (a .at) (a .condition) (a .kind) (a .weight) (c .before .before .before .before .before .loop .inv) (c .before .before .before .read-literal .ensures) (c .before .enum-told .given .1) (c .no-form .ensures)
+returns c = not-literal (c .before .before .before .before .before .before .before .before .args .bytes .now) (c .before .before .before .before .before .before .before .before .args .at) (c .before .before .before .before .before .before .before .before .args .limit) (c .before .before .before .before .before .before .before .before .args .buffer .now) (c .before .before .before .before .before .before .before .before .args .start) (c .before .before .before .before .before .before .before .before .args .ok) (c .before .before .before .before .before .loop .inv) (c .before .before .before .before .before .loop .buffer) (no-literal (c .before .before .before .before .before .before .before .before .args .bytes .now) (c .before .before .before .before .before .loop .i) (c .before .before .before .read-literal .ensures) (c .before .enum-told .given .1)) (c .no-literals .ensures)
 
-mul-literals : tie.Need-mul-literals Inv-loop μ-loop
-mul-literals c = search needs
+cast-buffer : tie.Need-cast-buffer Inv-loop μ-loop
+cast-buffer c = omega (arith, code-here c .most)
 
-array-write-literals : tie.Need-array-write-literals Inv-loop μ-loop
-array-write-literals c = search needs
+add-buffer : tie.Need-add-buffer Inv-loop μ-loop
+add-buffer c = omega (arith, (c .before .before .before .before .before .loop) .inv .room, (c .before .before .before .before .before .loop) .inv .same)
+
+mul-buffer : tie.Need-mul-buffer Inv-loop μ-loop
+mul-buffer c = search needs
+
+slice-write-buffer : tie.Need-slice-write-buffer Inv-loop μ-loop
+slice-write-buffer c = omega (arith, (c .before .before .before .before .before .loop) .inv .room, (c .before .before .before .before .before .loop) .inv .same)
 
 add-n : tie.Need-add-n Inv-loop μ-loop
-add-n c = search needs
+add-n c = omega arith
 
 add-i : tie.Need-add-i Inv-loop μ-loop
-add-i c = omega (arith, inside-here c)
+add-i c = omega (arith, code-here c .place .inside)
 
-byte-at-requires : tie.Need-byte-at-requires Inv-loop μ-loop
-byte-at-requires c κs = search needs
+still-requires : tie.Need-still-requires Inv-loop μ-loop
+still-requires c κs = search needs
 
-cast-t17 : tie.Need-cast-t17 Inv-loop μ-loop
-cast-t17 c = omega arith
+shared-slice-read-b : tie.Need-shared-slice-read-b Inv-loop μ-loop
+shared-slice-read-b c = code-here (c .before .before) .place .inside
+
+same-length-2 : tie.Need-same-length-2 Inv-loop μ-loop
+same-length-2 c = simp length-set (c .before .before .before .before .before .before .before .before .loop .inv .same)
 
 returns-2 : tie.Need-returns-2 Inv-loop μ-loop
 returns-2 c =
-    let a = c .before .before .before .before .before .before .before .before .before .args in
-    reading-last (a .bytes .now) (a .at) (a .condition) (a .kind) (a .weight) (c .before .before .before .before .before .before .before .loop .inv) (c .before .before .before .before .before .read-literal .ensures) (c .before .before .before .code .given .1) (c .before .before .before .before .before .before .loop-test .taken) (c .before .byte-at .ensures) (c .if1 .taken) _ refl refl refl refl refl
+    let s = (c .before .before .before .before .before .before .before .before .before .before .before .args) .bytes .now in
+    let q = code-here (c .before .before .before) in
+    let d = sym (byte-behind s (c .before .before .before .before .before .before .before .before .before .before .before .args .at) (c .before .before .before .before .before .before .before .before .before .before .before .args .limit) (c .before .before .before .before .before .before .before .before .before .before .before .args .buffer .now) (c .before .before .before .before .before .before .before .before .before .before .before .args .start) (c .before .before .before .before .before .before .before .before .before .before .before .args .ok) (c .before .before .before .before .before .before .before .before .loop .inv) q) ∙ (c .if1) .taken in
+    reading-last s (c .before .before .before .before .before .before .before .before .before .before .before .args .at) (c .before .before .before .before .before .before .before .before .before .before .before .args .limit) (c .before .before .before .before .before .before .before .before .before .before .before .args .buffer .now) (c .before .before .before .before .before .before .before .before .before .before .before .args .start) (c .before .before .before .before .before .before .before .before .before .before .before .args .ok) (c .before .before .before .before .before .before .before .before .loop .inv) q (ap classOf d ∙ newline-class) (c .before .before .before .before .before .before .before .loop-test .taken) (c .before .before .still .ensures) d _ refl refl refl refl
+
+no-literals-requires-2 : tie.Need-no-literals-requires-2 Inv-loop μ-loop
+no-literals-requires-2 c κs = search needs
+
+same-length-3 : tie.Need-same-length-3 Inv-loop μ-loop
+same-length-3 c = simp length-set (c .before .before .before .before .before .before .before .before .before .before .loop .inv .same)
+
+returns-3 : tie.Need-returns-3 Inv-loop μ-loop
+returns-3 c =
+    let s = (c .before .before .before .before .before .before .before .before .before .before .before .before .before .args) .bytes .now in
+    not-literal s (c .before .before .before .before .before .before .before .before .before .before .before .before .before .args .at) (c .before .before .before .before .before .before .before .before .before .before .before .before .before .args .limit) (c .before .before .before .before .before .before .before .before .before .before .before .before .before .args .buffer .now) (c .before .before .before .before .before .before .before .before .before .before .before .before .before .args .start) (c .before .before .before .before .before .before .before .before .before .before .before .before .before .args .ok) (c .before .before .before .before .before .before .before .before .before .before .loop .inv) _ (not-ended s (c .before .before .before .before .before .before .before .before .before .before .before .before .before .args .at) (c .before .before .before .before .before .before .before .before .before .before .before .before .before .args .limit) (c .before .before .before .before .before .before .before .before .before .before .before .before .before .args .buffer .now) (c .before .before .before .before .before .before .before .before .before .before .before .before .before .args .start) (c .before .before .before .before .before .before .before .before .before .before .before .before .before .args .ok) (c .before .before .before .before .before .before .before .before .before .before .loop .inv) (code-here (c .before .before .before .before .before)) (c .before .before .if1 .left) (c .before .if2 .taken)) (c .no-literals2 .ensures)
 
 loop-less : tie.Need-loop-less Inv-loop μ-loop
 loop-less c = omega arith
 
 loop-again : tie.Need-loop-again Inv-loop μ-loop
 loop-again c =
-    let a = c .before .before .before .before .before .before .before .before .before .args in
-    reading-more (a .bytes .now) (a .at) (a .condition) (a .kind) (a .weight) (c .before .before .before .before .before .before .before .loop .inv) (c .before .before .before .before .before .read-literal .ensures) (c .before .before .before .code .given .1) (c .before .before .before .before .before .before .loop-test .taken) (c .before .byte-at .ensures) (c .if1 .left)
+    let s = (c .before .before .before .before .before .before .before .before .before .before .before .before .args) .bytes .now in
+    let q = code-here (c .before .before .before .before) in
+    let d = sym (byte-behind s (c .before .before .before .before .before .before .before .before .before .before .before .before .args .at) (c .before .before .before .before .before .before .before .before .before .before .before .before .args .limit) (c .before .before .before .before .before .before .before .before .before .before .before .before .args .buffer .now) (c .before .before .before .before .before .before .before .before .before .before .before .before .args .start) (c .before .before .before .before .before .before .before .before .before .before .before .before .args .ok) (c .before .before .before .before .before .before .before .before .before .loop .inv) q) ∙ (c .if2) .left in
+    reading-more s (c .before .before .before .before .before .before .before .before .before .before .before .before .args .at) (c .before .before .before .before .before .before .before .before .before .before .before .before .args .limit) (c .before .before .before .before .before .before .before .before .before .before .before .before .args .buffer .now) (c .before .before .before .before .before .before .before .before .before .before .before .before .args .start) (c .before .before .before .before .before .before .before .before .before .before .before .before .args .ok) (c .before .before .before .before .before .before .before .before .before .loop .inv) q (ap classOf d ∙ comma-class) (c .before .before .before .before .before .before .before .before .loop-test .taken) (c .before .before .before .still .ensures) d
 
-no-form-requires-2 : tie.Need-no-form-requires-2 Inv-loop μ-loop
-no-form-requires-2 c κs = search needs
+no-literals-requires-3 : tie.Need-no-literals-requires-3 Inv-loop μ-loop
+no-literals-requires-3 c κs = search needs
 
-returns-3 : tie.Need-returns-3 Inv-loop μ-loop
-returns-3 c =
-    let a = c .before .before .before .before .args in
-    too-many (a .bytes .now) (a .at) (a .condition) (a .kind) (a .weight) (c .before .before .loop .inv) (c .before .loop-test .left) (c .no-form2 .ensures)
+same-length-4 : tie.Need-same-length-4 Inv-loop μ-loop
+same-length-4 c = (c .before .before .loop) .inv .same
+
+returns-4 : tie.Need-returns-4 Inv-loop μ-loop
+returns-4 c = too-many (c .before .before .before .before .before .args .bytes .now) (c .before .before .before .before .before .args .at) (c .before .before .before .before .before .args .limit) (c .before .before .before .before .before .args .buffer .now) (c .before .before .before .before .before .args .start) (c .before .before .before .before .before .args .ok) (c .before .before .loop .inv) (c .before .before .loop .buffer) (c .before .loop-test .left) (c .no-literals3 .ensures)
 
 pub parse-literals-spec : {M : Type 1} → statement M
 parse-literals-spec =
@@ -89,16 +115,24 @@ parse-literals-spec =
     read-literal-requires
     enum-known-code
     enum-told
-    no-form-requires
+    no-literals-requires
+    same-length
     returns
-    mul-literals
-    array-write-literals
+    cast-buffer
+    add-buffer
+    mul-buffer
+    slice-write-buffer
     add-n
     add-i
-    byte-at-requires
-    cast-t17
+    still-requires
+    shared-slice-read-b
+    same-length-2
     returns-2
+    no-literals-requires-2
+    same-length-3
+    returns-3
     loop-less
     loop-again
-    no-form-requires-2
-    returns-3)
+    no-literals-requires-3
+    same-length-4
+    returns-4)

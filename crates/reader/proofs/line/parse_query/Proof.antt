@@ -3,44 +3,94 @@ use borrow.Author.Needs.{needs}
 use Prim.Native.Nat.{ℕ, _+_}
 use mathlib.Core.Path.{_≡_, refl, sym, _∙_, ap}
 use mathlib.Core.List.{[], _∷_}
-use lib.ListN.{drop}
-use Rattle.reader.specs.Cursor.{fieldsAt}
+use native.Mathlib.Omega.{arith}
+use lib.ListN.{getD, drop}
+use Rattle.semantics.specs.Page.{query}
+use Rattle.semantics.specs.Text.{readingIn}
+use Rattle.reader.specs.Cursor.{Within, fieldsAt}
 use Rattle.reader.specs.Lines.{readingAt}
-use Rattle.reader.proofs.Letters.{LetterThen, letter-then, reading-letter}
-use Rattle.reader.proofs.Tokens.{number-last, no-number-last}
-use Rattle.reader.proofs.Forms.{formless, no-reading, no-query, a-query}
+use Rattle.reader.proofs.Places.{byte-here}
+use Rattle.reader.proofs.Letters.{LetterThen, letter-next, letter-here, letter-gone, reading-comma, reading-newline, reading-zero, zero-reading, none-reading}
+use Rattle.reader.proofs.Tokens.{NumberLast, number-last, no-number-last, last-most, newline-class}
+use Rattle.reader.proofs.Forms.{Says, gone-line, no-reading-letter, query-place, no-query, query-codes, a-query, far-entry, put-entry, query-condition, query-good}
+use Rattle.reader.proofs.Writes.{put-run}
 use Rattle.reader.proofs.line.parse_query.Statement.{statement}
 use Rattle.reader.proofs.line.parse_query.Tie as tie
 
--- the reading letter is one, and another field follows
-known-reading : (c : tie.Else1) → readingAt (c .before .before .letter-then .result) ≡ 2 → ⊥
-known-reading c e = c .if1 .left (c .before .reading-code .ensures ∙ e)
+-- the letter of the line, the letter of the reading, the condition, and what the line says
+the-letter : (c : tie.Else1) → LetterThen (c .before .before .before .before .args .bytes .now) (c .before .before .before .before .args .at) 81
+the-letter c = letter-here (c .before .before .before .before .args .bytes .now) (c .before .before .before .before .args .at) (c .before .before .before .before .pre .0 .place) (c .before .before .before .before .pre .1) (λ z. omega arith) (λ z. omega arith) (λ z. omega arith) (c .if1 .left)
 
-letter-here : (c : tie.Else1) → let a = c .before .before .before .before .args in LetterThen (a .bytes .now) (a .at) (c .before .before .letter-then .result)
-letter-here c =
-    let a = c .before .before .before .before .args in
-    letter-then (a .bytes .now) (a .at) (c .before .before .letter-then .ensures) (reading-letter (c .before .before .letter-then .result) (known-reading c))
+byte-two : (c : tie.Else1) → getD (c .before .before .before .before .args .bytes .now) (c .before .before .before .before .args .at + 2) 0 ≡ getD (c .before .before .before .before .args .bytes .now) (c .before .before .before .before .args .at + 2) 10
+byte-two c = byte-here (c .before .before .before .before .args .bytes .now) (c .before .before .before .before .args .at + 2) (the-letter c .place .inside)
 
-letter-then-requires : tie.Need-letter-then-requires
-letter-then-requires c κs = search needs
+a-reading : (c : tie.Else2) → readingAt (getD (c .before .before .before .before .before .before .before .args .bytes .now) (c .before .before .before .before .before .before .before .args .at + 2) 0) ≡ 2 → ⊥
+a-reading c e = (c .if2) .left (c .before .reading-code .ensures ∙ e)
+
+reading-next : (c : tie.Else2) → Within (c .before .before .before .before .before .before .before .args .bytes .now) (c .before .before .before .before .before .before .before .args .at + 2 + 1)
+reading-next c =
+    let r = getD (c .before .before .before .before .before .before .before .args .bytes .now) (c .before .before .before .before .before .before .before .args .at + 2) 0 in
+    letter-next (c .before .before .before .before .before .before .before .args .bytes .now) (c .before .before .before .before .before .before .before .args .at + 2) (the-letter (c .before .before .before) .place) (sym (byte-two (c .before .before .before))) (reading-comma r (a-reading c)) (reading-newline r (a-reading c))
+
+three : (at : ℕ) → at + 2 + 1 ≡ at + 3
+three at = omega arith
+
+the-reading : (c : tie.Else3) → LetterThen (c .before .before .before .before .before .before .before .before .before .args .bytes .now) (c .before .before .before .before .before .before .before .before .before .args .at + 2) (getD (c .before .before .before .before .before .before .before .before .before .args .bytes .now) (c .before .before .before .before .before .before .before .before .before .args .at + 2) 0)
+the-reading c =
+    let r = getD (c .before .before .before .before .before .before .before .before .before .args .bytes .now) (c .before .before .before .before .before .before .before .before .before .args .at + 2) 0 in
+    let n = a-reading (c .before .before) in
+    letter-here (c .before .before .before .before .before .before .before .before .before .args .bytes .now) (c .before .before .before .before .before .before .before .before .before .args .at + 2) (the-letter (c .before .before .before .before .before) .place) (sym (byte-two (c .before .before .before .before .before))) (reading-comma r n) (reading-newline r n) (reading-zero r n)
+    (ap (λ (i : ℕ). getD (c .before .before .before .before .before .before .before .before .before .args .bytes .now) i 0) (three (c .before .before .before .before .before .before .before .before .before .args .at)) ∙ (c .if3) .left)
+
+the-condition : (c : tie.After-known-told) → NumberLast (c .before .before .before .before .before .before .before .before .before .before .before .before .before .args .bytes .now) (c .before .before .before .before .before .before .before .before .before .before .before .before .before .args .at + 4) (c .before .condition .given .0 .0) (c .before .condition .given .0 .1 .0)
+the-condition c = number-last (c .before .before .before .before .before .before .before .before .before .before .before .before .before .args .bytes .now) (c .before .before .before .before .before .before .before .before .before .before .before .before .before .args .at + 4) (c .before .before .before .number-before .ensures .0) (c .before .before .before .number-before .ensures .1) (c .before .condition .given .1)
+
+the-query : (c : tie.After-known-told) → Says (c .before .before .before .before .before .before .before .before .before .before .before .before .before .args .bytes .now) (c .before .before .before .before .before .before .before .before .before .before .before .before .before .args .at) (query (readingIn (getD (c .before .before .before .before .before .before .before .before .before .before .before .before .before .args .bytes .now) (c .before .before .before .before .before .before .before .before .before .before .before .before .before .args .at + 2) 0 ∷ [])) (c .before .condition .given .0 .0)) (c .before .condition .given .0 .1 .0)
+the-query c = a-query (c .before .before .before .before .before .before .before .before .before .before .before .before .before .args .bytes .now) (c .before .before .before .before .before .before .before .before .before .before .before .before .before .args .at) (the-letter (c .before .before .before .before .before .before .before .before .before)) (the-reading (c .before .before .before .before)) (a-reading (c .before .before .before .before .before .before)) (the-condition c)
+
+add-if1 : tie.Need-add-if1
+add-if1 c = search needs
+
+shared-slice-read-if1 : tie.Need-shared-slice-read-if1
+shared-slice-read-if1 c = letter-next (c .before .before .before .args .bytes .now) (c .before .before .before .args .at) (c .before .before .before .pre .0 .place) (c .before .before .before .pre .1) (λ z. omega arith) (λ z. omega arith) .inside
+
+returns : tie.Need-returns
+returns c = gone-line (fieldsAt (drop (c .before .before .before .before .args .at) (c .before .before .before .before .args .bytes .now))) (letter-gone (c .before .before .before .before .args .bytes .now) (c .before .before .before .before .args .at) (c .before .before .before .before .pre .0 .place) (c .before .before .before .before .pre .1) (λ z. omega arith) (λ z. omega arith) (c .if1 .taken))
+
+add-reading-code : tie.Need-add-reading-code
+add-reading-code c = search needs
+
+shared-slice-read-reading-code : tie.Need-shared-slice-read-reading-code
+shared-slice-read-reading-code c = the-letter (c .before) .place .inside
 
 reading-code-requires : tie.Need-reading-code-requires
 reading-code-requires c κs = search needs
 
-no-form-requires : tie.Need-no-form-requires
-no-form-requires c κs = search needs
+returns-2 : tie.Need-returns-2
+returns-2 c =
+    no-reading-letter (c .before .before .before .before .before .before .before .args .bytes .now) (c .before .before .before .before .before .before .before .args .at) (the-letter (c .before .before .before))
+    (none-reading (c .before .before .before .before .before .before .before .args .bytes .now) (c .before .before .before .before .before .before .before .args .at + 2) (ap readingAt (sym (byte-two (c .before .before .before))) ∙ sym (c .before .reading-code .ensures) ∙ (c .if2) .taken))
 
-returns : tie.Need-returns
-returns c =
-    let a = c .before .before .before .before .before .args in
-    formless (a .bytes .now) (a .at) (c .no-form .ensures)
-    (no-reading (fieldsAt (drop (a .at) (a .bytes .now))) (ap readingAt (sym (c .before .before .before .letter-then .ensures)) ∙ sym (c .before .before .reading-code .ensures) ∙ c .before .if1 .taken))
+add-if3 : tie.Need-add-if3
+add-if3 c = search needs
+
+shared-slice-read-if3 : tie.Need-shared-slice-read-if3
+shared-slice-read-if3 c = omega (arith, reading-next (c .before) .inside)
+
+returns-3 : tie.Need-returns-3
+returns-3 c =
+    let r = getD (c .before .before .before .before .before .before .before .before .before .args .bytes .now) (c .before .before .before .before .before .before .before .before .before .args .at + 2) 0 in
+    let n = a-reading (c .before .before) in
+    no-reading-letter (c .before .before .before .before .before .before .before .before .before .args .bytes .now) (c .before .before .before .before .before .before .before .before .before .args .at) (the-letter (c .before .before .before .before .before))
+    (zero-reading
+    (letter-gone (c .before .before .before .before .before .before .before .before .before .args .bytes .now) (c .before .before .before .before .before .before .before .before .before .args .at + 2) (the-letter (c .before .before .before .before .before) .place) (sym (byte-two (c .before .before .before .before .before))) (reading-comma r n) (reading-newline r n)
+    (λ z. (c .if3) .taken (ap (λ (i : ℕ). getD (c .before .before .before .before .before .before .before .before .before .args .bytes .now) i 0) (sym (three (c .before .before .before .before .before .before .before .before .before .args .at))) ∙ z))))
 
 add-number-before : tie.Need-add-number-before
 add-number-before c = search needs
 
 number-before-requires : tie.Need-number-before-requires
-number-before-requires c κs = letter-here c .inside
+number-before-requires c κs = (query-place (c .before .before .before .before .before .before .before .before .before .args .bytes .now) (c .before .before .before .before .before .before .before .before .before .args .at) (the-letter (c .before .before .before .before .before)) (the-reading c), newline-class)
 
 enum-known-condition : tie.Need-enum-known-condition
 enum-known-condition c = search needs
@@ -48,35 +98,57 @@ enum-known-condition c = search needs
 enum-told : tie.Need-enum-told
 enum-told c = search needs
 
-no-form-requires-2 : tie.Need-no-form-requires-2
-no-form-requires-2 c κs = search needs
+returns-4 : tie.Need-returns-4
+returns-4 c = no-query (c .before .before .before .before .before .before .before .before .before .before .before .before .args .bytes .now) (c .before .before .before .before .before .before .before .before .before .before .before .before .args .at) (the-letter (c .before .before .before .before .before .before .before .before)) (the-reading (c .before .before .before)) (no-number-last (c .before .before .before .before .before .before .before .before .before .before .before .before .args .bytes .now) (c .before .before .before .before .before .before .before .before .before .before .before .before .args .at + 4) (c .before .before .number-before .ensures .0) (c .enum-told .given .1))
 
-returns-2 : tie.Need-returns-2
-returns-2 c =
-    let a = c .before .before .before .before .before .before .before .before .args in
-    formless (a .bytes .now) (a .at) (c .no-form2 .ensures)
-    (no-query (a .bytes .now) (a .at) (letter-here (c .before .before .before .before)) (no-number-last (a .bytes .now) (a .at + 2) (c .before .before .before .number-before .ensures) (c .before .enum-told .given .1)))
+returns-5 : tie.Need-returns-5
+returns-5 c = far-entry (c .before .before .before .before .before .before .before .before .before .before .before .before .before .before .args .bytes .now) (c .before .before .before .before .before .before .before .before .before .before .before .before .before .before .args .at) (c .before .before .before .before .before .before .before .before .before .before .before .before .before .before .args .top) (c .before .before .before .before .before .before .before .before .before .before .before .before .before .before .args .conditions) (the-query (c .before)) (query-condition (c .before .before .before .before .before .before .before .before .before .before .before .before .before .before .args .top) (c .before .before .before .before .before .before .before .before .before .before .before .before .before .before .args .conditions) (c .before .before .condition .given .0 .0) (readingIn (getD (c .before .before .before .before .before .before .before .before .before .before .before .before .before .before .args .bytes .now) (c .before .before .before .before .before .before .before .before .before .before .before .before .before .before .args .at + 2) 0 ∷ [])) (c .if4 .taken))
 
-returns-3 : tie.Need-returns-3
-returns-3 c =
-    let a = c .before .before .before .before .before .before .before .before .args in
-    let h = letter-here (c .before .before .before .before) in
-    a-query (a .bytes .now) (a .at) h (known-reading (c .before .before .before .before))
-    (number-last (a .bytes .now) (a .at + 2) (c .before .before .before .number-before .ensures) (h .inside) (c .before .condition .given .1))
-    _ refl (ap (λ (x : ℕ). c .before .condition .given .0 .0 ∷ 6 ∷ x ∷ 0 ∷ []) (c .before .before .before .before .before .reading-code .ensures)) refl refl
+cast-put-four : tie.Need-cast-put-four
+cast-put-four c = omega (arith, last-most (the-condition (c .before .before)))
+
+put-four-requires : tie.Need-put-four-requires
+put-four-requires c κs = search needs
+
+add-t10 : tie.Need-add-t10
+add-t10 c = search needs
+
+same-length : tie.Need-same-length
+same-length c = search needs
+
+returns-6 : tie.Need-returns-6
+returns-6 c =
+    let r = getD (c .before .before .before .before .before .before .before .before .before .before .before .before .before .before .before .before .before .before .args .bytes .now) (c .before .before .before .before .before .before .before .before .before .before .before .before .before .before .before .before .before .before .args .at + 2) 0 in
+    let v = (c .before .before .before .before .before .before .condition) .given .0 .0 in
+    let codes : v ∷ 6 ∷ (c .before .before .before .before .before .before .before .before .before .before .before .before .reading-code) .result ∷ 0 ∷ [] ≡ v ∷ 6 ∷ readingAt r ∷ 0 ∷ [] = ap (λ (x : ℕ). v ∷ 6 ∷ x ∷ 0 ∷ []) (c .before .before .before .before .before .before .before .before .before .before .before .before .reading-code .ensures) in
+    let same = codes ∙ query-codes (c .before .before .before .before .before .before .before .before .before .before .before .before .before .before .before .before .before .before .args .bytes .now) (c .before .before .before .before .before .before .before .before .before .before .before .before .before .before .before .before .before .before .args .at) (the-letter (c .before .before .before .before .before .before .before .before .before .before .before .before .before .before)) (the-reading (c .before .before .before .before .before .before .before .before .before)) (a-reading (c .before .before .before .before .before .before .before .before .before .before .before)) (the-condition (c .before .before .before .before .before)) in
+    put-entry (c .before .before .before .before .before .before .before .before .before .before .before .before .before .before .before .before .before .before .args .bytes .now) (c .before .before .before .before .before .before .before .before .before .before .before .before .before .before .before .before .before .before .args .at) (c .before .before .before .before .before .before .before .before .before .before .before .before .before .before .before .before .before .before .args .top) (c .before .before .before .before .before .before .before .before .before .before .before .before .before .before .before .before .before .before .args .conditions) (the-query (c .before .before .before .before .before))
+    (query-good (c .before .before .before .before .before .before .before .before .before .before .before .before .before .before .before .before .before .before .args .top) (c .before .before .before .before .before .before .before .before .before .before .before .before .before .before .before .before .before .before .args .conditions) v (readingIn (r ∷ [])) (c .before .before .before .before .if4 .left))
+    (rw same at (put-run (c .before .before .before .before .before .before .before .before .before .before .before .before .before .before .before .before .before .before .args .buffer .now) (c .before .before .before .before .before .before .before .before .before .before .before .before .before .before .before .before .before .before .args .end) (v ∷ 6 ∷ (c .before .before .before .before .before .before .before .before .before .before .before .before .reading-code) .result ∷ 0 ∷ []) (omega (arith, (c .before .before .before .before .before .before .before .before .before .before .before .before .before .before .before .before .before .before .pre) .0 .room)) (c .before .before .put-four .ensures) refl))
+    (omega arith)
 
 pub parse-query-spec : {M : Type 1} → statement M
 parse-query-spec =
     tie.close
     (tie.spec
-    letter-then-requires
-    reading-code-requires
-    no-form-requires
+    add-if1
+    shared-slice-read-if1
     returns
+    add-reading-code
+    shared-slice-read-reading-code
+    reading-code-requires
+    returns-2
+    add-if3
+    shared-slice-read-if3
+    returns-3
     add-number-before
     number-before-requires
     enum-known-condition
     enum-told
-    no-form-requires-2
-    returns-2
-    returns-3)
+    returns-4
+    returns-5
+    cast-put-four
+    put-four-requires
+    add-t10
+    same-length
+    returns-6)

@@ -1,35 +1,44 @@
 -- `parse_rule` meets its contract, by the laws of `Forms`. Assumes nothing.
 use borrow.Author.Needs.{needs}
-use Prim.Native.Nat.{ℕ, _+_}
-use mathlib.Core.Path.{_≡_, refl, sym, _∙_, ap, subst}
+use Prim.Native.Nat.{_+_}
 use native.Mathlib.Omega.{arith}
 use lib.ListN.{drop}
 use Rattle.reader.specs.Cursor.{fieldsAt}
 use Rattle.reader.specs.Pairs.{PairThen}
-use Rattle.reader.specs.Lines.{LiteralsAt, kindAt}
-use Rattle.reader.proofs.Letters.{LetterThen, letter-then, kind-letter}
-use Rattle.reader.proofs.Pairs.{pair-numbers, pair-bad}
-use Rattle.reader.proofs.Forms.{formless, no-rule, no-op, a-rule}
+use Rattle.reader.proofs.Letters.{LetterThen, letter-next, letter-here, letter-gone}
+use Rattle.reader.proofs.Tokens.{NumberThen, number-then, no-number-then, then-most, comma-class}
+use Rattle.reader.proofs.Pairs.{no-first, no-second, pair-then}
+use Rattle.reader.proofs.Forms.{gone-line, no-rule-pair, rule-entry}
 use Rattle.reader.proofs.line.parse_rule.Statement.{statement}
 use Rattle.reader.proofs.line.parse_rule.Tie as tie
 
--- what the first two numbers say
-first-pair : (c : tie.After-known-told) → let a = c .before .before .before .before .before .args in PairThen (a .bytes .now) (a .at) (c .before .condition .given .0 .0) (c .before .condition .given .0 .1 .0) (c .before .condition .given .0 .1 .1 .0)
-first-pair c =
-    let a = c .before .before .before .before .before .args in
-    pair-numbers (a .bytes .now) (a .at) (c .before .before .before .two-numbers .ensures) (c .before .condition .given .1)
+-- the letter and the first two numbers
+the-letter : (c : tie.Else1) → LetterThen (c .before .before .before .before .args .bytes .now) (c .before .before .before .before .args .at) 82
+the-letter c = letter-here (c .before .before .before .before .args .bytes .now) (c .before .before .before .before .args .at) (c .before .before .before .before .pre .0 .place) (c .before .before .before .before .pre .1) (λ z. omega arith) (λ z. omega arith) (λ z. omega arith) (c .if1 .left)
 
--- the op letter is one, and another field follows
-known-op : (c : tie.Else1) → kindAt (c .before .before .letter-then .result) ≡ 0 → ⊥
-known-op c e = c .if1 .left (c .before .op-kind .ensures ∙ e)
+the-condition : (c : tie.After-known-told) → NumberThen (c .before .before .before .before .before .before .before .before .args .bytes .now) (c .before .before .before .before .before .before .before .before .args .at + 2) (c .before .condition .given .0 .0) (c .before .condition .given .0 .1 .0)
+the-condition c = number-then (c .before .before .before .before .before .before .before .before .args .bytes .now) (c .before .before .before .before .before .before .before .before .args .at + 2) (the-letter (c .before .before .before .before) .place) (c .before .before .before .number-before .ensures .0) (c .before .condition .given .1)
 
-letter-here : (c : tie.Else1) → let a = c .before .before .before .before .before .before .before .before .args in LetterThen (a .bytes .now) (c .before .before .before .before .condition .given .0 .1 .1 .0) (c .before .before .letter-then .result)
-letter-here c =
-    let a = c .before .before .before .before .before .before .before .before .args in
-    letter-then (a .bytes .now) (c .before .before .before .before .condition .given .0 .1 .1 .0) (c .before .before .letter-then .ensures) (kind-letter (c .before .before .letter-then .result) (known-op c))
+the-weight : (c : tie.After-known-told2) → NumberThen (c .before .before .before .before .before .before .before .before .before .before .before .before .args .bytes .now) (c .before .before .before .before .before .condition .given .0 .1 .0) (c .before .weight .given .0 .0) (c .before .weight .given .0 .1 .0)
+the-weight c = number-then (c .before .before .before .before .before .before .before .before .before .before .before .before .args .bytes .now) (c .before .before .before .before .before .condition .given .0 .1 .0) (the-condition (c .before .before .before .before) .place) (c .before .before .before .number-before2 .ensures .0) (c .before .weight .given .1)
 
-two-numbers-requires : tie.Need-two-numbers-requires
-two-numbers-requires c κs = search needs
+the-pair : (c : tie.After-known-told2) → PairThen (c .before .before .before .before .before .before .before .before .before .before .before .before .args .bytes .now) (c .before .before .before .before .before .before .before .before .before .before .before .before .args .at + 2) (c .before .before .before .before .before .condition .given .0 .0) (c .before .weight .given .0 .0) (c .before .weight .given .0 .1 .0)
+the-pair c = pair-then (c .before .before .before .before .before .before .before .before .before .before .before .before .args .bytes .now) (c .before .before .before .before .before .before .before .before .before .before .before .before .args .at + 2) (the-condition (c .before .before .before .before)) (the-weight c)
+
+add-if1 : tie.Need-add-if1
+add-if1 c = search needs
+
+shared-slice-read-if1 : tie.Need-shared-slice-read-if1
+shared-slice-read-if1 c = letter-next (c .before .before .before .args .bytes .now) (c .before .before .before .args .at) (c .before .before .before .pre .0 .place) (c .before .before .before .pre .1) (λ z. omega arith) (λ z. omega arith) .inside
+
+returns : tie.Need-returns
+returns c = gone-line (fieldsAt (drop (c .before .before .before .before .args .at) (c .before .before .before .before .args .bytes .now))) (letter-gone (c .before .before .before .before .args .bytes .now) (c .before .before .before .before .args .at) (c .before .before .before .before .pre .0 .place) (c .before .before .before .before .pre .1) (λ z. omega arith) (λ z. omega arith) (c .if1 .taken))
+
+add-number-before : tie.Need-add-number-before
+add-number-before c = search needs
+
+number-before-requires : tie.Need-number-before-requires
+number-before-requires c κs = (the-letter c .place, comma-class)
 
 enum-known-condition : tie.Need-enum-known-condition
 enum-known-condition c = search needs
@@ -37,55 +46,56 @@ enum-known-condition c = search needs
 enum-told : tie.Need-enum-told
 enum-told c = search needs
 
-no-form-requires : tie.Need-no-form-requires
-no-form-requires c κs = search needs
-
-returns : tie.Need-returns
-returns c =
-    let a = c .before .before .before .before .before .args in
-    formless (a .bytes .now) (a .at) (c .no-form .ensures) (no-rule (fieldsAt (drop (a .at) (a .bytes .now))) (pair-bad (a .bytes .now) (a .at) (c .before .before .before .two-numbers .ensures) (c .before .enum-told .given .1)))
-
-letter-then-requires : tie.Need-letter-then-requires
-letter-then-requires c κs = first-pair c .inside
-
-op-kind-requires : tie.Need-op-kind-requires
-op-kind-requires c κs = search needs
-
-no-form-requires-2 : tie.Need-no-form-requires-2
-no-form-requires-2 c κs = search needs
-
 returns-2 : tie.Need-returns-2
-returns-2 c =
-    let a = c .before .before .before .before .before .before .before .before .before .args in
-    formless (a .bytes .now) (a .at) (c .no-form2 .ensures)
-    (no-op (a .bytes .now) (a .at) (first-pair (c .before .before .before .before)) (ap kindAt (sym (c .before .before .before .letter-then .ensures)) ∙ sym (c .before .before .op-kind .ensures) ∙ c .before .if1 .taken))
+returns-2 c = no-rule-pair (c .before .before .before .before .before .before .before .args .bytes .now) (c .before .before .before .before .before .before .before .args .at) (the-letter (c .before .before .before)) (no-first (c .before .before .before .before .before .before .before .args .bytes .now) (c .before .before .before .before .before .before .before .args .at + 2) (no-number-then (c .before .before .before .before .before .before .before .args .bytes .now) (c .before .before .before .before .before .before .before .args .at + 2) (c .before .before .number-before .ensures .0) (c .enum-told .given .1)))
 
-add-parse-literals : tie.Need-add-parse-literals
-add-parse-literals c = omega (arith, letter-here c .inside)
+number-before-requires-2 : tie.Need-number-before-requires-2
+number-before-requires-2 c κs = (the-condition c .place, comma-class)
 
-parse-literals-requires : tie.Need-parse-literals-requires
-parse-literals-requires c κs = letter-here c .inside
+enum-known-weight : tie.Need-enum-known-weight
+enum-known-weight c = search needs
+
+enum-told-2 : tie.Need-enum-told-2
+enum-told-2 c = search needs
 
 returns-3 : tie.Need-returns-3
-returns-3 c =
-    let a = c .before .before .before .before .before .before .before .before .before .args in
-    let e = c .before in
-    a-rule (a .bytes .now) (a .at) (first-pair (c .before .before .before .before)) (letter-here e) (known-op e)
-    (subst (λ (k : ℕ). LiteralsAt (a .bytes .now) (c .before .before .before .before .before .condition .given .0 .1 .1 .0 + 2) (c .before .before .before .before .before .condition .given .0 .0) k (c .before .before .before .before .before .condition .given .0 .1 .0) (c .parse-literals .result)) (c .before .before .op-kind .ensures) (c .parse-literals .ensures))
+returns-3 c = no-rule-pair (c .before .before .before .before .before .before .before .before .before .before .before .args .bytes .now) (c .before .before .before .before .before .before .before .before .before .before .before .args .at) (the-letter (c .before .before .before .before .before .before .before)) (no-second (c .before .before .before .before .before .before .before .before .before .before .before .args .bytes .now) (c .before .before .before .before .before .before .before .before .before .before .before .args .at + 2) (the-condition (c .before .before .before)) (no-number-then (c .before .before .before .before .before .before .before .before .before .before .before .args .bytes .now) (c .before .before .before .before .condition .given .0 .1 .0) (c .before .before .number-before2 .ensures .0) (c .enum-told2 .given .1)))
+
+rule-range-requires : tie.Need-rule-range-requires
+rule-range-requires c κs = search needs
+
+mul-rule-rest : tie.Need-mul-rule-rest
+mul-rule-rest c = omega (arith, (c .before .before .before .before .before .before .before .before .before .before .before .before .before .pre) .2)
+
+rule-rest-requires : tie.Need-rule-rest-requires
+rule-rest-requires c κs = (record { place = the-weight (c .before .before) .place; room = (c .before .before .before .before .before .before .before .before .before .before .before .before .before .before .pre) .0 .room }, then-most (the-condition (c .before .before .before .before .before .before)), then-most (the-weight (c .before .before)))
+
+same-length : tie.Need-same-length
+same-length c = search needs
+
+returns-4 : tie.Need-returns-4
+returns-4 c =
+    rule-entry (c .before .before .before .before .before .before .before .before .before .before .before .before .before .before .before .before .before .args .bytes .now) (c .before .before .before .before .before .before .before .before .before .before .before .before .before .before .before .before .before .args .at) (the-letter (c .before .before .before .before .before .before .before .before .before .before .before .before .before)) (the-pair (c .before .before .before .before .before)) (c .before .before .before .before .before .before .before .before .before .before .before .before .before .before .before .before .before .args .top) (c .before .before .before .before .before .before .before .before .before .before .before .before .before .before .before .before .before .args .conditions) (c .before .before .before .before .rule-range .result) (c .before .before .before .before .rule-range .ensures) (c .before .before .before .before .before .before .before .before .before .before .before .before .before .before .before .before .before .args .buffer .now) (c .before .before .before .before .before .before .before .before .before .before .before .before .before .before .before .before .before .args .end) _ (c .before .before .rule-rest .result)
+    (c .before .before .rule-rest .ensures)
 
 pub parse-rule-spec : {M : Type 1} → statement M
 parse-rule-spec =
     tie.close
     (tie.spec
-    two-numbers-requires
+    add-if1
+    shared-slice-read-if1
+    returns
+    add-number-before
+    number-before-requires
     enum-known-condition
     enum-told
-    no-form-requires
-    returns
-    letter-then-requires
-    op-kind-requires
-    no-form-requires-2
     returns-2
-    add-parse-literals
-    parse-literals-requires
-    returns-3)
+    number-before-requires-2
+    enum-known-weight
+    enum-told-2
+    returns-3
+    rule-range-requires
+    mul-rule-rest
+    rule-rest-requires
+    same-length
+    returns-4)

@@ -1,0 +1,70 @@
+-- `run::indexed::drive_small` meets its contract. Assumes nothing.
+use borrow.Author.Needs.{needs}
+use mathlib.Core.Path.{_≡_, refl}
+use native.Mathlib.Omega.{arith}
+use Rattle.index.proofs.Sizes.{zeros-cleared}
+use Rattle.run.proofs.indexed.drive_small.Statement.{statement}
+use Rattle.run.proofs.indexed.drive_small.Tie as tie
+
+slice-aggregate-drive-over : tie.Need-slice-aggregate-drive-over
+slice-aggregate-drive-over c = search needs
+
+slice-aggregate-drive-over-2 : tie.Need-slice-aggregate-drive-over-2
+slice-aggregate-drive-over-2 c = search needs
+
+slice-aggregate-drive-over-3 : tie.Need-slice-aggregate-drive-over-3
+slice-aggregate-drive-over-3 c = search needs
+
+slice-aggregate-drive-over-4 : tie.Need-slice-aggregate-drive-over-4
+slice-aggregate-drive-over-4 c = search needs
+
+slice-aggregate-drive-over-5 : tie.Need-slice-aggregate-drive-over-5
+slice-aggregate-drive-over-5 c = search needs
+
+slice-aggregate-drive-over-6 : tie.Need-slice-aggregate-drive-over-6
+slice-aggregate-drive-over-6 c = search needs
+
+slice-aggregate-drive-over-7 : tie.Need-slice-aggregate-drive-over-7
+slice-aggregate-drive-over-7 c = search needs
+
+drive-over-requires : tie.Need-drive-over-requires
+drive-over-requires c κs =
+    let l = c .before .before .before .before .before .before .before .before .before .before .pre .1 .1 in (
+      c .before .before .before .before .before .before .before .before .before .before .pre .0,
+      (
+        c .before .before .before .before .before .before .before .before .before .before .pre .1 .0,
+        record {
+          first-clear = zeros-cleared 65;
+          first-long = omega arith;
+          places-long = omega arith;
+          start-clear = zeros-cleared 129;
+          start-long = omega arith;
+          heads-long = omega arith;
+          low-long = omega arith;
+          high-long = omega arith;
+          words-clear = zeros-cleared 8;
+          words-eight = refl;
+        },
+      ),
+    )
+
+same-length : tie.Need-same-length
+same-length c = search needs
+
+returns : tie.Need-returns
+returns c = search needs
+
+pub drive-small-spec : {M : Type 1} → statement M
+drive-small-spec =
+    tie.close
+    (tie.spec
+    slice-aggregate-drive-over
+    slice-aggregate-drive-over-2
+    slice-aggregate-drive-over-3
+    slice-aggregate-drive-over-4
+    slice-aggregate-drive-over-5
+    slice-aggregate-drive-over-6
+    slice-aggregate-drive-over-7
+    drive-over-requires
+    same-length
+    returns)
