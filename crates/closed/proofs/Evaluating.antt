@@ -15,15 +15,17 @@ use Rattle.semantics.specs.Area.{sound, pageOf, topOf, conditionsOf}
 use Rattle.semantics.specs.Page.{Page}
 use Rattle.semantics.specs.RunArea.{intervalAt, markAt}
 use Rattle.worklist.proofs.Head.{head-of, conditions-is}
-use Rattle.worklist.proofs.Stores.{mark-apart}
-use Rattle.index.specs.Table.{endOf, EndValue}
-use Rattle.index.specs.Words.{has, WordsMatch}
+use Rattle.worklist.proofs.Stores.{mark-same, mark-other, mark-apart}
+use Rattle.index.specs.Table.{endOf, EndTable, EndValue}
+use Rattle.index.specs.Words.{WordsMatch}
+use Rattle.index.proofs.Sets.{Removed, match-same, match-removed}
+use Rattle.index.proofs.Tables.{table-agrees, grades-set}
 use Rattle.closed.specs.Ends.{reads}
 use Rattle.index.specs.Readers.{ReadersMarked}
 use Rattle.closed.specs.Settle.{endPlace, endNow, Evaluated}
 use Rattle.closed.specs.Indexed.{InStep, Evaluable}
 use Rattle.closed.proofs.Marks.{after, after-reached, after-waits}
-use Rattle.closed.proofs.Steps.{words-same, words-without, table-same, table-put, grades-put}
+use Rattle.closed.proofs.Steps.{table-put}
 use Rattle.closed.proofs.Stores.{mark-put, mark-beyond, end-is, end-fits, end-put, end-apart, end-mark, end-beyond}
 
 -- the mark of A, which is reached, is 1
@@ -108,8 +110,7 @@ pub record Placed (e : Bool) (a : List ℕ) (A : ℕ) (run words values : List �
   pub page-sound : sound a ≡ true
   pub ready : Evaluable e a run words values A
   pub value : EndValue e a values A v
-  pub size : length words′ ≡ 8
-  pub removed : (k : ℕ) → k < 512 → has words′ k ≡ (has words k && not (eqb k A))
+  pub removed : Removed A words words′
   pub place : p ≡ endPlace e A
 
 module _ {e : Bool} {a : List ℕ} {A : ℕ} {run words values : List ℕ} {v : ℕ} {words′ : List ℕ} {p : ℕ} (k : Placed e a A run words values v words′ p) where
@@ -142,14 +143,18 @@ module _ {e : Bool} {a : List ℕ} {A : ℕ} {run words values : List ℕ} {v : 
   literal-fits = (omega (arith, k .ready .in-step .grades .long, real), omega (arith, k .value .grade, head-of a (k .page-sound) .top-most))
 
   without : WordsMatch (conditionsOf a) marked words′
-  without = words-without (conditionsOf a) run A fits (k .ready .in-step .waiting) (k .size) (k .removed)
+  without =
+      match-removed (k .ready .in-step .waiting) (k .removed) (λ q. omega (arith, mark-same run A 1 fits, q)) (λ c l q. mark-other run A 1 c q)
+
+  marked-table : EndTable e (topOf a) (conditionsOf a) (intervalAt marked) values
+  marked-table = table-agrees e (topOf a) (conditionsOf a) (intervalAt run) (intervalAt marked) values (λ c l. mark-apart run A 1 c) (k .ready .in-step .table)
 
   pub same-at : v ≡ getD (set run (3 * A + 2) 1) p 0 → Evaluated e (pageOf a) A run (set run (3 * A + 2) 1) false × InStep e a (set run (3 * A + 2) 1) words′ values
   same-at q = (
     evaluated-same e (pageOf a) A run real′ fits (k .ready .reached) now (q ∙ ap (λ (i : ℕ). getD marked i 0) (k .place)),
     record {
       waiting = without;
-      table = table-same e (topOf a) (conditionsOf a) values (λ c l. mark-apart run A 1 c) (k .ready .in-step .table);
+      table = marked-table;
       grades = k .ready .in-step .grades;
     },
   )
@@ -157,8 +162,7 @@ module _ {e : Bool} {a : List ℕ} {A : ℕ} {run words values : List ℕ} {v : 
   -- the set is that of those that wait, before the readers are woken
   pub stored-waiting : WordsMatch (conditionsOf a) (set (set run (3 * A + 2) 1) p v) words′
   stored-waiting =
-      words-same (conditionsOf a) marked (set marked p v)
-      (λ c l. ap (λ (i : ℕ). markAt (set marked i v) c) (k .place) ∙ end-mark marked A v e c) without
+      match-same without (λ c l. ap (λ (i : ℕ). markAt (set marked i v) c) (k .place) ∙ end-mark marked A v e c)
 
   pub changed-at : {run′ words″ : List ℕ} → v ≢ getD (set run (3 * A + 2) 1) p 0 → ReadersMarked (pageOf a) (2 * A) (set (set run (3 * A + 2) 1) p v) run′
       → WordsMatch (conditionsOf a) run′ words″ → Evaluated e (pageOf a) A run run′ true × InStep e a run′ words″ (set values (2 * A) v)
@@ -166,10 +170,9 @@ module _ {e : Bool} {a : List ℕ} {A : ℕ} {run words values : List ℕ} {v : 
     evaluated-changed e (pageOf a) A run real′ fits (k .ready .reached) now (λ d. q (d ∙ sym (ap (λ (i : ℕ). getD marked i 0) (k .place)))) m′,
     record {
       waiting = w;
-      table = table-same e (topOf a) (conditionsOf a) (set values (2 * A) v) (λ c l. m′ .intervals c)
-          (table-put e (topOf a) (conditionsOf a) marked A v values marked-fits (literal-fits .0)
-          (table-same e (topOf a) (conditionsOf a) values (λ c l. mark-apart run A 1 c) (k .ready .in-step .table)));
-      grades = grades-put (topOf a) (conditionsOf a) A v (k .value .grade) (k .ready .in-step .grades);
+      table = table-agrees e (topOf a) (conditionsOf a) (intervalAt (set marked (endPlace e A) v)) (intervalAt run′) (set values (2 * A) v) (λ c l. m′ .intervals c)
+          (table-put e (topOf a) (conditionsOf a) marked A v values real marked-fits (k .ready .in-step .grades .long) marked-table);
+      grades = grades-set (2 * A) v (k .value .grade) (k .ready .in-step .grades);
     },
   )
     where

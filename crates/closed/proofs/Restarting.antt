@@ -1,5 +1,5 @@
 -- The high ends that start anew from 0: whoever waits, and whoever names plainly one of these; in the code's own terms. Assumes nothing.
-use mathlib.Core.Path.{_≡_, refl, sym, _∙_, ap}
+use mathlib.Core.Path.{_≡_, refl, sym, _∙_, ap, subst}
 use mathlib.Core.Logic.{_≢_}
 use mathlib.Core.Bool.{Bool, true, false, cond, _&&_, _||_, true≢false, or-true}
 use mathlib.Core.List.{List}
@@ -13,12 +13,16 @@ use Rattle.fixpoint.specs.Interval.{Interval}
 use Rattle.fixpoint.specs.Sum.{bit, count}
 use Rattle.fixpoint.proofs.Cond.{by-bool}
 use Rattle.fixpoint.proofs.Sum.{sum-drop}
+use Rattle.semantics.specs.Area.{pageOf, conditionsOf}
 use Rattle.semantics.specs.Page.{Page}
 use Rattle.semantics.specs.RunArea.{intervalAt, markAt}
 use Rattle.closed.specs.Ends.{reads}
 use Rattle.index.specs.Readers.{ReadersMarked}
+use Rattle.index.proofs.Sets.{Removed}
 use Rattle.closed.specs.Settle.{flagAt, reachedAt, waitsAt, Steady}
 use Rattle.closed.specs.Round.{Reset, Restarted}
+use Rattle.closed.specs.Indexed.{Pending}
+use Rattle.closed.proofs.Gathering.{pending-without}
 use Rattle.closed.proofs.Marks.{readers-reached, readers-wait}
 use Rattle.closed.proofs.Settling.{steady-on}
 use Rattle.closed.proofs.Stores.{end-put, end-apart, end-mark, end-beyond, flag-put, flag-apart, flag-mark, flag-beyond, beyond-flag, beyond-more}
@@ -50,6 +54,19 @@ module _ (page : Page) (A : ℕ) (run : List ℕ) (real : A < page .conditions) 
 
       mark-is : (c : ℕ) → c < n → markAt second c ≡ markAt run c
       mark-is c l = end-mark first A 0 true c ∙ flag-mark n run A 1 c l
+
+-- in the code C is a number of its own
+module _ (a : List ℕ) (m A : ℕ) (run : List ℕ) (e : m ≡ conditionsOf a) (real : A < conditionsOf a) (long : 4 * conditionsOf a ≤ length run) where
+  pub reset-pending : {words words′ : List ℕ} → waitsAt run A ≡ true → Pending (conditionsOf a) run words → Removed A words words′
+      → Pending (conditionsOf a) (set (set run (3 * m + A) 1) (3 * A + 1) 0) words′
+  reset-pending {words} {words′} w p r =
+      subst (λ (k : ℕ). Pending (conditionsOf a) (set (set run (3 * k + A) 1) (3 * A + 1) 0) words′) (sym e)
+      (pending-without (conditionsOf a) run A real long w p (r .0) (r .1))
+
+  pub reset-at : {run′ : List ℕ} → ReadersMarked (pageOf a) (2 * A) (set (set run (3 * m + A) 1) (3 * A + 1) 0) run′ → Reset (pageOf a) A run run′
+  unfolding pageOf
+  reset-at {run′} r =
+      reset-done (pageOf a) A run real long (subst (λ (k : ℕ). ReadersMarked (pageOf a) (2 * A) (set (set run (3 * k + A) 1) (3 * A + 1) 0) run′) e r)
 
 -- how many conditions are not flagged
 unfoldable pub unflagged : ℕ → List ℕ → ℕ

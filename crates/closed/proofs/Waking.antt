@@ -1,14 +1,15 @@
 -- Who waits before an end is settled: everybody, or whoever negates a flagged condition; in the code's own terms. Assumes nothing.
-use mathlib.Core.Path.{_≡_, refl, sym, _∙_, ap}
+use mathlib.Core.Path.{_≡_, refl, sym, _∙_, ap, subst}
 use mathlib.Core.Bool.{Bool, true, false, cond, _&&_, true≢false}
 use mathlib.Core.List.{List}
 use Prim.Native.Nat.{ℕ, _+_, _*_, _≤_, _<_}
 use native.Mathlib.Decide.{ℕ-discrete}
 use native.Mathlib.Omega.{arith}
 use lib.Dec.{eqb, leb}
-use lib.ListN.{length, set, drop, length-set}
+use lib.ListN.{length, getD, set, drop, length-set}
 use borrow.Author.Tests.{eq-eqb, ne-eqb}
 use Rattle.fixpoint.proofs.Evaluation.{or-false}
+use Rattle.semantics.specs.Area.{pageOf, conditionsOf}
 use Rattle.semantics.specs.Page.{Page}
 use Rattle.semantics.specs.RunArea.{intervalAt, markAt}
 use Rattle.worklist.specs.Marks.{marked}
@@ -138,6 +139,17 @@ module _ (page : Page) (A : ℕ) (run : List ℕ) where
       woke c l r q f =
           sym (ap (λ (b : Bool). b && reads page true c A) (first-reached c l ∙ r) ∙ f)
           ∙ or-false (waitsAt first c) (reachedAt first c && reads page true c A) (sym (readers-wait m c l) ∙ q) .1
+
+-- in the code C is a number of its own
+module _ (a : List ℕ) (m A : ℕ) (run : List ℕ) (e : m ≡ conditionsOf a) where
+  pub flag-unset : getD run (3 * m + A) 0 ≡ 0 → WokenFrom (pageOf a) A run run
+  unfolding pageOf
+  flag-unset z = woken-none (pageOf a) A run (sym (ap (λ (k : ℕ). getD run (3 * k + A) 0) e) ∙ z)
+
+  pub flag-cleared : A < m → 4 * conditionsOf a ≤ length run → {run′ : List ℕ} → ReadersMarked (pageOf a) (2 * A + 1) (set run (3 * m + A) 0) run′ → WokenFrom (pageOf a) A run run′
+  unfolding pageOf
+  flag-cleared l long {run′} r =
+      woken-some (pageOf a) A run (omega (arith, e)) long (subst (λ (k : ℕ). ReadersMarked (pageOf a) (2 * A + 1) (set run (3 * k + A) 0) run′) e r)
 
 -- whoever negates a flagged condition: the first c conditions are done
 module _ (page : Page) (run₀ : List ℕ) where

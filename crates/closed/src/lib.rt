@@ -126,12 +126,12 @@ fn wait_all(run: &mut [u16], n: u16)
     }
 }
 
-// Clears the flag of c; if it was set, whoever negates c waits.
-fn wake_from(a: &[u16], run: &mut [u16], start: &[u16], heads: &[u16], c: u16)
-    requires { ⌜ (sound (now a) ≡ true) × (4 * conditionsOf (now a) ≤ length (now run)) × (c < conditionsOf (now a)) × HeadsByLiteral (now a) (now start) (now heads) ⌝ }
+// Clears the flag of c, one of n conditions; if it was set, whoever negates c waits.
+fn wake_from(a: &[u16], run: &mut [u16], start: &[u16], heads: &[u16], n: u16, c: u16)
+    requires { ⌜ (sound (now a) ≡ true) × (4 * conditionsOf (now a) ≤ length (now run)) × (n ≡ conditionsOf (now a)) × (c < n) × HeadsByLiteral (now a) (now start) (now heads) ⌝ }
     ensures { λ r. ⌜ WokenFrom (pageOf (now (a .entry))) c (now (run .entry)) (now (run .exit)) ⌝ }
 {
-    let at = 3 * a[1] as usize + c as usize;
+    let at = 3 * n as usize + c as usize;
     if run[at] == 0 {
         return;
     }
@@ -147,7 +147,7 @@ fn wake(a: &[u16], run: &mut [u16], start: &[u16], heads: &[u16])
     let n = a[1];
     let mut c: u16 = 0;
     while c < n {
-        wake_from(a, run, start, heads, c);
+        wake_from(a, run, start, heads, n, c);
         c += 1;
     }
 }
@@ -189,11 +189,18 @@ fn gather_readers(
 }
 
 // The high end of c, which is of the set, is 0 again, c is flagged, and whoever names c plainly waits.
-fn reset(a: &[u16], run: &mut [u16], words: &mut [u64], start: &[u16], heads: &[u16], c: u16)
-    requires { ⌜ (sound (now a) ≡ true) × HeadsByLiteral (now a) (now start) (now heads) × (4 * conditionsOf (now a) ≤ length (now run)) × (c < conditionsOf (now a)) × (waitsAt (now run) c ≡ true) × Pending (conditionsOf (now a)) (now run) (now words) ⌝ }
+fn reset(
+    a: &[u16],
+    run: &mut [u16],
+    words: &mut [u64],
+    start: &[u16],
+    heads: &[u16],
+    n: u16,
+    c: u16,
+)
+    requires { ⌜ (sound (now a) ≡ true) × HeadsByLiteral (now a) (now start) (now heads) × (4 * conditionsOf (now a) ≤ length (now run)) × (c < conditionsOf (now a)) × (waitsAt (now run) c ≡ true) × Pending (conditionsOf (now a)) (now run) (now words) × (n ≡ conditionsOf (now a)) ⌝ }
     ensures { λ r. ⌜ Reset (pageOf (now (a .entry))) c (now (run .entry)) (now (run .exit)) × Pending (conditionsOf (now (a .entry))) (now (run .exit)) (now (words .exit)) ⌝ }
 {
-    let n = a[1];
     index::words::remove(words, c);
     run[3 * n as usize + c as usize] = 1;
     run[3 * c as usize + 1] = 0;
@@ -205,9 +212,10 @@ fn restart_over(a: &[u16], run: &mut [u16], words: &mut [u64], start: &[u16], he
     requires { ⌜ (sound (now a) ≡ true) × HeadsByLiteral (now a) (now start) (now heads) × (4 * conditionsOf (now a) ≤ length (now run)) × ((c : ℕ) → c < conditionsOf (now a) → flagAt (conditionsOf (now a)) (now run) c ≡ 0) × WordsMatch (conditionsOf (now a)) (now run) (now words) ⌝ }
     ensures { λ r. ⌜ Restarted (pageOf (now (a .entry))) (now (run .entry)) (now (run .exit)) ⌝ }
 {
+    let n = a[1];
     let mut c = index::words::any_in(words, 0);
     while c < 512 {
-        reset(a, run, words, start, heads, c);
+        reset(a, run, words, start, heads, n, c);
         c = index::words::any_in(words, c);
     }
 }

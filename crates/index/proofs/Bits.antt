@@ -2,10 +2,10 @@
 use mathlib.Core.Path.{_≡_, refl, sym, _∙_, ap, ap₂}
 use mathlib.Core.Logic.{_≢_, ⊎-elim}
 use Prim.Native.Nat.{ℕ, zero, suc, _+_, _-_, _*_, _/_, _%_, _^_, _≤_, _<_}
-use native.Mathlib.Nat.{mod-lt, pow-suc, mod-eq-of-lt, div-eq-of-lt, mul-mod-left, zero-lt-suc, div-one, zero-div}
+use native.Mathlib.Nat.{mod-lt, pow-suc, mod-eq-of-lt, div-eq-of-lt, div-lt-iff-lt-mul, mul-mod-left, zero-lt-suc, div-one, zero-div}
 use native.Mathlib.Omega.{arith}
-use lib.Bits.{bitAnd, bitOr, and-shr, or-shr, and-mod, or-mod, or-zero-r, and-zero-r, and-mask}
-use lib.Count.{trailingZeros, under}
+use lib.Bits.{bitAnd, bitOr, and-shr, or-shr, and-mod, or-mod, or-zero-r, and-zero-r, and-mask, and-le-l}
+use lib.Count.{leadingZeros, leading-top, trailingZeros, under}
 use lib.Pow.{pow-pos, pow-mono, pow-add, shl-shr, shr-shr, pow-lt}
 
 -- the digit j
@@ -137,3 +137,38 @@ trailing-in (suc k) n l h = go (n % 2) refl (trailing-in k (n / 2) (omega (arith
     go : (d : ℕ) → n % 2 ≡ d → (n / 2 ≢ 0 → trailingZeros k (n / 2) < k) → under d (trailingZeros k (n / 2)) < suc k
     go zero e rest = let m = rest (λ q. h (omega arith)) in omega arith
     go (suc d) e rest = omega arith
+
+-- the highest set digit of a word
+module _ (n : ℕ) (fits : n < 2 ^ 64) (some : n ≢ 0) where
+  abbrev highest : ℕ
+  highest = 63 - leadingZeros 64 n
+
+  top : (j : ℕ) × (leadingZeros 64 n + suc j ≡ 64) × (2 ^ j ≤ n) × (n < 2 ^ suc j)
+  top = leading-top 64 n (omega (arith, some)) fits
+
+  pub leading-in : leadingZeros 64 n ≤ 63
+  leading-in = let e = top .1 in omega (arith, e)
+
+  pub highest-lt : highest < 64
+  highest-lt = omega arith
+
+  highest-is : highest ≡ top .0
+  highest-is = let e = top .1 in omega (arith, e)
+
+  one-left : n / 2 ^ (top .0) ≡ 1
+  one-left =
+      let j = top .0 in
+      let p : 0 < 2 ^ j = pow-pos j in
+      let above : n / 2 ^ j < 2 = div-lt-iff-lt-mul p .1 (omega (arith, top .3, pow-suc 2 j)) in
+      let below : n / 2 ^ j ≢ 0 = λ e. let h : n < 1 * 2 ^ j = div-lt-iff-lt-mul p .0 (omega (arith, e)) in omega (arith, top .2, h) in
+      omega (arith, above, below)
+
+  pub highest-found : bit n highest ≡ 1
+  highest-found = ap (bit n) highest-is ∙ ap (λ (x : ℕ). x % 2) one-left
+
+-- a digit of a masked number is one of the number
+pub bit-masked : (a m j : ℕ) → bit (bitAnd a m) j ≡ 1 → bit a j ≡ 1
+bit-masked a m j h = let e : bitAnd (bit a j) (bit m j) ≡ 1 = sym (bit-and a m j) ∙ h in omega (arith, and-le-l (bit a j) (bit m j), bit-lt a j)
+
+pub masked-fits : (a m : ℕ) → a < 2 ^ 64 → bitAnd a m < 2 ^ 64
+masked-fits a m h = omega (arith, and-le-l a m)

@@ -8,7 +8,7 @@ use native.Mathlib.Decide.{ℕ-discrete}
 use native.Mathlib.Omega.{arith}
 use native.Mathlib.Nat.{lt-of-not-le}
 use lib.Bits.{bitAnd, bitOr}
-use lib.Count.{trailingZeros}
+use lib.Count.{leadingZeros, trailingZeros}
 use lib.Dec.{eqb, ltb}
 use lib.ListN.{length, getD, set, length-set}
 use lib.Pow.{shr-le}
@@ -19,7 +19,7 @@ use Rattle.semantics.proofs.Soundness.{both-true}
 use Rattle.worklist.specs.Cells.{Lowest}
 use Rattle.index.specs.Groups.{Cleared}
 use Rattle.index.specs.Words.{has, WordsMatch, LowestIn, AnyIn}
-use Rattle.index.proofs.Bits.{bit, bit-lt, bit-zero, bit-past, bit-down, set-same, set-other, clear-same, clear-other, trailing-found, trailing-below, trailing-in}
+use Rattle.index.proofs.Bits.{bit, bit-lt, bit-zero, bit-past, bit-down, set-same, set-other, clear-same, clear-other, trailing-found, trailing-below, trailing-in, highest-lt, highest-found, bit-masked, masked-fits}
 
 -- what `insert` and `remove` leave
 abbrev pub Inserted : ℕ → List ℕ → List ℕ → Type 0
@@ -106,19 +106,28 @@ module _ (words : List ℕ) where
         let r : (64 * w + j) % 64 ≡ j = omega arith in
         rw (q, r)
 
-    -- the first from the place s on
-    module _ (s : ℕ) (some : word / 2 ^ s ≢ 0) where
-      abbrev zeros : ℕ
-      zeros = trailingZeros 64 (word / 2 ^ s)
+    -- the highest of what a mask leaves
+    module _ (mask : ℕ) (some : bitAnd word mask ≢ 0) where
+      abbrev left : ℕ
+      left = bitAnd word mask
 
-      here : bit word (s + zeros) ≡ 1
-      here = sym (bit-down word s zeros) ∙ trailing-found 64 (word / 2 ^ s) (trailing-in 64 (word / 2 ^ s) (omega (arith, shr-le word s)) some)
+      left-fits : left < 2 ^ 64
+      left-fits = masked-fits word mask fits
 
-      pub next-in : s + zeros < 64
-      next-in = lt-of-not-le (λ (g : 64 ≤ s + zeros). let z = bit-past word 64 (s + zeros) fits g in omega (arith, here))
+      pub any-masked : w < 8 → AnyIn words (64 * w + (63 - leadingZeros 64 left))
+      any-masked l =
+          let h = highest-lt left left-fits some in
+          record {
+            within = omega (arith, h);
+            none = λ q. absurd (omega (arith, h));
+            found = λ m. has-in _ h ∙ eq-eqb _ 1 (bit-masked word mask _ (highest-found left left-fits some));
+          }
 
-      pub next-has : has words (64 * w + (s + zeros)) ≡ true
-      next-has = has-in (s + zeros) next-in ∙ eq-eqb _ 1 here
+    -- the highest
+    pub any-highest : word ≢ 0 → w < 8 → AnyIn words (64 * w + (63 - leadingZeros 64 word))
+    any-highest some l =
+        let h = highest-lt word fits some in
+        record { within = omega (arith, h); none = λ q. absurd (omega (arith, h)); found = λ m. has-in _ h ∙ eq-eqb _ 1 (highest-found word fits some) }
 
     -- the lowest
     module _ (some : word ≢ 0) where
@@ -130,9 +139,6 @@ module _ (words : List ℕ) where
 
       pub lowest-has : has words (64 * w + lowest) ≡ true
       lowest-has = has-in lowest lowest-lt ∙ eq-eqb _ 1 (trailing-found 64 word lowest-lt)
-
-      pub any-lowest : w < 8 → AnyIn words (64 * w + lowest)
-      any-lowest l = record { within = omega (arith, lowest-lt); none = λ q. absurd (omega (arith, lowest-lt)); found = λ m. lowest-has }
 
       -- all words before it are 0
       pub lowest-is : w < 8 → ((v : ℕ) → v < w → getD words v 0 ≡ 0) → LowestIn words (64 * w + lowest)
@@ -161,20 +167,6 @@ module _ (words : List ℕ) where
   any-passed from l none v m =
       let e : (from / 64 + (8 + v - from / 64) % 8) % 8 ≡ v = omega arith in
       ap (λ (i : ℕ). getD words i 0) (sym e) ∙ none ((8 + v - from / 64) % 8) (omega arith)
-
-  -- the next from `from` on in its word
-  pub any-next : (from : ℕ) → from < 512 → getD words (from / 64) 0 < 2 ^ 64 → getD words (from / 64) 0 / 2 ^ (from % 64) ≢ 0
-      → AnyIn words (from + trailingZeros 64 (getD words (from / 64) 0 / 2 ^ (from % 64)))
-  any-next from l fits some =
-      let w = from / 64 in
-      let t = trailingZeros 64 (getD words w 0 / 2 ^ (from % 64)) in
-      let in-word : from % 64 + t < 64 = next-in w fits (from % 64) some in
-      let e : 64 * (from / 64) + (from % 64 + t) ≡ from + t = omega arith in
-      record {
-        within = omega arith;
-        none = λ q. absurd (omega arith);
-        found = λ m. ap (has words) (sym e) ∙ next-has w fits (from % 64) some;
-      }
 
 -- what a set says of the marks that it matches
 module _ {n : ℕ} {run words : List ℕ} (w : WordsMatch n run words) where

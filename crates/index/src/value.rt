@@ -58,7 +58,7 @@ pub fn store_plain(values: &mut [u8], c: u16, plain: u16)
 }
 
 // The smaller of two grades.
-fn smaller(p: u16, q: u16) -> u16
+pub fn smaller(p: u16, q: u16) -> u16
     ensures { λ r. ⌜ r ≡ min p q ⌝ }
 {
     if q < p {
@@ -68,7 +68,7 @@ fn smaller(p: u16, q: u16) -> u16
 }
 
 // The larger of two grades.
-fn larger(p: u16, q: u16) -> u16
+pub fn larger(p: u16, q: u16) -> u16
     ensures { λ r. ⌜ r ≡ max p q ⌝ }
 {
     if p < q {

@@ -62,15 +62,15 @@ pub fn lowest_in(words: &[u64]) -> u16
     c
 }
 
-// One of the set, or 512: the next from `from` on in its word, else the lowest of that word, else the lowest of the next word that has one.
+// One of the set, or 512: the next from `from` down in its word, else the highest of that word, else of the next word that has one.
 pub fn any_in(words: &[u64], from: u16) -> u16
     requires { ⌜ (length (now words) ≡ 8) × (from < 512) ⌝ }
     ensures { λ r. ⌜ AnyIn (now (words .entry)) r ⌝ }
 {
     let mut w = from as usize / 64;
-    let y = words[w] >> (from % 64);
+    let y = words[w] & (0xffff_ffff_ffff_ffff >> (63 - from % 64));
     if y != 0 {
-        return from + u64::trailing_zeros(y) as u16;
+        return (64 * w) as u16 + (63 - u64::leading_zeros(y) as u16);
     }
     let mut passed: usize = 0;
     let c = loop {
@@ -79,7 +79,7 @@ pub fn any_in(words: &[u64], from: u16) -> u16
         }
         let x = words[w];
         if x != 0 {
-            break (64 * w) as u16 + u64::trailing_zeros(x) as u16;
+            break (64 * w) as u16 + (63 - u64::leading_zeros(x) as u16);
         }
         w = (w + 1) % 8;
         passed += 1;

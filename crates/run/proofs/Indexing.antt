@@ -1,29 +1,26 @@
 -- What is held beside the areas in a drive over an index, evaluation by evaluation, in the code's own terms. Assumes nothing.
-use mathlib.Core.Path.{_≡_, refl, sym, _∙_, ap, ap₂}
+use mathlib.Core.Path.{_≡_, refl, sym, _∙_, ap}
 use mathlib.Core.Logic.{_≢_}
-use mathlib.Core.Bool.{Bool, true, false, not, _&&_, false≢true, and-true, and-false}
+use mathlib.Core.Bool.{true, false, not}
 use mathlib.Core.List.{List}
 use Prim.Native.Nat.{ℕ, _+_, _*_, _-_, _≤_, _<_}
 use native.Mathlib.Decide.{ℕ-discrete}
 use native.Mathlib.Omega.{arith}
-use lib.Dec.{eqb, ltb}
-use lib.ListN.{length, getD, set}
+use lib.ListN.{length, set}
 use lib.Seq.{set-getD}
-use borrow.Author.Tests.{lt-ltb, ltb-true, eq-eqb, ne-eqb, eqb-true, not-false}
+use borrow.Author.Tests.{not-false}
 use Rattle.fixpoint.specs.ChaoticIteration.{same}
 use Rattle.fixpoint.specs.Interval.{Interval}
 use Rattle.fixpoint.proofs.Evaluation.{same-true}
 use Rattle.fixpoint.proofs.KnowledgeOrder.{pair-eq}
 use Rattle.semantics.specs.Area.{sound, pageOf, topOf, conditionsOf}
 use Rattle.semantics.specs.RunArea.{intervalAt, markAt, runSound}
-use Rattle.semantics.proofs.Soundness.{both-true}
 use Rattle.page.specs.Graded.{BodyValue}
-use Rattle.worklist.specs.Cells.{Lowest, DependantsMarked}
-use Rattle.worklist.specs.Evaluation.{stored, Evaluated}
+use Rattle.worklist.specs.Evaluation.{stored}
 use Rattle.worklist.proofs.Evaluation.{long-of, stored-apart, stored-interval, stored-mark, stored-mark-apart, evaluated-changed, evaluated-same}
-use Rattle.worklist.proofs.Head.{head-of, conditions-is}
-use Rattle.index.specs.Table.{endOf, Grades, EndTable, EndValue}
-use Rattle.index.specs.Words.{has, WordsMatch, LowestIn}
+use Rattle.worklist.proofs.Head.{conditions-is}
+use Rattle.index.specs.Table.{endOf, EndValue}
+use Rattle.index.specs.Words.{WordsMatch}
 use Rattle.index.proofs.Sets.{Removed, match-removed}
 use Rattle.index.proofs.Tables.{table-stored, grades-stored, table-agrees}
 use Rattle.run.specs.Indexed.{Beside, Changed, EvaluatedBeside}

@@ -1,7 +1,7 @@
 // Drive over an index of the page: an evaluation reads the lines of its condition and the rules that name it, and no others.
 ghost use mathlib.Core.Path.{_≡_};
 ghost use mathlib.Core.Bool.{true};
-ghost use Prim.Native.Nat.{ℕ, _≤_, _<_, _+_, _*_};
+ghost use Prim.Native.Nat.{_≤_, _<_, _+_, _*_};
 ghost use lib.ListN.{length};
 ghost use Rattle.semantics.specs.Area.{sound, pageOf, topOf, conditionsOf, countOf, usedOf};
 ghost use Rattle.semantics.specs.Operation.{driveOf};
@@ -12,6 +12,7 @@ ghost use Rattle.index.specs.Words.{WordsMatch};
 ghost use Rattle.run.specs.Answers.{Answered, driveAnswerOf};
 ghost use Rattle.run.specs.Indexed.{Room, Index, Beside, Changed, EvaluatedBeside};
 use crate::DriveAnswer;
+use crate::ends::body_ends;
 
 // The condition c, which is no longer in the set, holds [new_low; new_high] and waits no longer, and its dependants wait.
 fn change(
@@ -61,8 +62,9 @@ fn step(
     requires { ⌜ Beside (now a) (now run) (now low) (now high) (now words) ⌝ }
     ensures { λ r. ⌜ EvaluatedBeside (now (a .entry)) c (now (run .entry)) (now (run .exit)) (now (low .exit)) (now (high .exit)) (now (words .exit)) r ⌝ }
 {
-    let new_low = index::value::end_value(a, first, places, low, c, false);
-    let new_high = index::value::end_value(a, first, places, high, c, true);
+    let ends = body_ends(a, first, places, low, high, c);
+    let new_low = ends.low;
+    let new_high = ends.high;
     index::words::remove(words, c);
     let at = 3 * c as usize;
     if worklist::differs(run[at], run[at + 1], new_low, new_high) {

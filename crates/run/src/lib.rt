@@ -1,3 +1,4 @@
+mod ends;
 mod indexed;
 
 ghost use mathlib.Core.Path.{_≡_};

@@ -19,8 +19,7 @@ placed p =
       page-sound = start p .pre .0 .page-sound;
       ready = start p .pre .1;
       value = p .before .before .before .before .before .end-value .ensures;
-      size = p .before .before .before .remove .ensures .0;
-      removed = p .before .before .before .remove .ensures .1;
+      removed = p .before .before .before .remove .ensures;
       place = p .place .ensures;
     }
 

@@ -2,22 +2,14 @@
 use mathlib.Core.Path.{_∙_}
 use native.Mathlib.Omega.{arith}
 use lib.ListN.{length-set}
-use Rattle.semantics.specs.Area.{pageOf}
 use Rattle.worklist.proofs.Head.{head-of}
-use Rattle.closed.proofs.Gathering.{pending-without}
-use Rattle.closed.proofs.Restarting.{reset-done}
+use Rattle.closed.proofs.Restarting.{reset-pending, reset-at}
 use borrow.Author.Needs.{needs}
 use Rattle.closed.proofs.reset.Statement.{statement}
 use Rattle.closed.proofs.reset.Tie as tie
 
-shared-slice-read-n : tie.Need-shared-slice-read-n
-shared-slice-read-n c = omega (arith, head-of (c .before .before .before .before .before .before .args .a .now) (c .before .before .before .before .before .before .pre .0))
-
 remove-requires : tie.Need-remove-requires
-remove-requires c κs = (c .before .before .before .before .before .before .before .pre .5 .size, omega (arith, c .before .before .before .before .before .before .before .pre .3, head-of (c .before .before .before .before .before .before .before .args .a .now) (c .before .before .before .before .before .before .before .pre .0) .few))
-
-cast-run : tie.Need-cast-run
-cast-run c = search needs
+remove-requires c κs = let z = c .before .before .before .before .before .before in (z .pre .5 .size, omega (arith, z .pre .3, head-of (z .args .a .now) (z .pre .0) .few))
 
 mul-run : tie.Need-mul-run
 mul-run c = search needs
@@ -41,15 +33,15 @@ mul-run-4 : tie.Need-mul-run-4
 mul-run-4 c = search needs
 
 slice-write-run-2 : tie.Need-slice-write-run-2
-slice-write-run-2 c = simp length-set (omega (arith, c .before .before .before .before .before .before .before .before .before .before .pre .2, c .before .before .before .before .before .before .before .before .before .before .pre .3))
+slice-write-run-2 c = simp length-set (omega (arith, c .before .before .before .before .before .before .before .before .before .pre .2, c .before .before .before .before .before .before .before .before .before .pre .3))
 
 gather-readers-requires : tie.Need-gather-readers-requires
-gather-readers-requires c κs = let z = c .before .before .before .before .before .before .before .before .before .before .before .before in (
+gather-readers-requires c κs = let z = c .before .before .before .before .before .before .before .before .before .before .before in (
   z .pre .0,
   z .pre .1,
   simp length-set (omega (arith, z .pre .2)),
   z .pre .3,
-  pending-without _ _ _ (z .pre .3) (z .pre .2) (z .pre .4) (z .pre .5) (c .before .before .before .before .remove .ensures .0) (c .before .before .before .before .remove .ensures .1),
+  reset-pending (z .args .a .now) (z .args .n) (z .args .c) (z .args .run .now) (z .pre .6) (z .pre .3) (z .pre .2) (z .pre .4) (z .pre .5) (c .before .before .before .before .remove .ensures),
 )
 
 same-length : tie.Need-same-length
@@ -59,16 +51,14 @@ same-length-2 : tie.Need-same-length-2
 same-length-2 c = search needs
 
 returns : tie.Need-returns
-returns c = let z = c .before .before .before .before .before .before .before .before .before .before .before .before .before .before .before .before .before in
-    unfold pageOf in (reset-done (pageOf (z .args .a .now)) (z .args .c) (z .args .run .now) (z .pre .3) (z .pre .2) (c .before .before .before .before .gather-readers .ensures .0), c .before .before .before .before .gather-readers .ensures .1)
+returns c = let z = c .before .before .before .before .before .before .before .before .before .before .before .before .before .before .before .before in
+    (reset-at (z .args .a .now) (z .args .n) (z .args .c) (z .args .run .now) (z .pre .6) (z .pre .3) (z .pre .2) (c .before .before .before .before .gather-readers .ensures .0), c .before .before .before .before .gather-readers .ensures .1)
 
 pub reset-spec : {M : Type 1} → statement M
 reset-spec =
     tie.close
     (tie.spec
-    shared-slice-read-n
     remove-requires
-    cast-run
     mul-run
     add-run
     mul-run-2

@@ -5,7 +5,7 @@ use mathlib.Core.Logic.{⊎-elim}
 use Prim.Native.Nat.{_≤_, _<_}
 use native.Mathlib.Omega.{arith}
 use lib.ListN.{length}
-use borrow.Author.Tests.{eq-eqb}
+use borrow.Author.Tests.{eq-eqb, ne-eqb}
 use Rattle.semantics.specs.Area.{pageOf, conditionsOf}
 use Rattle.semantics.specs.RunArea.{markAt}
 use Rattle.worklist.proofs.Head.{head-of, conditions-is}
@@ -13,7 +13,7 @@ use Rattle.index.specs.Words.{AnyIn}
 use Rattle.closed.specs.Settle.{SettleReady}
 use Rattle.closed.specs.Indexed.{InStep}
 use Rattle.closed.proofs.Settling.{Settling, left, waits-reached, settling-first, turn-changed, turn-same, settling-last}
-use Rattle.closed.proofs.Steps.{any-waits, none-waits}
+use Rattle.index.proofs.Sets.{any-waits, not-any-waits}
 use Rattle.closed.proofs.settle_over.Statement.{statement}
 use Rattle.closed.proofs.settle_over.Tie as tie
 
@@ -38,7 +38,7 @@ loop-holds c =
 
 -- the one that any_in found is a condition that waits
 here : (i : tie.In-loop Inv-loop μ-loop) → (i .before .loop .c < conditionsOf (i .before .before .before .before .before .before .before .before .before .before .before .before .before .args .a .now)) × (markAt (i .before .loop .run) (i .before .loop .c) ≡ 2)
-here i = any-waits _ _ (i .before .loop .inv .2 .waiting) (i .before .loop .inv .3) (i .loop-test .taken)
+here i = any-waits (i .before .loop .inv .2 .waiting) (i .before .loop .inv .3) (i .loop-test .taken)
 
 evaluate-end-requires : tie.Need-evaluate-end-requires Inv-loop μ-loop
 evaluate-end-requires c κs =
@@ -117,7 +117,7 @@ returns : tie.Need-returns Inv-loop μ-loop
 returns c =
     let l = c .before .loop in
     settling-last _ _ _ (l .inv .0) (l .inv .1)
-    (λ b m. none-waits _ _ (few (c .before .before .before .before .before .before .before .before .before .before .before .before .before)) (l .inv .2 .waiting) (l .inv .3) (c .loop-test .left) b (rw (conditions-is (c .before .before .before .before .before .before .before .before .before .before .before .before .before .args .a .now)) at m))
+    (λ b m. ne-eqb _ 2 (not-any-waits (l .inv .2 .waiting) (l .inv .3) (c .loop-test .left) (few (c .before .before .before .before .before .before .before .before .before .before .before .before .before)) b (rw (conditions-is (c .before .before .before .before .before .before .before .before .before .before .before .before .before .args .a .now)) at m)))
 
 pub settle-over-spec : {M : Type 1} → statement M
 settle-over-spec =

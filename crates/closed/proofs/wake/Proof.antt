@@ -1,4 +1,5 @@
 -- `closed::wake` meets its contract. The loop's invariant: whoever negates a flagged condition that was passed waits. Assumes nothing.
+use mathlib.Core.Path.{refl}
 use Prim.Native.Nat.{_-_}
 use native.Mathlib.Omega.{arith}
 use Rattle.semantics.specs.Area.{pageOf}
@@ -20,7 +21,7 @@ loop-holds : tie.Need-loop-holds Inv-loop μ-loop
 loop-holds c = waking-first _ _
 
 wake-from-requires : tie.Need-wake-from-requires Inv-loop μ-loop
-wake-from-requires c κs = (c .before .before .before .before .before .before .before .before .pre .0, omega (arith, c .before .before .before .before .before .before .before .before .pre .1, c .before .before .loop .inv .same-length), c .before .loop-test .taken, c .before .before .before .before .before .before .before .before .pre .2)
+wake-from-requires c κs = (c .before .before .before .before .before .before .before .before .pre .0, omega (arith, c .before .before .before .before .before .before .before .before .pre .1, c .before .before .loop .inv .same-length), refl, c .before .loop-test .taken, c .before .before .before .before .before .before .before .before .pre .2)
 
 add-c : tie.Need-add-c Inv-loop μ-loop
 add-c c = omega (arith, head-of (c .before .before .before .before .before .before .before .before .before .before .before .args .a .now) (c .before .before .before .before .before .before .before .before .before .before .before .pre .0))

@@ -52,7 +52,9 @@ shared-slice-read-n : tie.Need-shared-slice-read-n
 shared-slice-read-n c = omega (arith, head-of (c .before .before .before .before .before .before .before .before .before .args .page .now) (page-ok (c .before .before .before .before .before)))
 
 lowest-waiting-requires : tie.Need-lowest-waiting-requires
-lowest-waiting-requires c κs = long-of (c .before .before .before .before .before .before .before .before .before .before .args .page .now) (c .before .before .before .before .before .before .before .before .before .before .args .run .now) (run-ok (c .before .before .before))
+lowest-waiting-requires c κs =
+    let entry = c .before .before .before .before .before .before .before .before .before .before in
+    long-of (entry .args .page .now) (entry .args .run .now) (run-ok (c .before .before .before))
 
 same-length-3 : tie.Need-same-length-3
 same-length-3 c = search needs

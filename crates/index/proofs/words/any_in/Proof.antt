@@ -1,11 +1,13 @@
 -- `index::words::any_in` meets its contract. The loop's invariant: the words passed, in turn from that of `from` on, are 0. Assumes nothing.
-use lib.Count.{trailing-le}
+use lib.Bits.{bitAnd}
+use lib.Count.{leading-le}
 use Prim.Native.Nat.{ℕ, _+_, _-_, _/_, _%_, _^_, _≤_, _<_}
 use mathlib.Core.Path.{_≡_}
 use native.Mathlib.Omega.{arith}
 use borrow.Author.Count.{below-none, below-more}
 use lib.ListN.{getD}
-use Rattle.index.proofs.Sets.{any-next, any-passed, any-lowest, any-none}
+use Rattle.index.proofs.Bits.{leading-in, masked-fits}
+use Rattle.index.proofs.Sets.{any-masked, any-passed, any-highest, any-none}
 use Rattle.index.proofs.words.any_in.Statement.{statement}
 use Rattle.index.proofs.words.any_in.Tie as tie
 
@@ -21,20 +23,32 @@ mul-y c = omega arith
 shared-slice-read-y : tie.Need-shared-slice-read-y Inv-loop μ-loop
 shared-slice-read-y c = omega arith
 
+sub-y : tie.Need-sub-y Inv-loop μ-loop
+sub-y c = omega arith
+
 cast-y : tie.Need-cast-y Inv-loop μ-loop
 cast-y c = omega arith
 
 shr-y : tie.Need-shr-y Inv-loop μ-loop
 shr-y c = omega arith
 
+mul-result : tie.Need-mul-result Inv-loop μ-loop
+mul-result c = omega arith
+
 cast-result : tie.Need-cast-result Inv-loop μ-loop
-cast-result c = let z = c .before .before .args in omega (arith, trailing-le 64 (getD (z .words .now) (z .from / 64) 0 / 2 ^ (z .from % 64)))
+cast-result c = omega arith
+
+cast-result-2 : tie.Need-cast-result-2 Inv-loop μ-loop
+cast-result-2 c = let z = c .before .before .args in omega (arith, leading-le 64 (bitAnd (getD (z .words .now) (z .from / 64) 0) (18446744073709551615 / 2 ^ (63 - z .from % 64))))
+
+sub-result : tie.Need-sub-result Inv-loop μ-loop
+sub-result c = let s = c .before .before in leading-in _ (masked-fits _ _ (c .before .shared-slice-known .given (s .args .from / 64) .fits)) (c .if1 .taken)
 
 add-result : tie.Need-add-result Inv-loop μ-loop
-add-result c = let z = c .before .before .args in omega (arith, trailing-le 64 (getD (z .words .now) (z .from / 64) 0 / 2 ^ (z .from % 64)))
+add-result c = omega arith
 
 returns : tie.Need-returns Inv-loop μ-loop
-returns c = let s = c .before .before in any-next (s .args .words .now) (s .args .from) (s .pre .1) (c .before .shared-slice-known .given (s .args .from / 64) .fits) (c .if1 .taken)
+returns c = let s = c .before .before in any-masked (s .args .words .now) (s .args .from / 64) (c .before .shared-slice-known .given (s .args .from / 64) .fits) _ (c .if1 .taken) (omega arith)
 
 loop-holds : tie.Need-loop-holds Inv-loop μ-loop
 loop-holds c = (omega arith, omega arith, below-none _)
@@ -52,10 +66,13 @@ cast-c : tie.Need-cast-c Inv-loop μ-loop
 cast-c c = omega arith
 
 cast-c-2 : tie.Need-cast-c-2 Inv-loop μ-loop
-cast-c-2 c = let x = getD (c .before .before .before .before .before .before .args .words .now) (c .before .before .before .loop .w) 0 in omega (arith, trailing-le 64 x)
+cast-c-2 c = let x = getD (c .before .before .before .before .before .before .args .words .now) (c .before .before .before .loop .w) 0 in omega (arith, leading-le 64 x)
+
+sub-c : tie.Need-sub-c Inv-loop μ-loop
+sub-c c = let l = c .before .before .before .loop in leading-in _ (c .before .shared-slice-known2 .given (l .w) .fits) (c .if3 .taken)
 
 add-c : tie.Need-add-c Inv-loop μ-loop
-add-c c = let x = getD (c .before .before .before .before .before .before .args .words .now) (c .before .before .before .loop .w) 0 in omega (arith, trailing-le 64 x)
+add-c c = omega arith
 
 add-w : tie.Need-add-w Inv-loop μ-loop
 add-w c = omega arith
@@ -73,7 +90,7 @@ returns-2 : tie.Need-returns-2 Inv-loop μ-loop
 returns-2 c = let s = c .before .before .before .before in let i = c .before .loop .inv in any-none _ (λ v l. any-passed (s .args .words .now) (s .args .from) (s .pre .1) (λ p m. i .2 p (omega arith)) v l)
 
 returns-3 : tie.Need-returns-3 Inv-loop μ-loop
-returns-3 c = let l = c .before .before .before .loop in any-lowest _ (l .w) (c .before .shared-slice-known2 .given (l .w) .fits) (c .if3 .taken) (omega arith)
+returns-3 c = let l = c .before .before .before .loop in any-highest _ (l .w) (c .before .shared-slice-known2 .given (l .w) .fits) (c .if3 .taken) (omega arith)
 
 pub any-in-spec : {M : Type 1} → statement M
 any-in-spec =
@@ -83,9 +100,13 @@ any-in-spec =
     μ-loop
     mul-y
     shared-slice-read-y
+    sub-y
     cast-y
     shr-y
+    mul-result
     cast-result
+    cast-result-2
+    sub-result
     add-result
     returns
     loop-holds
@@ -94,6 +115,7 @@ any-in-spec =
     mul-c
     cast-c
     cast-c-2
+    sub-c
     add-c
     add-w
     add-passed

@@ -1,14 +1,14 @@
 -- `run::indexed::change` meets its contract. Assumes nothing.
 use borrow.Author.Needs.{needs}
-use mathlib.Core.Path.{_≡_, refl}
 use native.Mathlib.Omega.{arith}
-use Rattle.worklist.proofs.Evaluation.{stored-length}
 use Rattle.worklist.proofs.Head.{head-of}
 use Rattle.run.proofs.indexed.change.Statement.{statement}
 use Rattle.run.proofs.indexed.change.Tie as tie
 
 shared-slice-read-top : tie.Need-shared-slice-read-top
-shared-slice-read-top c = omega (arith, head-of (c .before .before .before .before .before .before .before .before .args .a .now) (c .before .before .before .before .before .before .before .before .pre .0))
+shared-slice-read-top c =
+    let entry = c .before .before .before .before .before .before .before .before in
+    omega (arith, head-of (entry .args .a .now) (entry .pre .0))
 
 store-cell-requires : tie.Need-store-cell-requires
 store-cell-requires c κs = search needs
@@ -18,21 +18,24 @@ sub-store-literals c = search needs
 
 store-literals-requires : tie.Need-store-literals-requires
 store-literals-requires c κs =
-    let h = head-of (c .before .before .before .before .before .before .before .before .before .before .before .before .before .args .a .now) (c .before .before .before .before .before .before .before .before .before .before .before .before .before .pre .0) in
-    (omega (arith, c .before .before .before .before .before .before .before .before .before .before .before .before .before .pre), omega (arith, c .before .before .before .before .before .before .before .before .before .before .before .before .before .pre), omega (arith, c .before .before .before .before .before .before .before .before .before .before .before .before .before .pre))
+    let entry = c .before .before .before .before .before .before .before .before .before .before .before .before .before in
+    let h = head-of (entry .args .a .now) (entry .pre .0) in
+    (omega (arith, entry .pre), omega (arith, entry .pre), omega (arith, entry .pre))
 
 sub-store-literals-2 : tie.Need-sub-store-literals-2
 sub-store-literals-2 c = search needs
 
 store-literals-requires-2 : tie.Need-store-literals-requires-2
 store-literals-requires-2 c κs =
-    let h = head-of (c .before .before .before .before .before .before .before .before .before .before .before .before .before .before .before .before .before .args .a .now) (c .before .before .before .before .before .before .before .before .before .before .before .before .before .before .before .before .before .pre .0) in
-    (omega (arith, c .before .before .before .before .before .before .before .before .before .before .before .before .before .before .before .before .before .pre), omega (arith, c .before .before .before .before .before .before .before .before .before .before .before .before .before .before .before .before .before .pre), omega (arith, c .before .before .before .before .before .before .before .before .before .before .before .before .before .before .before .before .before .pre))
+    let entry = c .before .before .before .before .before .before .before .before .before .before .before .before .before .before .before .before .before in
+    let h = head-of (entry .args .a .now) (entry .pre .0) in
+    (omega (arith, entry .pre), omega (arith, entry .pre), omega (arith, entry .pre))
 
 wake-dependants-requires : tie.Need-wake-dependants-requires
 wake-dependants-requires c κs =
-    let p = c .before .before .before .before .before .before .before .before .before .before .before .before .before .before .before .before .before .before .before .before .before .before .pre in
-    (p .0, p .1 .0, omega (arith, c .before .before .before .before .before .before .before .before .before .before .before .before .before .before .before .before .before .before .before .before .before .before .pre, c .before .before .before .before .before .before .before .before .before .before .before .before .store-cell .kept), p .1 .1 .0 .0, rw (c .before .before .before .before .before .before .before .before .before .before .before .before .store-cell .ensures) (p .1 .1 .1 .1))
+    let entry = c .before .before .before .before .before .before .before .before .before .before .before .before .before .before .before .before .before .before .before .before .before .before in
+    let p = entry .pre in
+    (p .0, p .1 .0, omega (arith, entry .pre, c .before .before .before .before .before .before .before .before .before .before .before .before .store-cell .kept), p .1 .1 .0 .0, rw (c .before .before .before .before .before .before .before .before .before .before .before .before .store-cell .ensures) (p .1 .1 .1 .1))
 
 same-length : tie.Need-same-length
 same-length c = search needs

@@ -7,7 +7,9 @@ is-small-requires : tie.Need-is-small-requires
 is-small-requires c κs = search needs
 
 drive-small-requires : tie.Need-drive-small-requires
-drive-small-requires c κs = (c .before .before .before .before .before .pre .0, (c .before .before .before .before .before .pre .1, c .before .before .is-small .ensures (c .before .if1 .taken)))
+drive-small-requires c κs =
+    let entry = c .before .before .before .before .before in
+    (entry .pre .0, (entry .pre .1, c .before .before .is-small .ensures (c .before .if1 .taken)))
 
 same-length : tie.Need-same-length
 same-length c = search needs

@@ -1,6 +1,6 @@
 -- `run::indexed::drive_large` meets its contract. Assumes nothing.
 use borrow.Author.Needs.{needs}
-use mathlib.Core.Path.{_≡_, refl}
+use mathlib.Core.Path.{refl}
 use native.Mathlib.Omega.{arith}
 use Rattle.worklist.proofs.Head.{head-of}
 use Rattle.index.proofs.Sizes.{zeros-cleared, literals-room}
@@ -30,12 +30,13 @@ slice-aggregate-drive-over-7 c = search needs
 
 drive-over-requires : tie.Need-drive-over-requires
 drive-over-requires c κs =
-    let a = c .before .before .before .before .before .before .before .before .before .before .args .a .now in
-    let h = head-of a (c .before .before .before .before .before .before .before .before .before .before .pre .0) in
-    let u = literals-room a (c .before .before .before .before .before .before .before .before .before .before .pre .0) in (
-      c .before .before .before .before .before .before .before .before .before .before .pre .0,
+    let entry = c .before .before .before .before .before .before .before .before .before .before in
+    let a = entry .args .a .now in
+    let h = head-of a (entry .pre .0) in
+    let u = literals-room a (entry .pre .0) in (
+      entry .pre .0,
       (
-        c .before .before .before .before .before .before .before .before .before .before .pre .1,
+        entry .pre .1,
         record {
           first-clear = zeros-cleared 513;
           first-long = omega arith;

@@ -1,6 +1,6 @@
 -- `run::indexed::drive_small` meets its contract. Assumes nothing.
 use borrow.Author.Needs.{needs}
-use mathlib.Core.Path.{_≡_, refl}
+use mathlib.Core.Path.{refl}
 use native.Mathlib.Omega.{arith}
 use Rattle.index.proofs.Sizes.{zeros-cleared}
 use Rattle.run.proofs.indexed.drive_small.Statement.{statement}
@@ -29,10 +29,11 @@ slice-aggregate-drive-over-7 c = search needs
 
 drive-over-requires : tie.Need-drive-over-requires
 drive-over-requires c κs =
-    let l = c .before .before .before .before .before .before .before .before .before .before .pre .1 .1 in (
-      c .before .before .before .before .before .before .before .before .before .before .pre .0,
+    let entry = c .before .before .before .before .before .before .before .before .before .before in
+    let l = entry .pre .1 .1 in (
+      entry .pre .0,
       (
-        c .before .before .before .before .before .before .before .before .before .before .pre .1 .0,
+        entry .pre .1 .0,
         record {
           first-clear = zeros-cleared 65;
           first-long = omega arith;

@@ -21,8 +21,9 @@ abbrev μ-loop : tie.MeasureT-loop
 
 loop-holds : tie.Need-loop-holds Inv-loop μ-loop
 loop-holds c =
-    let z = c .before .before .before .before .before .before .before .before .before .args in
-    (driving-first (z .a .now) (z .run .now) (z .allowance) (c .before .before .before .before .before .before .before .before .before .pre .0) (c .before .before .before .before .before .before .before .before .before .pre .1 .0), c .before .before .before .before .before .before .before .before .before .pre .1 .1 .1, refl, refl, refl)
+    let entry = c .before .before .before .before .before .before .before .before .before in
+    let z = entry .args in
+    (driving-first (z .a .now) (z .run .now) (z .allowance) (entry .pre .0) (entry .pre .1 .0), entry .pre .1 .1 .1, refl, refl, refl)
 
 lowest-in-requires : tie.Need-lowest-in-requires Inv-loop μ-loop
 lowest-in-requires c κs = c .before .loop .inv .1 .waiting .size

@@ -2,16 +2,19 @@
 use borrow.Author.Needs.{needs}
 use mathlib.Core.Bool.{false≢true}
 use native.Mathlib.Omega.{arith}
-use borrow.Author.Tests.{leb-true}
 use Rattle.worklist.proofs.Head.{head-of}
 use Rattle.run.proofs.indexed.is_small.Statement.{statement}
 use Rattle.run.proofs.indexed.is_small.Tie as tie
 
 shared-slice-read-count : tie.Need-shared-slice-read-count
-shared-slice-read-count c = omega (arith, head-of (c .before .args .a .now) (c .before .pre))
+shared-slice-read-count c =
+    let entry = c .before in
+    omega (arith, head-of (entry .args .a .now) (entry .pre))
 
 shared-slice-read-if1 : tie.Need-shared-slice-read-if1
-shared-slice-read-if1 c = omega (arith, head-of (c .before .before .args .a .now) (c .before .before .pre))
+shared-slice-read-if1 c =
+    let entry = c .before .before in
+    omega (arith, head-of (entry .args .a .now) (entry .pre))
 
 returns : tie.Need-returns
 returns c = λ e. absurd (false≢true e)
@@ -20,7 +23,9 @@ returns-2 : tie.Need-returns-2
 returns-2 c = λ e. absurd (false≢true e)
 
 shared-slice-read-result : tie.Need-shared-slice-read-result
-shared-slice-read-result c = omega (arith, head-of (c .before .before .before .before .before .args .a .now) (c .before .before .before .before .before .pre))
+shared-slice-read-result c =
+    let entry = c .before .before .before .before .before in
+    omega (arith, head-of (entry .args .a .now) (entry .pre))
 
 mul-result : tie.Need-mul-result
 mul-result c = search needs
