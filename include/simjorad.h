@@ -55,7 +55,7 @@ extern "C" {
  * Read a page: the text becomes a page area. Returns the used length (4 or more), or minus 1, 2, 5, 3, 4 or 6.
  * On refusal *line becomes the line's number from 1 for 3, 4 and 5, and 0 for 1, 2 and 6; a page that is read leaves 0 there.
  * Writes the used length of area, and nothing of it on refusal.
- * Stack: 336 bytes.
+ * Stack: 24,769 bytes.
  */
 int32_t simjorad_read(const uint8_t *text, size_t text_length, uint16_t *area, size_t area_length, uint32_t *line);
 
@@ -69,7 +69,7 @@ size_t simjorad_show_line(const uint8_t *text, size_t text_length, size_t number
 /*
  * Open a run. Returns 0, or minus 10, 11, 12 or 13. Sets *reached to R, *edges to E and *bound to R + top * E.
  * Writes the first 3 * C numbers of run.
- * Stack: 1,712 bytes.
+ * Stack: 4,896 bytes.
  */
 int32_t simjorad_open(const uint16_t *page, size_t page_length, const uint16_t *queries, size_t queries_length,
                       uint16_t *run, size_t run_length, uint32_t *reached, uint32_t *edges, uint32_t *bound);
@@ -77,7 +77,7 @@ int32_t simjorad_open(const uint16_t *page, size_t page_length, const uint16_t *
 /*
  * Evaluate a condition that waits. Returns 1 if its interval changed, 0 if not, or minus 10, 14, 15 or 16.
  * Writes among the first 3 * C numbers of run.
- * Stack: 282 bytes.
+ * Stack: 178 bytes.
  */
 int32_t simjorad_evaluate(const uint16_t *page, size_t page_length, uint16_t *run, size_t run_length, uint32_t condition);
 
@@ -85,7 +85,7 @@ int32_t simjorad_evaluate(const uint16_t *page, size_t page_length, uint16_t *ru
  * Drive: evaluates the lowest waiting condition until none waits or the allowance is used.
  * Returns 1 for rest, 0 for spent, or minus 10 or 14. Sets *taken to the evaluations taken.
  * Writes among the first 3 * C numbers of run.
- * Stack: 298 bytes.
+ * Stack: 24,048 bytes.
  */
 int32_t simjorad_drive(const uint16_t *page, size_t page_length, uint16_t *run, size_t run_length, uint32_t allowance,
                        uint32_t *taken);
@@ -101,7 +101,7 @@ int32_t simjorad_value(const uint16_t *page, size_t page_length, const uint16_t 
 /*
  * Closed reading. Returns 0, or minus 10, 11, 12, 18 or 19. Writes low, high per query in list order to answers;
  * the first 6 * C numbers of scratch end as zero.
- * Stack: 1,418 bytes.
+ * Stack: 25,216 bytes.
  */
 int32_t simjorad_closed(const uint16_t *page, size_t page_length, const uint16_t *queries, size_t queries_length,
                         uint16_t *scratch, size_t scratch_length, uint16_t *answers, size_t answers_length);
