@@ -32,10 +32,6 @@ module _ {m : List Bool} {list : List ℕ} {known : ℕ} (s : Listing m list kno
   pub listing-few : known ≤ 512
   listing-few = omega (arith, s .counted, count-most 512 (member m))
 
-  -- a marked condition is one of 512
-  pub marked-few : (c : ℕ) → member m c ≡ true → c < 512
-  marked-few c e = inside-marks m c (s .size) e
-
   pub reaches-none : {f : ℕ → Bool} → ((c : ℕ) → f c ≡ false) → Reaches f m list known m list known
   reaches-none h = record { listing = s; is = λ c. sym (rw (h c, or-false)); more = omega arith; kept = λ i l. refl }
 

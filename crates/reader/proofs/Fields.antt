@@ -27,12 +27,6 @@ unfolding fieldsOf
 field-le [] = omega arith
 field-le (b ∷ l) = first-le (eqb b 44) b (length l) (fieldsOf l) (field-le l)
 
-pub field-within : (s : List ℕ) (at : ℕ) → at ≤ length s → at + length (fieldAt s at) ≤ length s
-unfolding fieldsAt
-field-within s at h =
-    let l = getD (textLines (drop at s)) 0 [] in
-    omega (arith, field-le l, line-le (drop at s), length-drop at s)
-
 -- What follows the first field of a text, of length n: a comma and more fields, or the end of the line.
 data Ending (t : List ℕ) (n : ℕ) : Type 0 where
   at-comma : getD t n 10 ≡ 44 → drop 1 (fieldsAt t) ≡ fieldsAt (drop (suc n) t) → linesAfter t ≡ linesAfter (drop (suc n) t) → Ending t n

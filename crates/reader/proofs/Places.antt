@@ -53,12 +53,6 @@ module _ (s : List ℕ) (i : ℕ) where
       let h : i < length s = within s i (λ z. omega arith) in
       rw (add-one, drop-cons s i 10 h, e)
 
-  pub comma-lines : getD s i 10 ≡ 44 → linesAfter (drop i s) ≡ linesAfter (drop (i + 1) s)
-  unfolding linesAfter textLines
-  comma-lines e =
-      let h : i < length s = within s i (λ z. omega arith) in
-      rw (add-one, drop-cons s i 10 h, e)
-
   -- at byte 10, and at the end of the text, an empty field and the line end
   pub newline-fields : getD s i 10 ≡ 10 → fieldsAt (drop i s) ≡ [] ∷ []
   unfolding fieldsAt textLines fieldsOf
