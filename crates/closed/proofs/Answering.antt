@@ -48,8 +48,8 @@ lines-most top n (suc k) left p e =
 pub used-most : (a : List ℕ) → sound a ≡ true → usedOf a ≤ 4 + 4 * countOf a + 8192
 unfolding sound
 used-most a e =
-    let b = both-true (every (headTests a)) (linesOk (topOf a) (conditionsOf a) (countOf a) (usedOf a - firstLine) (drop firstLine a)) e in
-    omega (arith, lines-most (topOf a) (conditionsOf a) (countOf a) (usedOf a - firstLine) (drop firstLine a) (b .1), head-of a e)
+    let b = both-true (every (headTests a)) (linesOk (topOf a) (conditionsOf a) (countOf a) (usedOf a - firstLine a) (drop (firstLine a) a)) e in
+    omega (arith, lines-most (topOf a) (conditionsOf a) (countOf a) (usedOf a - firstLine a) (drop (firstLine a) a) (b .1), head-of a e)
 
 -- the start: the marks of the closure are written
 module _ (a qs run : List ℕ) (ok : sound a ≡ true) (long : 4 * conditionsOf a ≤ length run) {marks : List Bool} (m : Marks (closure (pageOf a) qs) marks)

@@ -8,7 +8,7 @@ use Rattle.page.specs.Lines.{stepAt}
 
 -- the place where the entry of line k begins, from line 0
 unfoldable pub placeOf : List ℕ → ℕ → ℕ
-placeOf a zero = firstLine
+placeOf a zero = firstLine a
 placeOf a (suc k) = placeOf a k + stepAt a (placeOf a k)
 
 -- an F or R line of the condition c begins at a place

@@ -29,8 +29,8 @@ pub struct Cursor {
 
 impl Cursor {
     // Before the first line.
-    pub fn first() -> Self
-        ensures { λ r. ⌜ (r .at ≡ firstLine) × (r .passed ≡ 0) ⌝ }
+    pub fn first(a: &[u16]) -> Self
+        ensures { λ r. ⌜ (r .at ≡ firstLine (now (a .entry))) × (r .passed ≡ 0) ⌝ }
     {
         Cursor { at: 4, passed: 0 }
     }
@@ -125,12 +125,12 @@ fn entry_ok(a: &[u16], at: usize, left: usize, top: u16, n: u16) -> bool
     fields_ok(a, at, k, a[at + 2], y, top, n)
 }
 
-// Whether the numbers from 4 up to `used` are exactly `count` entries.
+// Whether the numbers from where the lines begin up to `used` are exactly `count` entries.
 fn lines_ok(a: &[u16], used: usize, count: u16, top: u16, n: u16) -> bool
-    requires { ⌜ (used ≤ length (now a)) × (4 ≤ used) × (n ≤ 512) ⌝ }
-    ensures { λ r. ⌜ r ≡ linesOk top n count (used - 4) (drop 4 (now (a .entry))) ⌝ }
+    requires { ⌜ (used ≤ length (now a)) × (firstLine (now a) ≤ used) × (n ≤ 512) ⌝ }
+    ensures { λ r. ⌜ r ≡ linesOk top n count (used - firstLine (now (a .entry))) (drop (firstLine (now (a .entry))) (now (a .entry))) ⌝ }
 {
-    let mut line = Cursor::first();
+    let mut line = Cursor::first(a);
     while line.passed < count {
         let at = line.at;
         if !entry_ok(a, at, used - at, top, n) {
@@ -206,7 +206,7 @@ pub fn names(a: &[u16], head: u16, c: u16) -> bool
     ensures { λ r. ⌜ r ≡ names (pageOf (now (a .entry))) head c ⌝ }
 {
     let count = a[2];
-    let mut line = Cursor::first();
+    let mut line = Cursor::first(a);
     while line.passed < count {
         let at = line.at;
         if a[at] == head {
@@ -354,7 +354,7 @@ pub fn body(a: &[u16], run: &[u16], c: u16) -> Ends
     let n = a[1];
     let count = a[2];
     let used = a[3] as usize;
-    let mut line = Cursor::first();
+    let mut line = Cursor::first(a);
     let mut best = Ends { low: 0, high: 0 };
     while line.passed < count {
         let at = line.at;

@@ -173,7 +173,7 @@ head-back (t ∷ c ∷ k ∷ u ∷ q) f g e =
 pub sound-exact : (a : List ℕ) → sound a ≡ true → take (usedOf a) a ≡ areaOf (pageOf a)
 unfolding sound pageOf areaOf
 sound-exact a e =
-    let b = both-true (every (headTests a)) (linesOk (topOf a) (conditionsOf a) (countOf a) (usedOf a - firstLine) (drop firstLine a)) e in
+    let b = both-true (every (headTests a)) (linesOk (topOf a) (conditionsOf a) (countOf a) (usedOf a - firstLine a) (drop (firstLine a) a)) e in
     let h = every-true (headTests a) (b .0) in
     let f : 4 ≤ usedOf a = leb-true 4 (usedOf a) (h .1 .0) in
     let g : usedOf a ≤ length a = leb-true (usedOf a) (length a) (h .1 .1 .0) in

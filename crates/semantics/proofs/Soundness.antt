@@ -69,7 +69,7 @@ length-lines (suc k) p = ap suc (length-lines k (drop (span p) p))
 pub sound-proper : (a : List ℕ) → sound a ≡ true → Proper (pageOf a)
 unfolding sound pageOf
 sound-proper a e =
-    let b = both-true (every (headTests a)) (linesOk (topOf a) (conditionsOf a) (countOf a) (usedOf a - firstLine) (drop firstLine a)) e in
+    let b = both-true (every (headTests a)) (linesOk (topOf a) (conditionsOf a) (countOf a) (usedOf a - firstLine a) (drop (firstLine a) a)) e in
     let h = every-true (headTests a) (b .0) in
     record {
       top-least = omega (arith, leb-true);
@@ -77,5 +77,5 @@ sound-proper a e =
       conditions-least = omega (arith, leb-true);
       conditions-most = omega (arith, leb-true);
       few-lines = rw length-lines (omega (arith, leb-true));
-      ranged = all-in-range (topOf a) (conditionsOf a) (countOf a) (usedOf a - firstLine) (drop firstLine a) (simp length-drop (omega (arith, leb-true))) (b .1);
+      ranged = all-in-range (topOf a) (conditionsOf a) (countOf a) (usedOf a - firstLine a) (drop (firstLine a) a) (simp length-drop (omega (arith, leb-true))) (b .1);
     }

@@ -35,12 +35,12 @@ short-lines top n (suc k) left p e =
 pub used-most : (a : List ℕ) → sound a ≡ true → usedOf a ≤ 12292
 unfolding sound
 used-most a e =
-    let b = both-true (every (headTests a)) (linesOk (topOf a) (conditionsOf a) (countOf a) (usedOf a - firstLine) (drop firstLine a)) e in
+    let b = both-true (every (headTests a)) (linesOk (topOf a) (conditionsOf a) (countOf a) (usedOf a - firstLine a) (drop (firstLine a) a)) e in
     let h = every-true (headTests a) (b .0) in
     omega (
       arith,
       leb-true (countOf a) 1024 (h .1 .1 .1 .1 .1 .1 .1 .0),
-      short-lines (topOf a) (conditionsOf a) (countOf a) (usedOf a - firstLine) (drop firstLine a) (b .1),
+      short-lines (topOf a) (conditionsOf a) (countOf a) (usedOf a - firstLine a) (drop (firstLine a) a) (b .1),
     )
 
 -- as much: k rules of eight literals

@@ -21,9 +21,12 @@ countOf a = getD a 2 0
 abbrev pub usedOf : List ℕ → ℕ
 usedOf a = getD a 3 0
 
--- where the lines begin
-abbrev pub firstLine : ℕ
-firstLine = 4
+-- how many numbers stand before the lines of a page with n conditions, and where the lines of an area begin
+abbrev pub headLength : ℕ → ℕ
+headLength n = 4
+
+abbrev pub firstLine : List ℕ → ℕ
+firstLine a = headLength (conditionsOf a)
 
 -- the kind of a line's entry: 0 a fact, 1 to 5 a rule with M, X, L, B, P, 6 a query; no other is a kind
 pub data Kind : Type 0 where
@@ -72,7 +75,7 @@ linesOf (suc k) p = lineAt p ∷ linesOf k (drop (span p) p)
 
 -- the page that an area holds
 unfoldable pub pageOf : List ℕ → Page
-pageOf a = record { top = topOf a; conditions = conditionsOf a; lines = linesOf (countOf a) (drop firstLine a) }
+pageOf a = record { top = topOf a; conditions = conditionsOf a; lines = linesOf (countOf a) (drop (firstLine a) a) }
 
 -- Soundness, as lists of tests that must all hold.
 abbrev pub every : List Bool → Bool
@@ -102,8 +105,8 @@ linesOk top n (suc k) left p = every (lineTests top n left p) && linesOk top n k
 -- "at least as long as its four head numbers and its used length (these four numbers counted in it)", top 1 to 200, C 1 to 512, "the count of lines is at most 1,024"
 abbrev pub headTests : List ℕ → List Bool
 headTests a =
-    leb firstLine (length a)
-    ∷ leb firstLine (usedOf a)
+    leb 4 (length a)
+    ∷ leb (firstLine a) (usedOf a)
     ∷ leb (usedOf a) (length a)
     ∷ leb 1 (topOf a)
     ∷ leb (topOf a) 200
@@ -114,7 +117,7 @@ headTests a =
 
 -- "A page area is sound when .."
 unfoldable pub sound : List ℕ → Bool
-sound a = every (headTests a) && linesOk (topOf a) (conditionsOf a) (countOf a) (usedOf a - firstLine) (drop firstLine a)
+sound a = every (headTests a) && linesOk (topOf a) (conditionsOf a) (countOf a) (usedOf a - firstLine a) (drop (firstLine a) a)
 
 -- The area of a page: what the reader writes. Sound areas are exactly these, for proper pages, with anything behind them
 -- (`sound-proper`, `proper-sound`, `sound-exact`).
@@ -140,4 +143,4 @@ lineCodes [] = []
 lineCodes (l ∷ ls) = lineCode l ++ lineCodes ls
 
 unfoldable pub areaOf : Page → List ℕ
-areaOf page = page .top ∷ page .conditions ∷ length (page .lines) ∷ (firstLine + length (lineCodes (page .lines))) ∷ lineCodes (page .lines)
+areaOf page = page .top ∷ page .conditions ∷ length (page .lines) ∷ (headLength (page .conditions) + length (lineCodes (page .lines))) ∷ lineCodes (page .lines)

@@ -114,7 +114,7 @@ pub fn mark_dependants(a: &[u16], run: &mut [u16], c: u16)
     ensures { λ r. ⌜ DependantsMarked (pageOf (now (a .entry))) c (now (run .entry)) (now (run .exit)) ⌝ }
 {
     let count = a[2];
-    let mut line = page::Cursor::first();
+    let mut line = page::Cursor::first(a);
     while line.passed < count {
         let at = line.at;
         mark_head(a, at, run, c);
