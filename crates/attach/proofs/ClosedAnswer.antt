@@ -17,7 +17,7 @@ use Rattle.semantics.specs.Rows.{Reads}
 use Rattle.semantics.proofs.Readings.{closed-one}
 use Rattle.semantics.proofs.Soundness.{sound-proper}
 use Rattle.reach.proofs.Refusals.{first-behind}
-use Rattle.worklist.proofs.Head.{conditions-is}
+use Rattle.page.proofs.Head.{conditions-is}
 use Rattle.attach.proofs.OneQuery.{asked}
 
 module _ (a : List ℕ) (ok : sound a ≡ true) (c : ℕ) (l : c < conditionsOf a) (s w : List ℕ) (long : 6 * conditionsOf a ≤ length s) (room : 2 ≤ length w) where

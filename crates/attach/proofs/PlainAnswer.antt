@@ -21,7 +21,7 @@ use Rattle.semantics.specs.Table.{listed, member, intervalOf}
 use Rattle.semantics.specs.Worklist.{Worklist, start, evaluated, lowest, Status, rest, statusAs, status, Driven, driveFrom, driven}
 use Rattle.semantics.proofs.Demand.{demand3}
 use Rattle.reach.proofs.Refusals.{open-none}
-use Rattle.worklist.proofs.Head.{conditions-is}
+use Rattle.page.proofs.Head.{conditions-is}
 use Rattle.attach.proofs.OneQuery.{asked}
 
 -- a drive comes to rest or uses its allowance

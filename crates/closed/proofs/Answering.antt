@@ -23,7 +23,7 @@ use Rattle.semantics.proofs.Soundness.{sound-proper, every-true, both-true}
 use Rattle.semantics.proofs.Table.{or-cases}
 use Rattle.reach.specs.Marks.{Marks}
 use Rattle.reach.specs.Opening.{Written}
-use Rattle.worklist.proofs.Head.{head-of, conditions-is}
+use Rattle.page.proofs.Head.{head-of, conditions-is}
 use Rattle.closed.specs.Settle.{reachedAt, waitsAt}
 use Rattle.closed.specs.Round.{closedAt, RoundsBegin, Alternated, Solved}
 use Rattle.closed.proofs.Rounding.{shut-over}

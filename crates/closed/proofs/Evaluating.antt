@@ -14,7 +14,7 @@ use Rattle.fixpoint.specs.Interval.{Interval}
 use Rattle.semantics.specs.Area.{sound, pageOf, topOf, conditionsOf}
 use Rattle.semantics.specs.Page.{Page}
 use Rattle.semantics.specs.RunArea.{intervalAt, markAt}
-use Rattle.worklist.proofs.Head.{head-of, conditions-is}
+use Rattle.page.proofs.Head.{head-of, conditions-is}
 use Rattle.worklist.proofs.Stores.{mark-same, mark-other, mark-apart}
 use Rattle.index.specs.Table.{endOf, EndTable, EndValue}
 use Rattle.index.specs.Words.{WordsMatch}

@@ -17,7 +17,7 @@ use Rattle.semantics.specs.RunArea.{intervalAt, markAt}
 use Rattle.semantics.proofs.Soundness.{sound-proper, both-true}
 use Rattle.semantics.proofs.Table.{or-cases}
 use Rattle.worklist.specs.Marks.{marked}
-use Rattle.worklist.proofs.Head.{head-of, conditions-is}
+use Rattle.page.proofs.Head.{head-of, conditions-is}
 use Rattle.worklist.proofs.Stores.{marked-length, marked-apart, marked-beyond, marked-mark}
 use Rattle.index.specs.Groups.{Groups, HeadsByLiteral}
 use Rattle.index.specs.Readers.{among, linesRead, ReadersMarked}

@@ -23,7 +23,7 @@ use Rattle.semantics.specs.RunArea.{intervalAt, markAt}
 use Rattle.semantics.proofs.Readings.{page-system}
 use Rattle.semantics.proofs.Soundness.{sound-proper}
 use Rattle.page.specs.Graded.{Graded}
-use Rattle.worklist.proofs.Head.{Head, head-of, top-is, conditions-is}
+use Rattle.page.proofs.Head.{Head, head-of, top-is, conditions-is}
 use Rattle.index.specs.Table.{endOf}
 use Rattle.closed.specs.Ends.{reads, EndLocal, room}
 use Rattle.closed.specs.Settle.{flagAt, reachedAt, waitsAt, endNow, endRoom, Steady, Evaluated, SettleReady, Settled}

@@ -15,11 +15,11 @@ use Rattle.semantics.specs.Body.{lineBody, bodies, bodyless, largestOf, T}
 use Rattle.semantics.specs.Grade.{foldFrom, largest}
 use Rattle.semantics.specs.Page.{Line}
 use Rattle.page.proofs.Scanning.{linesLeft, lines-first, lines-none}
-use Rattle.index.specs.Places.{placeOf, LineOf}
+use Rattle.page.specs.Places.{placeOf, LineOf}
 use Rattle.index.specs.Groups.{Groups, LinesByHead}
 use Rattle.index.specs.Table.{endOf, EndTable, EndValue}
 use Rattle.index.specs.LineEnds.{LineEnd, sideOf}
-use Rattle.index.proofs.LineNumbers.{lines-from, shape, line-of}
+use Rattle.page.proofs.LineNumbers.{lines-from, shape, line-of}
 
 -- the groups lie in the items
 pub group-order : {m : ℕ} {Has : ℕ → ℕ → Type 0} {start items : List ℕ} → Groups m Has start items → (k t : ℕ) → t + k ≤ m → getD start t 0 ≤ getD start (t + k) 0

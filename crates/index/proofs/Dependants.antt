@@ -17,7 +17,7 @@ use Rattle.semantics.specs.RunArea.{markAt}
 use Rattle.semantics.proofs.Soundness.{both-true, sound-proper}
 use Rattle.semantics.proofs.Table.{or-cases}
 use Rattle.worklist.specs.Cells.{DependantsMarked}
-use Rattle.worklist.proofs.Head.{head-of, conditions-is}
+use Rattle.page.proofs.Head.{head-of, conditions-is}
 use Rattle.index.specs.Groups.{HeadsByLiteral}
 use Rattle.index.specs.Readers.{among, linesRead, ReadersMarked}
 use Rattle.index.specs.Words.{WordsMatch}

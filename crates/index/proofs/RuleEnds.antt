@@ -16,7 +16,7 @@ use Rattle.semantics.proofs.Soundness.{both-true}
 use Rattle.page.specs.Graded.{RuleAt}
 use Rattle.page.proofs.Scan.{part-cons, rule-kind}
 use Rattle.page.proofs.Work.{code-first, weighed-by}
-use Rattle.worklist.proofs.Head.{head-of}
+use Rattle.page.proofs.Head.{head-of}
 use Rattle.index.specs.Table.{endOf, Grades, EndTable}
 use Rattle.index.specs.LineEnds.{Foldable, Folded, RuleEnd}
 

@@ -1,5 +1,3 @@
--- where the lines of an area stand
-pub mod Places
 -- numbers in groups by a key
 pub mod Groups
 -- the conditions whose rules have a literal

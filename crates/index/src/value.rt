@@ -7,7 +7,7 @@ ghost use Rattle.semantics.specs.Area.{sound, topOf, conditionsOf, kind, ruleKi
 ghost use Rattle.semantics.specs.Grade.{Op, M, X, L, B, P};
 ghost use Rattle.semantics.specs.RunArea.{intervalAt};
 ghost use Rattle.page.specs.Graded.{Graded, RuleAt};
-ghost use Rattle.index.specs.Places.{LineOf};
+ghost use Rattle.page.specs.Places.{LineOf};
 ghost use Rattle.index.specs.Groups.{LinesByHead};
 ghost use Rattle.index.specs.Table.{Grades, EndTable, EndValue};
 ghost use Rattle.index.specs.LineEnds.{Foldable, Folded, RuleEnd, LineEnd, sideOf};

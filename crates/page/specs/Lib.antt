@@ -1,5 +1,7 @@
 -- What the contracts of `page` cite besides the definitions of `semantics`.
 -- the cursor over the lines
 pub mod Lines
+-- where the lines stand
+pub mod Places
 -- the body value, step by step
 pub mod Graded

@@ -20,7 +20,7 @@ use Rattle.page.proofs.Bodies.{rule-at}
 use Rattle.page.proofs.Naming.{line-rule, line-fact, line-over, lines-name}
 use Rattle.page.proofs.Scanning.{Scanning, linesLeft, scanning-first, scanning-next, entry-ok, room, lines-first, lines-on, lines-none}
 use Rattle.index.specs.Groups.{Groups, LinesByHead, Cleared}
-use Rattle.index.specs.Places.{placeOf, LineOf}
+use Rattle.page.specs.Places.{placeOf, LineOf}
 use Rattle.reach.proofs.Sets.{iff-eq}
 
 -- a new array holds zeros alone

@@ -18,7 +18,7 @@ use Rattle.semantics.proofs.Drives.{lowest-some-of, lowest-none-of}
 use Rattle.semantics.proofs.Operations.{page-unsound, run-unsound, evaluate-beyond, evaluate-idle, evaluate-done, value-beyond, value-unreached, value-done}
 use Rattle.worklist.specs.Cells.{Lowest}
 use Rattle.worklist.specs.Evaluation.{Evaluated}
-use Rattle.worklist.proofs.Head.{conditions-is}
+use Rattle.page.proofs.Head.{conditions-is}
 use Rattle.run.specs.Answers.{Answered, statusIf}
 
 pub answered : {left : Left} {x : Answer} {r : List ℕ} → left ≡ record { answer = x; run = r } → Answered left x r

@@ -19,7 +19,7 @@ use Rattle.semantics.proofs.Steps.{encodable-evaluated}
 use borrow.Author.Tests.{eq-eqb}
 use Rattle.worklist.specs.Cells.{Lowest}
 use Rattle.worklist.specs.Evaluation.{Evaluated}
-use Rattle.worklist.proofs.Head.{conditions-is}
+use Rattle.page.proofs.Head.{conditions-is}
 use Rattle.run.specs.Answers.{Answered}
 use Rattle.run.proofs.Answering.{rest-of, waits-of}
 

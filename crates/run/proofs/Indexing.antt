@@ -18,7 +18,7 @@ use Rattle.semantics.specs.RunArea.{intervalAt, markAt, runSound}
 use Rattle.page.specs.Graded.{BodyValue}
 use Rattle.worklist.specs.Evaluation.{stored}
 use Rattle.worklist.proofs.Evaluation.{long-of, stored-apart, stored-interval, stored-mark, stored-mark-apart, evaluated-changed, evaluated-same}
-use Rattle.worklist.proofs.Head.{conditions-is}
+use Rattle.page.proofs.Head.{conditions-is}
 use Rattle.index.specs.Table.{endOf, EndValue}
 use Rattle.index.specs.Words.{WordsMatch}
 use Rattle.index.proofs.Sets.{Removed, match-removed}

@@ -6,7 +6,7 @@ ghost use lib.ListN.{getD};
 ghost use Rattle.semantics.specs.Area.{sound, topOf, conditionsOf, kind, ruleKind};
 ghost use Rattle.semantics.specs.Grade.{Op, M, X, L, B, P};
 ghost use Rattle.page.specs.Graded.{RuleAt};
-ghost use Rattle.index.specs.Places.{LineOf};
+ghost use Rattle.page.specs.Places.{LineOf};
 ghost use Rattle.index.specs.Groups.{LinesByHead};
 ghost use Rattle.index.specs.Table.{Grades, EndValue};
 ghost use Rattle.index.specs.LineEnds.{Foldable, Folded, RuleEnd, LineEnd};

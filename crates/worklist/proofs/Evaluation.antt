@@ -25,7 +25,7 @@ use Rattle.semantics.proofs.Steps.{puts-same, puts-other, waits-after, encodabl
 use Rattle.page.specs.Graded.{Graded, BodyValue}
 use Rattle.worklist.specs.Cells.{DependantsMarked}
 use Rattle.worklist.specs.Evaluation.{stored, Evaluated}
-use Rattle.worklist.proofs.Head.{head-of, conditions-is}
+use Rattle.page.proofs.Head.{head-of, conditions-is}
 
 -- a cell stored
 module _ (run : List ℕ) (c low high mark : ℕ) where

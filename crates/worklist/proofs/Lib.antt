@@ -1,5 +1,4 @@
 -- soundness of a run area
-pub mod Head
 pub mod Soundness
 -- the dependants of a condition
 pub mod Stores

@@ -15,7 +15,7 @@ use Rattle.page.proofs.Scanning.{Scanning, linesLeft, scanning-first, lines-fir
 use Rattle.page.proofs.Scan.{entry-head}
 use Rattle.worklist.specs.Cells.{DependantsMarked}
 use Rattle.worklist.specs.Marks.{marked}
-use Rattle.worklist.proofs.Head.{conditions-is}
+use Rattle.page.proofs.Head.{conditions-is}
 use Rattle.worklist.proofs.Stores.{marked-length, marked-apart, marked-beyond, marked-mark}
 
 -- the mark of a condition that is a dependant if a test holds

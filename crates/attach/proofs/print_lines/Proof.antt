@@ -4,7 +4,7 @@ use mathlib.Core.Path.{refl}
 use native.Mathlib.Omega.{arith}
 use lib.ListN.{length}
 use Rattle.page.proofs.Scanning.{entry-ok, room, next-in}
-use Rattle.worklist.proofs.Head.{head-of}
+use Rattle.page.proofs.Head.{head-of}
 use Rattle.attach.proofs.Printing.{Printing, printing-first, printing-next, printing-last}
 use Rattle.attach.proofs.print_lines.Statement.{statement}
 use Rattle.attach.proofs.print_lines.Tie as tie

@@ -1,6 +1,6 @@
 -- `attach::print_page` is safe. Assumes nothing.
 use native.Mathlib.Omega.{arith}
-use Rattle.worklist.proofs.Head.{head-of}
+use Rattle.page.proofs.Head.{head-of}
 use borrow.Author.Needs.{needs}
 use Rattle.attach.proofs.print_page.Statement.{statement}
 use Rattle.attach.proofs.print_page.Tie as tie

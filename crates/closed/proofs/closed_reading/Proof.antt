@@ -6,7 +6,7 @@ use lib.Dec.{leb}
 use lib.ListN.{length}
 use borrow.Author.Tests.{not-true, not-false}
 use Rattle.semantics.specs.Area.{sound, conditionsOf, allUnder}
-use Rattle.worklist.proofs.Head.{head-of}
+use Rattle.page.proofs.Head.{head-of}
 use Rattle.closed.proofs.Answering.{under-at, refused-10, refused-11, refused-12, refused-18, refused-19, accepted}
 use borrow.Author.Needs.{needs}
 use Rattle.closed.proofs.closed_reading.Statement.{statement}

@@ -3,7 +3,7 @@ use mathlib.Core.Path.{_∙_}
 use native.Mathlib.Omega.{arith}
 use lib.ListN.{length-set}
 use borrow.Author.Needs.{needs}
-use Rattle.worklist.proofs.Head.{head-of}
+use Rattle.page.proofs.Head.{head-of}
 use Rattle.closed.proofs.Evaluating.{Placed, place-fits, place-small, literal-fits, same-at, stored-waiting, changed-at}
 use Rattle.closed.proofs.evaluate_end.Statement.{statement}
 use Rattle.closed.proofs.evaluate_end.Tie as tie

@@ -1,7 +1,7 @@
 -- `closed::first_round` meets its contract. Assumes nothing.
 use native.Mathlib.Omega.{arith}
 use Rattle.semantics.specs.Area.{pageOf}
-use Rattle.worklist.proofs.Head.{head-of}
+use Rattle.page.proofs.Head.{head-of}
 use Rattle.closed.proofs.Rounding.{first-ready, lows-ready, first-highs, first-rounded}
 use borrow.Author.Needs.{needs}
 use Rattle.closed.proofs.first_round.Statement.{statement}

@@ -3,7 +3,7 @@ use Prim.Native.Nat.{_+_, _*_}
 use mathlib.Core.Path.{_∙_, sym}
 use Prim.Native.Nat.{_-_}
 use native.Mathlib.Omega.{arith}
-use Rattle.worklist.proofs.Head.{head-of}
+use Rattle.page.proofs.Head.{head-of}
 use Rattle.closed.proofs.Gathering.{Gathering, gathering-first, start-fits, in-heads, head-real, head-fits, gathering-next, gathering-last}
 use Rattle.closed.proofs.gather_readers.Statement.{statement}
 use Rattle.closed.proofs.gather_readers.Tie as tie

@@ -2,7 +2,7 @@
 use mathlib.Core.Path.{_∙_}
 use native.Mathlib.Omega.{arith}
 use lib.ListN.{length-set}
-use Rattle.worklist.proofs.Head.{head-of}
+use Rattle.page.proofs.Head.{head-of}
 use Rattle.closed.proofs.Restarting.{reset-pending, reset-at}
 use borrow.Author.Needs.{needs}
 use Rattle.closed.proofs.reset.Statement.{statement}

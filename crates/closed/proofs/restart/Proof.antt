@@ -1,7 +1,7 @@
 -- `closed::restart` meets its contract. Assumes nothing.
 use mathlib.Core.Path.{refl}
 use native.Mathlib.Omega.{arith}
-use Rattle.worklist.proofs.Head.{head-of}
+use Rattle.page.proofs.Head.{head-of}
 use Rattle.closed.proofs.Steps.{zeros-clear}
 use borrow.Author.Needs.{needs}
 use Rattle.closed.proofs.restart.Statement.{statement}

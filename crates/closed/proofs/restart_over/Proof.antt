@@ -3,7 +3,7 @@
 use mathlib.Core.Path.{refl, _∙_, sym}
 use native.Mathlib.Omega.{arith}
 use Rattle.semantics.specs.Area.{pageOf, conditionsOf}
-use Rattle.worklist.proofs.Head.{head-of}
+use Rattle.page.proofs.Head.{head-of}
 use Rattle.index.specs.Words.{AnyIn}
 use Rattle.closed.specs.Indexed.{Pending}
 use Rattle.closed.proofs.Gathering.{pending-first, pending-found, pending-none}

@@ -1,7 +1,7 @@
 -- `closed::settle_ends` meets its contract. Assumes nothing.
 use mathlib.Core.Path.{refl}
 use native.Mathlib.Omega.{arith}
-use Rattle.worklist.proofs.Head.{Head, head-of}
+use Rattle.page.proofs.Head.{Head, head-of}
 use Rattle.closed.proofs.Settling.{settling-first, settling-graded}
 use Rattle.closed.proofs.Steps.{zeros-clear}
 use borrow.Author.Needs.{needs}

@@ -8,7 +8,7 @@ use lib.ListN.{length}
 use borrow.Author.Tests.{eq-eqb, ne-eqb}
 use Rattle.semantics.specs.Area.{pageOf, conditionsOf}
 use Rattle.semantics.specs.RunArea.{markAt}
-use Rattle.worklist.proofs.Head.{head-of, conditions-is}
+use Rattle.page.proofs.Head.{head-of, conditions-is}
 use Rattle.index.specs.Words.{AnyIn}
 use Rattle.closed.specs.Settle.{SettleReady}
 use Rattle.closed.specs.Indexed.{InStep}

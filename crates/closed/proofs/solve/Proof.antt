@@ -1,5 +1,5 @@
 -- `closed::solve` meets its contract. Assumes nothing.
-use Rattle.worklist.proofs.Head.{head-of}
+use Rattle.page.proofs.Head.{head-of}
 use borrow.Author.Needs.{needs}
 use Rattle.closed.proofs.solve.Statement.{statement}
 use Rattle.closed.proofs.solve.Tie as tie

@@ -1,6 +1,6 @@
 -- `closed::solve_large` meets its contract. Assumes nothing.
 use native.Mathlib.Omega.{arith}
-use Rattle.worklist.proofs.Head.{head-of}
+use Rattle.page.proofs.Head.{head-of}
 use Rattle.closed.proofs.Steps.{zeros-clear}
 use Rattle.closed.proofs.Answering.{used-most}
 use borrow.Author.Needs.{needs}

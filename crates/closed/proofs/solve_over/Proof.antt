@@ -1,6 +1,6 @@
 -- `closed::solve_over` meets its contract. Assumes nothing.
 use native.Mathlib.Omega.{arith}
-use Rattle.worklist.proofs.Head.{head-of}
+use Rattle.page.proofs.Head.{head-of}
 use Rattle.closed.proofs.Answering.{rounds-begin, solved}
 use borrow.Author.Needs.{needs}
 use Rattle.closed.proofs.solve_over.Statement.{statement}

@@ -3,7 +3,7 @@ use mathlib.Core.Path.{refl}
 use Prim.Native.Nat.{_-_}
 use native.Mathlib.Omega.{arith}
 use Rattle.semantics.specs.Area.{pageOf}
-use Rattle.worklist.proofs.Head.{head-of}
+use Rattle.page.proofs.Head.{head-of}
 use Rattle.closed.proofs.Waking.{Waking, waking-first, waking-next, waking-last}
 use Rattle.closed.proofs.wake.Statement.{statement}
 use Rattle.closed.proofs.wake.Tie as tie

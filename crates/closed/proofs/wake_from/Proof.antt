@@ -2,7 +2,7 @@
 use mathlib.Core.Path.{_∙_}
 use native.Mathlib.Omega.{arith}
 use lib.ListN.{length-set}
-use Rattle.worklist.proofs.Head.{head-of}
+use Rattle.page.proofs.Head.{head-of}
 use Rattle.closed.proofs.Waking.{flag-unset, flag-cleared}
 use borrow.Author.Needs.{needs}
 use Rattle.closed.proofs.wake_from.Statement.{statement}

@@ -8,7 +8,7 @@ use Rattle.semantics.specs.Area.{sound, pageOf}
 use Rattle.semantics.specs.Call.{drive}
 use Rattle.semantics.specs.RunArea.{runSound}
 use Rattle.worklist.proofs.Evaluation.{long-of}
-use Rattle.worklist.proofs.Head.{head-of}
+use Rattle.page.proofs.Head.{head-of}
 use Rattle.run.proofs.Answering.{refused-10, refused-14}
 use Rattle.run.proofs.Driving.{driving-first, driving-rests}
 use Rattle.run.proofs.drive.Statement.{statement}

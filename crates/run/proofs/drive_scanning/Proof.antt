@@ -2,7 +2,7 @@
 use Prim.Native.Nat.{_-_}
 use native.Mathlib.Omega.{arith}
 use Rattle.worklist.proofs.Evaluation.{long-of}
-use Rattle.worklist.proofs.Head.{head-of}
+use Rattle.page.proofs.Head.{head-of}
 use Rattle.run.proofs.Driving.{Driving, driving-first, driving-rests, driving-spends, driving-next}
 use Rattle.run.proofs.drive_scanning.Statement.{statement}
 use Rattle.run.proofs.drive_scanning.Tie as tie

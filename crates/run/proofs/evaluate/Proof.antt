@@ -8,7 +8,7 @@ use Rattle.semantics.specs.Area.{sound, pageOf}
 use Rattle.semantics.specs.Call.{evaluate, changed, unchanged}
 use Rattle.semantics.specs.RunArea.{runSound}
 use Rattle.worklist.proofs.Evaluation.{long-of}
-use Rattle.worklist.proofs.Head.{head-of}
+use Rattle.page.proofs.Head.{head-of}
 use Rattle.run.proofs.Answering.{refused-10, refused-14, evaluate-15, evaluate-16, evaluate-answers}
 use Rattle.run.proofs.evaluate.Statement.{statement}
 use Rattle.run.proofs.evaluate.Tie as tie

@@ -9,7 +9,7 @@ use Rattle.semantics.specs.Area.{sound, pageOf}
 use Rattle.semantics.specs.Call.{value}
 use Rattle.semantics.specs.RunArea.{runSound}
 use Rattle.worklist.proofs.Evaluation.{long-of}
-use Rattle.worklist.proofs.Head.{head-of}
+use Rattle.page.proofs.Head.{head-of}
 use Rattle.run.proofs.Answering.{refused-10, refused-14, value-15, value-17, value-answers, status-of}
 use Rattle.run.proofs.value.Statement.{statement}
 use Rattle.run.proofs.value.Tie as tie

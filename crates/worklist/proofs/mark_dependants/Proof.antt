@@ -3,7 +3,7 @@
 use Prim.Native.Nat.{_-_}
 use native.Mathlib.Omega.{arith}
 use Rattle.page.proofs.Scanning.{entry-here}
-use Rattle.worklist.proofs.Head.{head-of}
+use Rattle.page.proofs.Head.{head-of}
 use Rattle.worklist.proofs.Marking.{Marking, marking-first, head-fits, marking-next, marking-last}
 use Rattle.worklist.proofs.mark_dependants.Statement.{statement}
 use Rattle.worklist.proofs.mark_dependants.Tie as tie

@@ -8,7 +8,7 @@ use borrow.Author.Count.{below-none, below-more}
 use borrow.Author.Tests.{not-true, not-false}
 use Rattle.semantics.specs.Area.{every}
 use Rattle.semantics.specs.RunArea.{intervalAt, markAt, cellTests}
-use Rattle.worklist.proofs.Head.{head-of}
+use Rattle.page.proofs.Head.{head-of}
 use Rattle.worklist.proofs.Soundness.{run-short, run-bad, run-ok}
 use Rattle.worklist.proofs.run_sound.Statement.{statement}
 use Rattle.worklist.proofs.run_sound.Tie as tie

@@ -1,6 +1,6 @@
 -- `attach::answer::closed_answer` meets its contract. Assumes nothing.
 use native.Mathlib.Omega.{arith}
-use Rattle.worklist.proofs.Head.{head-of}
+use Rattle.page.proofs.Head.{head-of}
 use Rattle.attach.proofs.ClosedAnswer.{closed-holds}
 use borrow.Author.Needs.{needs}
 use Rattle.attach.proofs.answer.closed_answer.Statement.{statement}

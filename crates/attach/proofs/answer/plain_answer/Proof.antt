@@ -8,7 +8,7 @@ use Rattle.semantics.specs.Area.{conditionsOf}
 use Rattle.semantics.specs.Operation.{openedWith, openOf}
 use Rattle.reach.specs.Opening.{openingOf}
 use Rattle.run.specs.Answers.{valueAnswerOf}
-use Rattle.worklist.proofs.Head.{head-of}
+use Rattle.page.proofs.Head.{head-of}
 use Rattle.attach.proofs.PlainAnswer.{never-refused, never-without, value-plain}
 use borrow.Author.Needs.{needs}
 use Rattle.attach.proofs.answer.plain_answer.Statement.{statement}

@@ -1,6 +1,7 @@
 -- `line_end` hands back an end of what the line adds to the body of its head: a fact's, or a rule's.
 use native.Mathlib.Omega.{arith}
-use Rattle.index.proofs.LineNumbers.{entry-at, rule-of, line-fact, line-rule}
+use Rattle.page.proofs.LineNumbers.{entry-at, rule-of}
+use Rattle.index.proofs.LineNumbers.{line-fact, line-rule}
 use Rattle.index.proofs.value.line_end.Statement.{statement}
 use Rattle.index.proofs.value.line_end.Tie as tie
 

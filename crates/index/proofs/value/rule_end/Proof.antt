@@ -2,7 +2,7 @@
 use mathlib.Core.Path.{refl}
 use native.Mathlib.Omega.{arith}
 use Rattle.page.proofs.Work.{small-product}
-use Rattle.worklist.proofs.Head.{head-of}
+use Rattle.page.proofs.Head.{head-of}
 use Rattle.index.proofs.RuleEnds.{code-under, first-in, foldable, fold-in, rule-end-is}
 use borrow.Author.Needs.{needs}
 use Rattle.index.proofs.value.rule_end.Statement.{statement}

@@ -1,6 +1,7 @@
 -- `run::ends::line_ends` meets its contract: both ends of what the line adds to the body of its head. Assumes nothing.
 use native.Mathlib.Omega.{arith}
-use Rattle.index.proofs.LineNumbers.{entry-at, rule-of, line-fact, line-rule}
+use Rattle.page.proofs.LineNumbers.{entry-at, rule-of}
+use Rattle.index.proofs.LineNumbers.{line-fact, line-rule}
 use Rattle.run.proofs.ends.line_ends.Statement.{statement}
 use Rattle.run.proofs.ends.line_ends.Tie as tie
 

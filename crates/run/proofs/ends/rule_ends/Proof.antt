@@ -3,7 +3,7 @@ use borrow.Author.Needs.{needs}
 use mathlib.Core.Path.{refl}
 use native.Mathlib.Omega.{arith}
 use Rattle.page.proofs.Work.{small-product}
-use Rattle.worklist.proofs.Head.{head-of}
+use Rattle.page.proofs.Head.{head-of}
 use Rattle.index.proofs.RuleEnds.{code-under, first-in, foldable, fold-in, rule-end-is}
 use Rattle.run.proofs.ends.rule_ends.Statement.{statement}
 use Rattle.run.proofs.ends.rule_ends.Tie as tie

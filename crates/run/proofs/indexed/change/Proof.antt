@@ -1,7 +1,7 @@
 -- `run::indexed::change` meets its contract. Assumes nothing.
 use borrow.Author.Needs.{needs}
 use native.Mathlib.Omega.{arith}
-use Rattle.worklist.proofs.Head.{head-of}
+use Rattle.page.proofs.Head.{head-of}
 use Rattle.run.proofs.indexed.change.Statement.{statement}
 use Rattle.run.proofs.indexed.change.Tie as tie
 

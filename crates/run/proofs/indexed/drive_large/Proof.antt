@@ -2,7 +2,7 @@
 use borrow.Author.Needs.{needs}
 use mathlib.Core.Path.{refl}
 use native.Mathlib.Omega.{arith}
-use Rattle.worklist.proofs.Head.{head-of}
+use Rattle.page.proofs.Head.{head-of}
 use Rattle.index.proofs.Sizes.{zeros-cleared, literals-room}
 use Rattle.run.proofs.indexed.drive_large.Statement.{statement}
 use Rattle.run.proofs.indexed.drive_large.Tie as tie

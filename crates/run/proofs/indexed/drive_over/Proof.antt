@@ -2,7 +2,7 @@
 use borrow.Author.Needs.{needs}
 use native.Mathlib.Omega.{arith}
 use Rattle.worklist.proofs.Evaluation.{graded-of, long-of}
-use Rattle.worklist.proofs.Head.{head-of}
+use Rattle.page.proofs.Head.{head-of}
 use Rattle.run.proofs.indexed.drive_over.Statement.{statement}
 use Rattle.run.proofs.indexed.drive_over.Tie as tie
 

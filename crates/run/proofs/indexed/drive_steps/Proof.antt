@@ -5,7 +5,7 @@ use mathlib.Core.Path.{_≡_, refl, _∙_}
 use native.Mathlib.Omega.{arith}
 use lib.ListN.{length}
 use Rattle.semantics.specs.Area.{conditionsOf}
-use Rattle.worklist.proofs.Head.{head-of}
+use Rattle.page.proofs.Head.{head-of}
 use Rattle.index.proofs.Sets.{lowest-waits, none-waits}
 use Rattle.run.specs.Indexed.{Beside}
 use Rattle.run.proofs.Driving.{Driving, driving-first, driving-rests, driving-spends, driving-next}

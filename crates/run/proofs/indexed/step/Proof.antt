@@ -3,7 +3,7 @@ use borrow.Author.Needs.{needs}
 use mathlib.Core.Path.{sym, _∙_}
 use native.Mathlib.Omega.{arith}
 use Rattle.worklist.proofs.Evaluation.{long-of}
-use Rattle.worklist.proofs.Head.{head-of}
+use Rattle.page.proofs.Head.{head-of}
 use Rattle.run.proofs.Indexing.{removed-stored, step-changed, step-same}
 use Rattle.run.proofs.indexed.step.Statement.{statement}
 use Rattle.run.proofs.indexed.step.Tie as tie
