@@ -1,0 +1,99 @@
+-- An end of the body value is the largest over the F and R lines of the condition, in any order. Assumes nothing.
+use mathlib.Core.Path.{_≡_, refl, sym, _∙_, ap}
+use mathlib.Core.Logic.{⊎-elim}
+use mathlib.Core.Bool.{true}
+use mathlib.Core.List.{List, [], _∷_}
+use Prim.Native.Nat.{ℕ, zero, suc, _+_, _-_, _≤_, _<_, max}
+use native.Mathlib.Decide.{ℕ-discrete}
+use native.Mathlib.Omega.{arith}
+use lib.ListN.{length, getD, drop}
+use Rattle.fixpoint.specs.Interval.{Interval, Assign}
+use Rattle.fixpoint.proofs.KnowledgeOrder.{pair-eq}
+use Rattle.semantics.specs.Area.{lineAt, pageOf, sound, topOf, conditionsOf, countOf}
+use Rattle.semantics.specs.Body.{lineBody, bodies, bodyless, largestOf, T}
+use Rattle.semantics.specs.Grade.{End, lower, upper, foldFrom, largest}
+use Rattle.semantics.specs.Page.{Line}
+use Rattle.page.specs.Places.{placeOf}
+use Rattle.page.proofs.Scanning.{linesLeft, lines-first, lines-none}
+use Rattle.page.proofs.LineNumbers.{lines-from, shape}
+use Rattle.value.specs.Table.{endOf}
+
+end-largest : (e : End) (p q : Interval) → endOf e (largest p q) ≡ max (endOf e p) (endOf e q)
+end-largest lower p q = refl
+end-largest upper p q = refl
+
+first-sum : (ps : List Interval) → largestOf (record { low = 0; high = 0 }) ps ≡ foldFrom largest (record { low = 0; high = 0 }) ps
+unfolding largestOf foldFrom
+first-sum [] = refl
+first-sum (p ∷ ps) = ap (λ (q : Interval). foldFrom largest q ps) (pair-eq (omega arith) (omega arith))
+
+end-zero : (e : End) → endOf e (record { low = 0; high = 0 }) ≡ 0
+end-zero lower = refl
+end-zero upper = refl
+
+module _ (e : End) (a : List ℕ) (ok : sound a ≡ true) (I : Assign) (c : ℕ) where
+  abbrev line : ℕ → Line
+  line k = lineAt (drop (placeOf a k) a)
+
+  -- the end of the largest of p and what the lines from number k on add
+  abbrev from : Interval → ℕ → ℕ
+  from p k = endOf e (foldFrom largest p (bodies (topOf a) I c (linesLeft a (placeOf a k) k)))
+
+  from-none : (p : Interval) (k : ℕ) → countOf a ≤ k → from p k ≡ endOf e p
+  unfolding bodies foldFrom
+  from-none p k l = rw (lines-none a (placeOf a k) k l)
+
+  from-nothing : (p : Interval) (k : ℕ) → k < countOf a → lineBody (topOf a) I c (line k) ≡ [] → from p k ≡ from p (suc k)
+  unfolding bodies
+  from-nothing p k l h = rw (lines-from a ok k l, h)
+
+  from-one : (p q : Interval) (k : ℕ) → k < countOf a → lineBody (topOf a) I c (line k) ≡ q ∷ [] → from p k ≡ from (largest p q) (suc k)
+  unfolding bodies foldFrom
+  from-one p q k l h = rw (lines-from a ok k l, h)
+
+  -- a number that no line exceeds
+  abbrev Bound : ℕ → Type 0
+  Bound b = (j : ℕ) → j < countOf a → (p : Interval) → lineBody (topOf a) I c (line j) ≡ p ∷ [] → endOf e p ≤ b
+
+  from-most : (b : ℕ) → Bound b → (m k : ℕ) → countOf a - k ≡ m → (p : Interval) → endOf e p ≤ b → from p k ≤ b
+  from-most b h zero k d p l = omega (arith, from-none p k (omega arith))
+  from-most b h (suc m) k d p l =
+      ⊎-elim (λ z. omega (arith, from-nothing p k (omega arith) z, from-most b h m (suc k) (omega arith) p l))
+      (λ z. omega (
+        arith,
+        from-one p (z .0) k (omega arith) (z .1),
+        from-most b h m (suc k) (omega arith) (largest p (z .0)) (omega (arith, end-largest e p (z .0), h k (omega arith) (z .0) (z .1))),
+      ))
+      (shape (topOf a) I c (line k))
+
+  -- the largest is no less than what it begins with, nor than what a line adds
+  from-least : (m k : ℕ) → countOf a - k ≡ m → (p : Interval) → endOf e p ≤ from p k
+  from-least zero k d p = omega (arith, from-none p k (omega arith))
+  from-least (suc m) k d p =
+      ⊎-elim (λ z. omega (arith, from-nothing p k (omega arith) z, from-least m (suc k) (omega arith) p))
+      (λ z. omega (arith, from-one p (z .0) k (omega arith) (z .1), from-least m (suc k) (omega arith) (largest p (z .0)), end-largest e p (z .0)))
+      (shape (topOf a) I c (line k))
+
+  from-has : (m k : ℕ) → countOf a - k ≡ m → (p : Interval) (j : ℕ) → k ≤ j → j < countOf a → (q : Interval) → lineBody (topOf a) I c (line j) ≡ q ∷ [] → endOf e q ≤ from p k
+  from-has zero k d p j l u q h = absurd (omega arith)
+  from-has (suc m) k d p j l u q h =
+      elim (ℕ-discrete j k) [
+        | yes z ↦ let w : lineBody (topOf a) I c (line k) ≡ q ∷ [] = rw z at h in
+            omega (arith, from-one p q k (omega arith) w, from-least m (suc k) (omega arith) (largest p q), end-largest e p q)
+        | no z ↦ ⊎-elim (λ y. omega (arith, from-nothing p k (omega arith) y, from-has m (suc k) (omega arith) p j (omega arith) u q h))
+            (λ y. omega (arith, from-one p (y .0) k (omega arith) (y .1), from-has m (suc k) (omega arith) (largest p (y .0)) j (omega arith) u q h))
+            (shape (topOf a) I c (line k))
+      ]
+
+  -- the body value begins with [0;0] and takes in all lines
+  body-from : endOf e (T (pageOf a) I c) ≡ from (record { low = 0; high = 0 }) 0
+  unfolding T pageOf bodyless placeOf
+  body-from =
+      ap (endOf e)
+      (first-sum _ ∙ ap (λ (ls : List Line). foldFrom largest (record { low = 0; high = 0 }) (bodies (topOf a) I c ls)) (sym (lines-first a)))
+
+  pub body-most : (b : ℕ) → Bound b → endOf e (T (pageOf a) I c) ≤ b
+  body-most b h = omega (arith, body-from, from-most b h (countOf a) 0 (omega arith) (record { low = 0; high = 0 }) (omega (arith, end-zero e)))
+
+  pub body-has : (j : ℕ) → j < countOf a → (p : Interval) → lineBody (topOf a) I c (line j) ≡ p ∷ [] → endOf e p ≤ endOf e (T (pageOf a) I c)
+  body-has j l p h = omega (arith, body-from, from-has (countOf a) 0 (omega arith) (record { low = 0; high = 0 }) j (omega arith) l p h)

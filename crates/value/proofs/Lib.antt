@@ -1,0 +1,8 @@
+-- an op over the numbers of literals, and a rule's end
+pub mod Folds
+pub mod RuleEnds
+-- what a line adds, and the body value as the largest over the lines
+pub mod Lines
+pub mod BodyEnds
+-- tables of one end of every literal
+pub mod Tables

@@ -1,0 +1,53 @@
+-- One end of a line's value over a table of that end, step by step: what each function requires, and what it hands back.
+-- Assumes nothing.
+use mathlib.Core.Path.{_≡_}
+use mathlib.Core.List.{List, [], _∷_, map, foldl}
+use Prim.Native.Nat.{ℕ, _+_, _*_, _-_, _≤_, _<_, min, max}
+use lib.ListN.{length, getD, take, drop}
+use Rattle.fixpoint.specs.Interval.{Interval, Assign}
+use Rattle.semantics.specs.Area.{kind, ruleKind, literalOf, lineAt, topOf, conditionsOf}
+use Rattle.semantics.specs.Body.{ruleValue, lineBody}
+use Rattle.semantics.specs.Grade.{End, Op, divided}
+use Rattle.value.specs.Table.{endOf, EndTable}
+
+-- the numbers of literals
+abbrev pub numbersOf : (values codes : List ℕ) → List ℕ
+numbersOf values codes = map (λ code. getD values code 0) codes
+
+-- every literal has a number in the table
+abbrev pub Listed : (codes values : List ℕ) → Type 0
+Listed codes values = (j : ℕ) → j < length codes → getD codes j 0 < length values
+
+-- What a fold over literals requires: each has a grade in the table, and the fold begins with one.
+pub record Foldable (top : ℕ) (codes values : List ℕ) (first : ℕ) : Type 0 where
+  pub some : 1 ≤ top
+  pub small : top ≤ 200
+  pub listed : Listed codes values
+  pub grades : (j : ℕ) → j < length codes → getD values (getD codes j 0) 0 ≤ top
+  pub start : first ≤ top
+
+-- r is what f makes of a first number and the numbers of literals, from left to right
+pub record Folded (f : ℕ → ℕ → ℕ) (codes values : List ℕ) (first r : ℕ) : Type 0 where
+  pub is : r ≡ foldl f first (numbersOf values codes)
+
+-- what each op makes of two grades
+abbrev pub excess : ℕ → ℕ → ℕ → ℕ
+excess top p q = max 0 ((p + q) - top)
+
+abbrev pub bounded : ℕ → ℕ → ℕ → ℕ
+bounded top p q = min top (p + q)
+
+abbrev pub product : End → ℕ → ℕ → ℕ → ℕ
+product e top p q = divided e (p * q) top
+
+-- r is the end e of the value of the rule at a place, for every assignment whose table it is
+pub record RuleEnd (e : End) (a values : List ℕ) (at r : ℕ) : Type 0 where
+  pub grade : r ≤ topOf a
+  pub is : (I : Assign) → EndTable e (topOf a) (conditionsOf a) I values → (op : Op) → kind (getD a (at + 1) 0) ≡ ruleKind op
+      → r ≡ endOf e (ruleValue (topOf a) I (getD a (at + 2) 0) op (map literalOf (take (getD a (at + 3) 0) (drop (at + 4) a))))
+
+-- the line at a place adds one interval p to the body of its own head, and r is the end e of it
+pub record LineEnd (e : End) (a values : List ℕ) (at r : ℕ) : Type 0 where
+  pub grade : r ≤ topOf a
+  pub is : (I : Assign) → EndTable e (topOf a) (conditionsOf a) I values
+      → (p : Interval) × (lineBody (topOf a) I (getD a at 0) (lineAt (drop at a)) ≡ p ∷ []) × (r ≡ endOf e p)
