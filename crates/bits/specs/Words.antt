@@ -10,10 +10,6 @@ use lib.ListN.{length, getD}
 abbrev pub has : List ℕ → ℕ → Bool
 has words c = eqb (getD words (c / 64) 0 / 2 ^ (c % 64) % 2) 1
 
--- every number is 0
-abbrev pub Cleared : List ℕ → Type 0
-Cleared xs = (i : ℕ) → getD xs i 0 ≡ 0
-
 -- the set with c; the set without c
 abbrev pub Inserted : ℕ → List ℕ → List ℕ → Type 0
 Inserted c words words′ = (length words′ ≡ 8) × ((k : ℕ) → k < 512 → has words′ k ≡ (has words k || eqb k c))

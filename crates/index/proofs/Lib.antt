@@ -9,3 +9,5 @@ pub mod OneEntry
 pub mod Scans
 -- beginnings and items in one slice
 pub mod Lent
+-- an index that may be missing
+pub mod Parts

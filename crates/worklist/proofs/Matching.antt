@@ -3,18 +3,20 @@ use mathlib.Core.Path.{_≡_, refl, sym, _∙_, ap}
 use mathlib.Core.Logic.{_≢_, _⊎_, inl, inr, ⊎-elim}
 use mathlib.Core.Bool.{Bool, true, false, not, _&&_, _||_, and-true, and-false, or-true, or-false, true≢false}
 use mathlib.Core.List.{List}
-use Prim.Native.Nat.{ℕ, _+_, _≤_, _<_, _/_}
+use Prim.Native.Nat.{ℕ, _+_, _*_, _≤_, _<_, _/_}
 use native.Mathlib.Decide.{ℕ-discrete}
 use native.Mathlib.Omega.{arith}
 use lib.Dec.{eqb, ltb}
-use lib.ListN.{length}
+use lib.ListN.{length, set}
 use borrow.Author.Tests.{eq-eqb, ne-eqb, lt-ltb, le-ltb, ltb-true, ltb-false, eqb-true}
 use Rattle.semantics.specs.RunArea.{markAt}
 use Rattle.semantics.proofs.Soundness.{both-true}
-use Rattle.bits.specs.Words.{has, Cleared, Inserted, Removed, LowestIn}
+use Rattle.bits.specs.Words.{has, Inserted, Removed, LowestIn}
+use Rattle.index.specs.Groups.{Cleared}
 use Rattle.bits.proofs.Sets.{word-none}
 use Rattle.worklist.specs.Cells.{Lowest}
-use Rattle.worklist.specs.Waiting.{WordsMatch}
+use Rattle.worklist.specs.Waiting.{WordsMatch, StillMatches}
+use Rattle.worklist.proofs.Stores.{mark-same, mark-other}
 
 -- a test that only matters below n
 below-cong : (k n : ℕ) {s t : Bool} → (k < n → s ≡ t) → (ltb k n && s) ≡ (ltb k n && t)
@@ -50,12 +52,6 @@ module _ {n : ℕ} {run words : List ℕ} (w : WordsMatch n run words) where
   -- and if there is none, none waits
   pub none-waits : {r : ℕ} → LowestIn words r → 512 ≤ r → n ≤ 512 → Lowest n run n
   none-waits {r} s l f = record { within = omega arith; below = λ k m. not-in-set (omega arith) m (s .below k (omega arith)); found = λ m. absurd (omega arith) }
-
-  pub any-waits : {r : ℕ} → AnyIn words r → r < 512 → (r < n) × (markAt run r ≡ 2)
-  any-waits s l = in-set l (s .found l)
-
-  pub not-any-waits : {r : ℕ} → AnyIn words r → 512 ≤ r → n ≤ 512 → (k : ℕ) → k < n → markAt run k ≢ 2
-  not-any-waits {r} s l f k m = not-in-set (omega arith) m (s .none (omega (arith, s .within)) k (omega arith))
 
   -- only who waits matters
   pub match-same : {run′ : List ℕ} → ((k : ℕ) → k < n → markAt run′ k ≡ markAt run k) → WordsMatch n run′ words
@@ -114,3 +110,14 @@ module _ (run : List ℕ) where
             | no e ↦ more k e
           ];
         }
+
+-- a match that is kept: nothing changes, one more condition waits, and one change after another
+pub still-same : (n : ℕ) (run words : List ℕ) → length words ≡ 8 → StillMatches n run words run words
+still-same n run words s = record { size = s; kept = λ w. w }
+
+pub still-inserted : {n d : ℕ} (run : List ℕ) {words words′ : List ℕ} → 3 * d + 3 ≤ length run → d < n → Inserted d words words′ → StillMatches n run words (set run (3 * d + 2) 2) words′
+still-inserted {n} {d} run long l r =
+    record { size = r .0; kept = λ w. match-inserted w r l (mark-same run d 2 long) (λ k b q. mark-other run d 2 k q) }
+
+pub still-then : {n : ℕ} {r₀ w₀ r₁ w₁ r₂ w₂ : List ℕ} → StillMatches n r₀ w₀ r₁ w₁ → StillMatches n r₁ w₁ r₂ w₂ → StillMatches n r₀ w₀ r₂ w₂
+still-then p q = record { size = q .size; kept = λ w. q .kept (p .kept w) }
