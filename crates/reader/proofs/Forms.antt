@@ -1,27 +1,26 @@
 -- The forms of the lines, by what the parser has read of them. Assumes nothing.
 use mathlib.Core.Path.{_≡_, refl, sym, _∙_, ap, subst}
-use mathlib.Core.Bool.{Bool, true, false, _&&_, _||_, false≢true}
-use mathlib.Core.List.{List, [], _∷_, map}
+use mathlib.Core.Bool.{Bool, true, false, cond, _&&_, _||_, false≢true}
+use mathlib.Core.List.{List, [], _∷_, map, map-map}
 use mathlib.Core.Logic.{_⊎_, inl, inr, ⊎-elim}
-use Prim.Native.Nat.{ℕ, suc, _+_, _*_, _≤_, _<_}
+use Prim.Native.Nat.{ℕ, suc, _+_, _≤_, _<_}
 use native.Mathlib.Omega.{arith}
-use native.Mathlib.Decide.{decLt}
-use lib.Dec.{ltb, leb}
+use lib.Dec.{leb}
 use lib.ListN.{length, getD, drop, length-drop, length-map}
-use borrow.Author.Tests.{ne-eqb, eqb-true, le-leb, lt-leb, leb-true, lt-ltb, le-ltb}
-use Rattle.semantics.specs.Grade.{Op}
-use Rattle.semantics.specs.Area.{every, allUnder, codeOf, lineCode}
-use Rattle.semantics.specs.Page.{Literal, positive, negative, Reading, Line, fact, rule, query}
-use Rattle.semantics.specs.Text.{field, isNumber, isLetter, isOp, opIn, isReading, readingIn, literalIn, allLiterals, factForm, isFact, ruleForm, isRule, queryForm, isQuery, hasForm, lineIn, literalRanges, rangeTests}
+use borrow.Author.Tests.{ne-eqb, eqb-true, le-leb, lt-leb, leb-true}
+use Rattle.semantics.specs.Area.{every, codeOf, lineCode}
+use Rattle.semantics.specs.Page.{Reading, K, W, Line, fact, rule, query}
+use Rattle.semantics.specs.Text.{field, isNumber, valueOf, isLetter, isOp, opIn, isReading, readingIn, literalIn, allLiterals, factForm, isFact, ruleForm, isRule, queryForm, isQuery, hasForm, lineIn}
 use Rattle.semantics.proofs.TestLists.{fails, passes}
+use Rattle.fields.specs.Cursor.{Within, fieldsAt, fieldAt, letterThen}
+use Rattle.fields.proofs.Tokens.{NumberLast}
+use Rattle.fields.proofs.Fields.{some-field}
+use Rattle.fields.proofs.Letters.{LetterThen, letter-absent, letter-or}
 use Rattle.reader.specs.declared.line.Entry.{Entry}
-use Rattle.reader.specs.declared.line.Entry.the-variants.{Good, Form, Range}
-use Rattle.reader.specs.Cursor.{Within, fieldsAt, fieldAt, letterThen}
+use Rattle.reader.specs.declared.line.Entry.the-variants.{Good, Form}
 use Rattle.reader.specs.Pairs.{pairTests, PairThen}
-use Rattle.reader.specs.Lines.{codeIn, Ends, Put, LinePut, EntryAt, RuleAt, ruleRange, restTests, restCodes, kindAt, readingAt}
-use Rattle.reader.proofs.Tokens.{NumberLast}
-use Rattle.reader.proofs.Fields.{some-field}
-use Rattle.reader.proofs.Letters.{LetterThen, letter-absent, letter-or, op-one, op-known, op-none, reading-one, reading-known, reading-none}
+use Rattle.reader.specs.Lines.{codeIn, Room, LineFits, Ends, Put, LinePut, EntryAt, RestAt, areLiterals, restTests, restCodes, kindAt, readingAt}
+use Rattle.reader.proofs.LetterCodes.{op-one, op-known, op-none, reading-one, reading-known, reading-none}
 
 or-false : (t : Bool) → (t || false) ≡ t
 or-false true = refl
@@ -31,10 +30,6 @@ pub and-true : (t : Bool) → (t && true) ≡ t
 and-true true = refl
 and-true false = refl
 
-map-map : (fs : List (List ℕ)) → map codeIn fs ≡ map codeOf (map literalIn fs)
-map-map [] = refl
-map-map (f ∷ fs) = ap (λ (xs : List ℕ). codeIn f ∷ xs) (map-map fs)
-
 unless : (t : Bool) → (t ≡ true → ⊥) → t ≡ false
 unless true h = absurd (h refl)
 unless false h = refl
@@ -43,15 +38,44 @@ unless false h = refl
 pub record Says (s : List ℕ) (at : ℕ) (line : Line) (next : ℕ) : Type 0 where
   pub form : hasForm (fieldsAt (drop at s)) ≡ true
   pub is : lineIn (fieldsAt (drop at s)) ≡ line
-  pub ends : Ends s at (length (lineCode line)) next
+  pub ends : Ends s at next
 
-module _ (s : List ℕ) (at top n : ℕ) {line : Line} {next : ℕ} (h : Says s at line next) where
-  pub far-entry : every (rangeTests top n line) ≡ false → (hasForm (fieldsAt (drop at s)) ≡ true) × (every (rangeTests top n (lineIn (fieldsAt (drop at s)))) ≡ false)
-  far-entry e = (h .form, rw (h .is) e)
+pub put-entry : {s : List ℕ} {at : ℕ} {line : Line} {next : ℕ} → Says s at line next → {area : List ℕ} {start : ℕ} {area′ : List ℕ} {end : ℕ}
+    → Put area start (lineCode line) area′ end → LinePut s at area start area′ next end
+put-entry h p = record { form = h .form; entry = rw (h .is) p; ends = h .ends }
 
-  pub put-entry : every (rangeTests top n line) ≡ true → {buffer : List ℕ} {start : ℕ} {buffer′ : List ℕ} {end : ℕ} → Put buffer start (lineCode line) buffer′ end → end ≤ start + 12
-      → LinePut s at top n buffer start buffer′ next end
-  put-entry e p f = record { form = h .form; ranges = rw (h .is) e; entry = rw (h .is) p; few = f; ends = rw (h .is) (h .ends) }
+-- what is read of a line, by the cases of the answer
+module _ (s : List ℕ) (at : ℕ) (area : List ℕ) (start : ℕ) (area′ : List ℕ) {r : Entry} (q : EntryAt s at area start area′ r) where
+  pub put-told : {next end : ℕ} → r ≡ Good next end → LinePut s at area start area′ next end
+  put-told e = subst (EntryAt s at area start area′) e q
+
+  pub form-told : r ≡ Form → hasForm (fieldsAt (drop at s)) ≡ false
+  form-told e = subst (EntryAt s at area start area′) e q
+
+-- how long the entry of a line is
+query-size : (r : Reading) (c : ℕ) → length (lineCode (query r c)) ≡ 4
+query-size K c = refl
+query-size W c = refl
+
+pub form-size : (fs : List (List ℕ)) → hasForm fs ≡ true → (length (lineCode (lineIn fs)) ≡ 4 + length (drop 4 fs)) × (length (drop 4 fs) ≤ 8)
+unfolding hasForm lineIn isFact isRule isQuery
+form-size fs = go (every (factForm fs)) (every (ruleForm fs)) (every (queryForm fs)) refl refl refl
+  where
+    go : (t u v : Bool) → every (factForm fs) ≡ t → every (ruleForm fs) ≡ u → every (queryForm fs) ≡ v → (t || (u || v)) ≡ true
+        → (length
+        (lineCode
+        (cond t (fact (valueOf (field fs 1)) (valueOf (field fs 2)) (valueOf (field fs 3)))
+        (cond u (rule (valueOf (field fs 1)) (valueOf (field fs 2)) (opIn (field fs 3)) (map literalIn (drop 4 fs))) (query (readingIn (field fs 1)) (valueOf (field fs 2))))))
+        ≡ 4 + length (drop 4 fs))
+        × (length (drop 4 fs) ≤ 8)
+    go true u v p q r h =
+        let l : length fs ≡ 4 = eqb-true (length fs) 4 (passes (factForm fs) 1 p) in
+        (omega (arith, length-drop 4 fs), omega (arith, length-drop 4 fs))
+    go false true v p q r h = (omega (arith, length-map (map literalIn (drop 4 fs)) codeOf, length-map (drop 4 fs) literalIn), leb-true (length (drop 4 fs)) 8 (passes (ruleForm fs) 2 q))
+    go false false true p q r h =
+        let l : length fs ≡ 3 = eqb-true (length fs) 3 (passes (queryForm fs) 1 r) in
+        (omega (arith, length-drop 4 fs, query-size (readingIn (field fs 1)) (valueOf (field fs 2))), omega (arith, length-drop 4 fs))
+    go false false false p q r h = absurd (false≢true h)
 
 -- A fact: `F`, and the fields gs.
 module _ (gs : List (List ℕ)) where
@@ -106,23 +130,8 @@ module _ (s : List ℕ) (at : ℕ) (k₀ : LetterThen s at 70) where
             ends = record {
               lines = k₀ .lines ∙ k .lines ∙ l .lines;
               ahead = omega (arith, k .ahead, l .ahead);
-              inside = l .inside;
             };
           }
-
--- The ranges of a fact.
-module _ (top n c l h : ℕ) where
-  pub fact-condition : n ≤ c → every (rangeTests top n (fact c l h)) ≡ false
-  fact-condition e = fails (rangeTests top n (fact c l h)) 0 (le-ltb c n e)
-
-  pub fact-high : top < h → every (rangeTests top n (fact c l h)) ≡ false
-  fact-high e = fails (rangeTests top n (fact c l h)) 2 (lt-leb h top e)
-
-  pub fact-low : h < l → every (rangeTests top n (fact c l h)) ≡ false
-  fact-low e = fails (rangeTests top n (fact c l h)) 3 (lt-leb l h e)
-
-  pub fact-good : c < n → h ≤ top → l ≤ h → every (rangeTests top n (fact c l h)) ≡ true
-  fact-good e f g = rw (lt-ltb c n e, le-leb l top (omega arith), le-leb h top f, le-leb l h g)
 
 -- A query: `Q`, and the fields gs.
 module _ (gs : List (List ℕ)) where
@@ -184,8 +193,7 @@ module _ (s : List ℕ) (at : ℕ) (k₀ : LetterThen s at 81) where
             is = ap lineIn query-fields ∙ query-line;
             ends = record {
               lines = k₀ .lines ∙ k .lines ∙ rw four (l .lines);
-              ahead = rw (← query-codes) (omega (arith, l .ahead));
-              inside = l .inside;
+              ahead = omega (arith, l .ahead);
             };
           }
 
@@ -215,58 +223,13 @@ no-rest gs h = go (letter-absent isOp op-one gs (op-none (letterThen gs) h))
     go (inr l) = fails (restTests gs) 0 (lt-leb 1 (length (drop 1 gs)) (omega (arith, length-drop 1 gs)))
 
 module _ (s : List ℕ) (at : ℕ) {r : ℕ} (k : LetterThen s at r) (n : kindAt r ≡ 0 → ⊥) where
-  pub rest-form : every (restTests (fieldsAt (drop at s))) ≡ (leb (length (fieldsAt (drop (at + 2) s))) 8 && allLiterals (fieldsAt (drop (at + 2) s)))
+  pub rest-form : every (restTests (fieldsAt (drop at s))) ≡ areLiterals (fieldsAt (drop (at + 2) s))
   rest-form =
       let hs = fieldsAt (drop (at + 2) s) in
       rw (k .fields, le-leb 1 (length hs) (some-field (drop (at + 2) s)), op-known r n .0, and-true (allLiterals hs))
 
   pub rest-codes : (c w : ℕ) → restCodes c w (fieldsAt (drop at s)) ≡ c ∷ kindAt r ∷ w ∷ length (fieldsAt (drop (at + 2) s)) ∷ map codeIn (fieldsAt (drop (at + 2) s))
   rest-codes c w = rw (k .fields, op-known r n .1)
-
--- the ranges of a rule
-even-below : (c n : ℕ) → ltb (2 * c) (2 * n) ≡ ltb c n
-even-below c n = go (decLt c n)
-  where
-    go : Dec (c < n) → ltb (2 * c) (2 * n) ≡ ltb c n
-    go (yes h) = rw (lt-ltb c n h, lt-ltb (2 * c) (2 * n) (omega arith))
-    go (no h) = rw (le-ltb c n (omega arith), le-ltb (2 * c) (2 * n) (omega arith))
-
-odd-below : (c n : ℕ) → ltb (2 * c + 1) (2 * n) ≡ ltb c n
-odd-below c n = go (decLt c n)
-  where
-    go : Dec (c < n) → ltb (2 * c + 1) (2 * n) ≡ ltb c n
-    go (yes h) = rw (lt-ltb c n h, lt-ltb (2 * c + 1) (2 * n) (omega arith))
-    go (no h) = rw (le-ltb c n (omega arith), le-ltb (2 * c + 1) (2 * n) (omega arith))
-
-literals-under : (n : ℕ) (lits : List Literal) → allUnder (2 * n) (map codeOf lits) ≡ every (literalRanges n lits)
-unfolding allUnder
-literals-under n [] = refl
-literals-under n (positive c ∷ lits) = rw (even-below c n, literals-under n lits)
-literals-under n (negative c ∷ lits) = rw (odd-below c n, literals-under n lits)
-
-and-four : (a b c d : Bool) → ((a && (b && c)) && d) ≡ (a && (b && (c && d)))
-and-four true true c d = refl
-and-four true false c d = refl
-and-four false b c d = refl
-
--- what `rule_range` answers
-module _ (top n c w : ℕ) where
-  pub rule-far : n ≤ c → false ≡ ruleRange top n c w
-  unfolding ruleRange
-  rule-far h = rw (le-ltb c n h)
-
-  pub rule-light : c < n → w < 1 → false ≡ ruleRange top n c w
-  unfolding ruleRange
-  rule-light h l = rw (lt-ltb c n h, lt-leb 1 w l)
-
-  pub rule-weight : c < n → 1 ≤ w → leb w top ≡ ruleRange top n c w
-  unfolding ruleRange
-  rule-weight h l = rw (lt-ltb c n h, le-leb 1 w l)
-
-rule-ranges : (top n c w : ℕ) (op : Op) (fs : List (List ℕ)) → every (rangeTests top n (rule c w op (map literalIn fs))) ≡ (ruleRange top n c w && allUnder (2 * n) (map codeIn fs))
-unfolding ruleRange
-rule-ranges top n c w op fs =
-    sym (rw (map-map fs, literals-under n (map literalIn fs)) (and-four (ltb c n) (leb 1 w) (leb w top) (every (literalRanges n (map literalIn fs)))))
 
 module _ (s : List ℕ) (at : ℕ) (k₀ : LetterThen s at 82) where
   pub no-rule-pair : every (pairTests (fieldsAt (drop (at + 2) s))) ≡ false → hasForm (fieldsAt (drop at s)) ≡ false
@@ -292,42 +255,27 @@ module _ (s : List ℕ) (at : ℕ) (k₀ : LetterThen s at 82) where
       rule-line = ap lineIn rule-fields ∙ rw (is-rule, t, k .value, k .value′)
 
       rule-codes : restCodes v w (fieldsAt (drop b s)) ≡ lineCode the-rule
-      rule-codes = let hs = drop 1 (fieldsAt (drop b s)) in rw (length-map hs literalIn, map-map hs)
+      rule-codes = let hs = drop 1 (fieldsAt (drop b s)) in rw (length-map hs literalIn, map-map codeOf literalIn hs)
 
-      a-rule : {next : ℕ} → Ends s b (length (drop 1 (fieldsAt (drop b s)))) next → Says s at the-rule next
+      a-rule : {next : ℕ} → Ends s b next → Says s at the-rule next
       a-rule e =
-          let hs = drop 1 (fieldsAt (drop b s)) in
-          let size : length (lineCode the-rule) ≡ 4 + length hs = omega (arith, ap length rule-codes, length-map hs codeIn) in
           record {
             form = has-rule ∙ t;
             is = rule-line;
             ends = record {
               lines = k₀ .lines ∙ k .lines ∙ e .lines;
-              ahead = omega (arith, size, k .ahead, e .ahead);
-              inside = e .inside;
+              ahead = omega (arith, k .ahead, e .ahead);
             };
           }
 
-    -- a rule by what stands behind its weight
-    rule-entry-of : (top n : ℕ) (buffer : List ℕ) (start : ℕ) (buffer′ : List ℕ) (r : Entry)
-        → RuleAt s b v w (ruleRange top n v w) (2 * n) buffer start buffer′ r → EntryAt s at top n buffer start buffer′ r
-    rule-entry-of top n buffer start buffer′ (Good next end) q =
-        put-entry s at top n (a-rule (q .form) (q .ends))
-        (rule-ranges top n v w (opIn (field (fieldsAt (drop b s)) 0)) (drop 1 (fieldsAt (drop b s))) ∙ q .good)
-        (rw (rule-codes (q .form)) at (q .entry))
-        (q .few)
-    rule-entry-of top n buffer start buffer′ Form q = has-rule ∙ q
-    rule-entry-of top n buffer start buffer′ Range q = (
-      has-rule ∙ q .0,
-      ap (λ (l : Line). every (rangeTests top n l)) (rule-line (q .0))
-          ∙ rule-ranges top n v w (opIn (field (fieldsAt (drop b s)) 0)) (drop 1 (fieldsAt (drop b s)))
-          ∙ q .1,
-    )
+    -- the literals have their places
+    pub rule-room : {area : List ℕ} {end : ℕ} → LineFits s at 4 area end → LineFits s b 1 area end
+    rule-room f = record { place = k .place; four = f .four; literals = rw rule-fields at (f .literals) }
 
-    pub rule-entry : (top n : ℕ) (ok : Bool) → ok ≡ ruleRange top n v w → (buffer : List ℕ) (start : ℕ) (buffer′ : List ℕ) (r : Entry)
-        → RuleAt s b v w ok (2 * n) buffer start buffer′ r → EntryAt s at top n buffer start buffer′ r
-    rule-entry top n ok o buffer start buffer′ r q =
-        rule-entry-of top n buffer start buffer′ r (subst (λ (t : Bool). RuleAt s b v w t (2 * n) buffer start buffer′ r) o q)
+    -- a rule by what stands behind its weight
+    pub rule-entry : (area : List ℕ) (start : ℕ) (area′ : List ℕ) (r : Entry) → RestAt s b v w area start area′ r → EntryAt s at area start area′ r
+    rule-entry area start area′ (Good next end) q = put-entry (a-rule (q .form) (q .ends)) (rw (rule-codes (q .form)) at (q .entry))
+    rule-entry area start area′ Form q = has-rule ∙ q
 
 -- A line that begins with none of the letters.
 no-line : (fs : List (List ℕ)) → (letterThen fs ≡ 70 → ⊥) → (letterThen fs ≡ 82 → ⊥) → (letterThen fs ≡ 81 → ⊥) → hasForm fs ≡ false
@@ -361,10 +309,3 @@ other-line s at a b d =
     ⊎-elim (λ (e : letterThen fs ≡ getD s at 10). no-line fs (λ z. a (sym e ∙ z)) (λ z. b (sym e ∙ z)) (λ z. d (sym e ∙ z)))
     (λ (e : letterThen fs ≡ 0). gone-line fs e)
     (letter-or s at)
-
--- the condition of a query
-pub query-condition : (top n c : ℕ) (r : Reading) → n ≤ c → every (rangeTests top n (query r c)) ≡ false
-query-condition top n c r h = rw (le-ltb c n h)
-
-pub query-good : (top n c : ℕ) (r : Reading) → c < n → every (rangeTests top n (query r c)) ≡ true
-query-good top n c r h = rw (lt-ltb c n h)

@@ -10,10 +10,10 @@ use borrow.Author.Tests.{ne-eqb}
 use Rattle.semantics.specs.Text.{field, isNumber, valueOf, isLetter, headForm, isHead}
 use Rattle.semantics.proofs.TestLists.{fails}
 use Rattle.reader.specs.declared.check.Head.{Head}
-use Rattle.reader.specs.Cursor.{fieldsAt, fieldAt, letterThen}
+use Rattle.fields.specs.Cursor.{fieldsAt, fieldAt, letterThen}
 use Rattle.reader.specs.Checks.{HeadAt}
-use Rattle.reader.proofs.Tokens.{NumberThen, NumberLast}
-use Rattle.reader.proofs.Letters.{LetterThen, letter-absent, letter-or}
+use Rattle.fields.proofs.Tokens.{NumberThen, NumberLast}
+use Rattle.fields.proofs.Letters.{LetterThen, letter-absent, letter-or}
 
 pub headless : (s : List ℕ) {h : Head} → h .form ≡ false → isHead (fieldsAt s) ≡ false → HeadAt s h
 headless s e n = record { form = e ∙ sym n; says = λ t. absurd (false≢true (sym e ∙ t)) }
@@ -71,7 +71,5 @@ module _ (s : List ℕ) (k : LetterThen s 0 71) where
                 top = sym (ap (λ (fs : List (List ℕ)). valueOf (field fs 1)) g ∙ t .value);
                 conditions = sym (ap (λ (fs : List (List ℕ)). valueOf (field fs 2)) g ∙ l .value);
                 lines = k .lines ∙ t .lines ∙ l .lines;
-                ahead = omega (arith, t .ahead, l .ahead);
-                inside = l .inside;
               };
         }

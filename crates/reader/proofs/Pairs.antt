@@ -10,9 +10,9 @@ use borrow.Author.Tests.{lt-leb}
 use Rattle.semantics.specs.Area.{every}
 use Rattle.semantics.specs.Text.{isNumber}
 use Rattle.semantics.proofs.TestLists.{fails}
-use Rattle.reader.specs.Cursor.{fieldsAt, fieldAt}
+use Rattle.fields.specs.Cursor.{fieldsAt, fieldAt}
 use Rattle.reader.specs.Pairs.{pairTests, PairThen}
-use Rattle.reader.proofs.Tokens.{NumberThen}
+use Rattle.fields.proofs.Tokens.{NumberThen}
 
 module _ (s : List ℕ) (at : ℕ) where
   pub no-first : (isNumber (fieldAt s at) ≡ false) ⊎ (length (fieldsAt (drop at s)) ≡ 1) → every (pairTests (fieldsAt (drop at s))) ≡ false

@@ -1,58 +1,59 @@
 -- What stands behind the condition and the weight of a rule, by what the parser has read of it. Assumes nothing.
-use mathlib.Core.Path.{_≡_, sym, _∙_, ap}
-use mathlib.Core.Bool.{Bool, true, false, _&&_}
+use mathlib.Core.Path.{_≡_, refl, sym, _∙_, ap, subst}
+use mathlib.Core.Bool.{true, false, _&&_}
 use mathlib.Core.List.{List, [], _∷_, map}
-use Prim.Native.Nat.{ℕ, _+_, _≤_}
+use Prim.Native.Nat.{ℕ, _+_, _-_, _≤_}
 use native.Mathlib.Omega.{arith}
-use lib.ListN.{length, drop, set, length-map}
+use lib.Dec.{leb}
+use lib.ListN.{length, drop, length-map}
 use lib.Seq.{sets}
-use Rattle.semantics.specs.Area.{every, allUnder}
-use Rattle.reader.specs.declared.line.Literals.{Literals}
-use Rattle.reader.specs.Cursor.{fieldsAt}
-use Rattle.reader.specs.Lines.{codeIn, Put, LiteralsAt, RulePut, restTests, kindAt}
-use Rattle.reader.proofs.Letters.{LetterThen}
+use borrow.Author.Tests.{leb-true}
+use Rattle.semantics.specs.Area.{every}
+use Rattle.semantics.specs.Text.{allLiterals}
+use Rattle.semantics.proofs.Soundness.{both-true}
+use Rattle.fields.specs.Cursor.{fieldsAt}
+use Rattle.fields.proofs.Letters.{LetterThen}
+use Rattle.reader.specs.declared.line.Entry.{Entry}
+use Rattle.reader.specs.declared.line.Entry.the-variants.{Good, Form}
+use Rattle.reader.specs.Lines.{codeIn, Put, Room, LiteralsPut, LiteralsAt, RestPut, restTests, restCodes, kindAt}
 use Rattle.reader.proofs.Forms.{rest-form, rest-codes}
-use Rattle.reader.proofs.Writes.{rule-put}
+use Rattle.reader.proofs.Writes.{sets-before}
 
-module _ (s : List ℕ) (at : ℕ) {x : ℕ} (k : LetterThen s at x) (n : kindAt x ≡ 0 → ⊥) (limit : ℕ) (ok : Bool) {l₁ : List ℕ} {start : ℕ} {l₂ : List ℕ} {r : Literals}
-    (q : LiteralsAt s (at + 2) limit l₁ start ok l₂ r) where
-  pub no-literals-rest : r .form ≡ false → every (restTests (fieldsAt (drop at s))) ≡ false
-  no-literals-rest f = rest-form s at k n ∙ sym (q .form) ∙ f
+module _ (s : List ℕ) (at : ℕ) {x : ℕ} (k : LetterThen s at x) (n : kindAt x ≡ 0 → ⊥) (area : List ℕ) (start : ℕ) where
+  -- the literals have their places
+  pub rest-room : Room area start (length (drop 1 (fieldsAt (drop at s)))) → Room area start (length (fieldsAt (drop (at + 2) s)))
+  rest-room r = rw (k .fields) at r
 
-  module _ (f : r .form ≡ true) where
-    formed : every (restTests (fieldsAt (drop at s))) ≡ true
-    formed = rest-form s at k n ∙ sym (q .form) ∙ f
+  module _ (area₁ : List ℕ) {r : Entry} (q : LiteralsAt s (at + 2) area start area₁ r) where
+    pub no-literals : r ≡ Form → every (restTests (fieldsAt (drop at s))) ≡ false
+    no-literals e = rest-form s at k n ∙ subst (LiteralsAt s (at + 2) area start area₁) e q
 
-    ranged : (ok && allUnder limit (map codeIn (drop 1 (fieldsAt (drop at s))))) ≡ r .good
-    ranged = rw (k .fields) (sym (q .says f .good))
+    module _ {next e : ℕ} (f : r ≡ Good next e) where
+      pub literals-put : LiteralsPut s (at + 2) area start area₁ next e
+      literals-put = subst (LiteralsAt s (at + 2) area start area₁) f q
 
-    pub far-rest : r .good ≡ false → (every (restTests (fieldsAt (drop at s))) ≡ true) × ((ok && allUnder limit (map codeIn (drop 1 (fieldsAt (drop at s))))) ≡ false)
-    far-rest g = (formed, ranged ∙ g)
+      pub literals-count : e - start ≡ length (fieldsAt (drop (at + 2) s))
+      literals-count = omega (arith, literals-put .codes .size, length-map (fieldsAt (drop (at + 2) s)) codeIn)
 
-    pub few-literals : r .count ≤ 8
-    few-literals = q .says f .few
-
-    module _ (l : List ℕ) (i c kd w : ℕ) {l₃ : List ℕ} (e : kd ≡ kindAt x) (room : i + 12 ≤ length l) (size : length l₂ ≡ length l) (at-start : start ≡ i + 4)
-        (e₁ : l₁ ≡ sets l i (c ∷ kd ∷ w ∷ [])) (e₃ : l₃ ≡ set l₂ (i + 3) (r .count)) where
-      entry : Put l i (c ∷ kd ∷ w ∷ r .count ∷ map codeIn (fieldsAt (drop (at + 2) s))) l₃ (i + 4 + r .count)
-      entry =
-          let y = q .says f in
-          rule-put l i c kd w (r .count) (map codeIn (fieldsAt (drop (at + 2) s))) l₁ l₂ l₃ room size (y .few)
-          (length-map (fieldsAt (drop (at + 2) s)) codeIn ∙ sym (y .count)) e₁ (rw at-start at (y .codes)) e₃
-
-      pub put-rest : r .good ≡ true → RulePut s at c w ok limit l i l₃ (r .next) (i + 4 + r .count)
-      put-rest g =
-          let y = q .says f in
+      pub literals-few : e - start ≤ 8
+      literals-few =
           let hs = fieldsAt (drop (at + 2) s) in
-          let count : length (drop 1 (fieldsAt (drop at s))) ≡ r .count = ap (λ (fs : List (List ℕ)). length (drop 1 fs)) (k .fields) ∙ sym (y .count) in
+          omega (arith, literals-count, leb-true (length hs) 8 (both-true (leb (length hs) 8) (allLiterals hs) (literals-put .form) .0))
+
+      -- the four numbers before them
+      pub rest-put : (i c w : ℕ) {kind : ℕ} {area₂ : List ℕ} → kind ≡ kindAt x → start ≡ i + 4 → area₂ ≡ sets area₁ i (c ∷ kind ∷ w ∷ (e - start) ∷ [])
+          → RestPut s at c w area i area₂ next e
+      rest-put i c w {kind} {area₂} d z a =
+          let hs = fieldsAt (drop (at + 2) s) in
+          let y = literals-put in
+          let four = c ∷ kind ∷ w ∷ (e - start) ∷ [] in
+          let codes : c ∷ kind ∷ w ∷ (e - start) ∷ map codeIn hs ≡ restCodes c w (fieldsAt (drop at s)) = rw (rest-codes s at k n c w, ← d, ← literals-count) in
+          let behind : area₁ ≡ sets area (i + length four) (map codeIn hs) = y .codes .put ∙ ap (λ (j : ℕ). sets area j (map codeIn hs)) z in
           record {
-            form = formed;
-            good = ranged ∙ g;
-            entry = rw (rest-codes s at k n c w, ← e, ← y .count) entry;
-            few = omega (arith, y .few);
-            ends = record {
-              lines = k .lines ∙ y .ends .lines;
-              ahead = omega (arith, y .ends .ahead);
-              inside = y .ends .inside;
+            form = rest-form s at k n ∙ y .form;
+            entry = record {
+              put = a ∙ ap (λ (l : List ℕ). sets l i four) behind ∙ sets-before area i four (map codeIn hs) ∙ ap (sets area i) codes;
+              size = omega (arith, y .codes .size, ap length codes, z);
             };
+            ends = record { lines = k .lines ∙ y .ends .lines; ahead = omega (arith, y .ends .ahead) };
           }

@@ -17,10 +17,10 @@ use Rattle.reader.specs.declared.check.Tally.{Tally}
 use Rattle.reader.specs.declared.check.Tally.the-variants.{Good, Bad}
 use Rattle.reader.specs.declared.check.Checked.{Checked}
 use Rattle.reader.specs.declared.check.Checked.the-variants.{Page, Refused}
-use Rattle.reader.specs.Cursor.{Within, fieldsAt, linesAfter}
-use Rattle.reader.specs.Checks.{LinesFit, TextFits, HeadAt, AllGood, Tallied, CheckedAs}
-use Rattle.reader.proofs.Places.{byte-here}
-use Rattle.reader.proofs.Forms.{and-true}
+use Rattle.fields.specs.Cursor.{Within, fieldsAt, linesAfter}
+use Rattle.fields.proofs.Places.{byte-here}
+use Rattle.reader.specs.Checks.{HeadAt, Tallied, CheckedAs}
+use Rattle.reader.proofs.Ranges.{and-true}
 
 -- What `head_in_range` answers.
 module _ (top n : ℕ) where
@@ -56,9 +56,6 @@ module _ (s : List ℕ) {h : Head} (w : HeadAt s h) where
     unfolding linesAfter
     rest = w .says e .lines
 
-    pub lines-fit : Within s 0 → (buffer : List ℕ) → TextFits s buffer → LinesFit s (h .next) buffer
-    lines-fit p buffer f = record { ended = p .ended; least = w .says e .ahead; inside = w .says e .inside; fits = f }
-
     module _ {t : Bool} (r : t ≡ every (headRanges (h .top) (h .conditions))) where
       ranged : every (headRanges (topIn (textLines s)) (conditionsIn (textLines s))) ≡ t
       ranged = sym (r ∙ rw (tops, counts))
@@ -67,9 +64,6 @@ module _ (s : List ℕ) {h : Head} (w : HeadAt s h) where
       unfolding badLineOf fieldsAt
       far-head g = rw (sym (w .form) ∙ e, ranged, g)
 
-      low-top : t ≡ true → h .top ≤ 200
-      low-top g = leb-true (h .top) 200 (passes (headRanges (h .top) (h .conditions)) 1 (sym r ∙ g))
-
       pub few-conditions : t ≡ true → h .conditions ≤ 512
       few-conditions g = leb-true (h .conditions) 512 (passes (headRanges (h .top) (h .conditions)) 3 (sym r ∙ g))
 
@@ -77,27 +71,14 @@ module _ (s : List ℕ) {h : Head} (w : HeadAt s h) where
       unfolding badLineOf fieldsAt
       good-head g = rw (sym (w .form) ∙ e, ranged, g) (rw (tops, counts, rest))
 
-      module _ (g : t ≡ true) (buffer : List ℕ) {y : Tally} (q : Tallied s (h .next) (h .top) (h .conditions) buffer y) where
-        pub accepted : {k u : ℕ} → y ≡ Good k u → CheckedAs (badLineOf (textLines s)) s buffer (Page (h .top) (h .conditions) k u)
-        accepted {k} {u} d =
-            let a : AllGood s (h .next) (h .top) (h .conditions) buffer k u = subst (Tallied s (h .next) (h .top) (h .conditions) buffer) d q in (
-              good-head g ∙ a .good,
-              record {
-                top = tops;
-                conditions = counts;
-                count = a .count ∙ ap length (sym rest);
-                used = a .used ∙ rw rest;
-                low = low-top g;
-                small = few-conditions g;
-                few = a .few;
-                short = a .short;
-                room = a .room;
-                filled = a .filled ∙ rw rest;
-              },
-            )
+      module _ (g : t ≡ true) {y : Tally} (q : Tallied s (h .next) (h .top) (h .conditions) y) where
+        pub accepted : {k u : ℕ} → y ≡ Good k u → CheckedAs (badLineOf (textLines s)) s (Page (h .top) (h .conditions) k u (h .next))
+        accepted d =
+            let a = subst (Tallied s (h .next) (h .top) (h .conditions)) d q in
+            (good-head g ∙ a .good, record { top = tops; conditions = counts; lines = rest; all = a })
 
-        pub refused : {number line : ℕ} → y ≡ Bad number line → CheckedAs (badLineOf (textLines s)) s buffer (Refused number line)
-        refused d = good-head g ∙ subst (Tallied s (h .next) (h .top) (h .conditions) buffer) d q
+        pub refused : {number line : ℕ} → y ≡ Bad number line → CheckedAs (badLineOf (textLines s)) s (Refused number line)
+        refused d = good-head g ∙ subst (Tallied s (h .next) (h .top) (h .conditions)) d q
 
 -- The text before its lines.
 module _ (s : List ℕ) where
@@ -124,5 +105,5 @@ module _ (s : List ℕ) where
           let l : length s - 1 < length s = omega arith in
           record { inside = omega arith; ended = sym (byte-here s (length s - 1) l) ∙ sym b ∙ m }
 
-      pub checked : x ≡ 10 → (buffer : List ℕ) (r : Checked) → CheckedAs (badLineOf (textLines s)) s buffer r → CheckedAs (textRefusal s) s buffer r
-      checked m buffer r q = rw (ended m) q
+      pub checked : x ≡ 10 → (r : Checked) → CheckedAs (badLineOf (textLines s)) s r → CheckedAs (textRefusal s) s r
+      checked m r q = rw (ended m) q

@@ -1,66 +1,64 @@
--- What the parser of a line hands back and puts into a buffer. Assumes nothing.
+-- What the parser of a line hands back and writes. Assumes nothing.
 use mathlib.Core.Path.{_≡_}
 use mathlib.Core.Bool.{Bool, true, false, cond, _&&_}
-use mathlib.Core.List.{List, [], _∷_, _++_, map}
-use Prim.Native.Nat.{ℕ, _+_, _≤_}
-use lib.Dec.{eqb, ltb, leb}
-use lib.ListN.{length, take, drop}
-use Rattle.semantics.specs.Area.{every, codeOf, kindOf, allUnder, lineCode}
-use Rattle.semantics.specs.Text.{textLines, field, isOp, opIn, allLiterals, literalIn, hasForm, lineIn, rangeTests}
+use mathlib.Core.List.{List, [], _∷_, map}
+use Prim.Native.Nat.{ℕ, _+_, _≤_, _<_}
+use lib.Dec.{eqb, leb}
+use lib.ListN.{length, drop}
+use lib.Seq.{sets}
+use Rattle.semantics.specs.Area.{every, codeOf, kindOf, lineCode}
+use Rattle.semantics.specs.Text.{textLines, field, isOp, opIn, allLiterals, literalIn, hasForm, lineIn}
+use Rattle.fields.specs.Cursor.{Within, fieldsAt, linesAfter}
 use Rattle.reader.specs.declared.line.Entry.{Entry}
-use Rattle.reader.specs.declared.line.Entry.the-variants.{Good, Form, Range}
-use Rattle.reader.specs.declared.line.Literals.{Literals}
-use Rattle.reader.specs.Cursor.{Within, fieldsAt, linesAfter}
+use Rattle.reader.specs.declared.line.Entry.the-variants.{Good, Form}
 
 -- the code of the literal in a field
 abbrev pub codeIn : List ℕ → ℕ
 codeIn f = codeOf (literalIn f)
 
--- a place of a text, and a place of a buffer from which the longest entry fits
-pub record LineFits (s : List ℕ) (at : ℕ) (buffer : List ℕ) (end : ℕ) : Type 0 where
+-- an area has a place, from `start` on, for each of n literals up to the eighth
+abbrev pub Room : List ℕ → ℕ → ℕ → Type 0
+Room area start n = (k : ℕ) → k < 8 → k < n → start + k < length area
+
+-- A place of a text, and a place of an area with room for the entry of the line there; the literals are the fields behind the first k.
+pub record LineFits (s : List ℕ) (at k : ℕ) (area : List ℕ) (end : ℕ) : Type 0 where
   pub place : Within s at
-  pub room : end + 12 ≤ length buffer
+  pub four : end + 4 ≤ length area
+  pub literals : Room area (end + 4) (length (drop k (fieldsAt (drop at s))))
 
--- the line at a place goes on to the place `next`, by at least n bytes
-pub record Ends (s : List ℕ) (at n next : ℕ) : Type 0 where
+-- the line at a place goes on to the place `next`, where another begins
+pub record Ends (s : List ℕ) (at next : ℕ) : Type 0 where
   pub lines : linesAfter (drop at s) ≡ textLines (drop next s)
-  pub ahead : at + n ≤ next
-  pub inside : next ≤ length s
+  pub ahead : at < next
 
--- the numbers `codes` stand in a buffer from a place up to the place `end`, behind what stood there
-pub record Put (buffer : List ℕ) (start : ℕ) (codes buffer′ : List ℕ) (end : ℕ) : Type 0 where
-  pub put : take end buffer′ ≡ take start buffer ++ codes
+-- the numbers `codes` are written to an area from `start` up to `end`, and nothing else is
+pub record Put (area : List ℕ) (start : ℕ) (codes area′ : List ℕ) (end : ℕ) : Type 0 where
+  pub put : area′ ≡ sets area start codes
   pub size : end ≡ start + length codes
 
--- the line at a place is in order, and its entry, of at most 12 numbers, is put into the buffer
-pub record LinePut (s : List ℕ) (at top n : ℕ) (buffer : List ℕ) (start : ℕ) (buffer′ : List ℕ) (next end : ℕ) : Type 0 where
+-- the line at a place has a form, and its entry is written
+pub record LinePut (s : List ℕ) (at : ℕ) (area : List ℕ) (start : ℕ) (area′ : List ℕ) (next end : ℕ) : Type 0 where
   pub form : hasForm (fieldsAt (drop at s)) ≡ true
-  pub ranges : every (rangeTests top n (lineIn (fieldsAt (drop at s)))) ≡ true
-  pub entry : Put buffer start (lineCode (lineIn (fieldsAt (drop at s)))) buffer′ end
-  pub few : end ≤ start + 12
-  pub ends : Ends s at (length (lineCode (lineIn (fieldsAt (drop at s))))) next
+  pub entry : Put area start (lineCode (lineIn (fieldsAt (drop at s)))) area′ end
+  pub ends : Ends s at next
 
-abbrev pub EntryAt : List ℕ → ℕ → ℕ → ℕ → List ℕ → ℕ → List ℕ → Entry → Type 0
-EntryAt s at top n buffer start buffer′ (Good next end) = LinePut s at top n buffer start buffer′ next end
-EntryAt s at top n buffer start buffer′ Form = hasForm (fieldsAt (drop at s)) ≡ false
-EntryAt s at top n buffer start buffer′ Range =
-    (hasForm (fieldsAt (drop at s)) ≡ true) × (every (rangeTests top n (lineIn (fieldsAt (drop at s)))) ≡ false)
+abbrev pub EntryAt : List ℕ → ℕ → List ℕ → ℕ → List ℕ → Entry → Type 0
+EntryAt s at area start area′ (Good next end) = LinePut s at area start area′ next end
+EntryAt s at area start area′ Form = hasForm (fieldsAt (drop at s)) ≡ false
 
--- the literals from a place to the end of the line: so many, their codes in the buffer, all below the limit (where `ok` holds before them)
-pub record LiteralsSay (s : List ℕ) (at limit : ℕ) (buffer : List ℕ) (start : ℕ) (ok : Bool) (buffer′ : List ℕ) (r : Literals) : Type 0 where
-  pub count : r .count ≡ length (fieldsAt (drop at s))
-  pub few : r .count ≤ 8
-  pub good : r .good ≡ (ok && allUnder limit (map codeIn (fieldsAt (drop at s))))
-  pub codes : Put buffer start (map codeIn (fieldsAt (drop at s))) buffer′ (start + r .count)
-  pub ends : Ends s at (r .count) (r .next)
+-- the fields are 1 to 8 literals
+abbrev pub areLiterals : List (List ℕ) → Bool
+areLiterals fs = leb (length fs) 8 && allLiterals fs
 
-pub record LiteralsAt (s : List ℕ) (at limit : ℕ) (buffer : List ℕ) (start : ℕ) (ok : Bool) (buffer′ : List ℕ) (r : Literals) : Type 0 where
-  pub form : r .form ≡ (leb (length (fieldsAt (drop at s))) 8 && allLiterals (fieldsAt (drop at s)))
-  pub says : r .form ≡ true → LiteralsSay s at limit buffer start ok buffer′ r
+-- the fields from a place to the end of the line are literals, and their codes are written
+pub record LiteralsPut (s : List ℕ) (at : ℕ) (area : List ℕ) (start : ℕ) (area′ : List ℕ) (next end : ℕ) : Type 0 where
+  pub form : areLiterals (fieldsAt (drop at s)) ≡ true
+  pub codes : Put area start (map codeIn (fieldsAt (drop at s))) area′ end
+  pub ends : Ends s at next
 
--- the condition and the weight of a rule are in range
-unfoldable pub ruleRange : ℕ → ℕ → ℕ → ℕ → Bool
-ruleRange top n c w = ltb c n && (leb 1 w && leb w top)
+abbrev pub LiteralsAt : List ℕ → ℕ → List ℕ → ℕ → List ℕ → Entry → Type 0
+LiteralsAt s at area start area′ (Good next end) = LiteralsPut s at area start area′ next end
+LiteralsAt s at area start area′ Form = areLiterals (fieldsAt (drop at s)) ≡ false
 
 -- the fields of a rule behind its condition and weight: an op letter and 1 to 8 literals
 abbrev pub restTests : List (List ℕ) → List Bool
@@ -70,18 +68,14 @@ restTests gs = leb 1 (length (drop 1 gs)) ∷ leb (length (drop 1 gs)) 8 ∷ isO
 abbrev pub restCodes : ℕ → ℕ → List (List ℕ) → List ℕ
 restCodes c w gs = c ∷ kindOf (opIn (field gs 0)) ∷ w ∷ length (drop 1 gs) ∷ map codeIn (drop 1 gs)
 
-pub record RulePut (s : List ℕ) (at c w : ℕ) (ok : Bool) (limit : ℕ) (buffer : List ℕ) (start : ℕ) (buffer′ : List ℕ) (next end : ℕ) : Type 0 where
+pub record RestPut (s : List ℕ) (at c w : ℕ) (area : List ℕ) (start : ℕ) (area′ : List ℕ) (next end : ℕ) : Type 0 where
   pub form : every (restTests (fieldsAt (drop at s))) ≡ true
-  pub good : (ok && allUnder limit (map codeIn (drop 1 (fieldsAt (drop at s))))) ≡ true
-  pub entry : Put buffer start (restCodes c w (fieldsAt (drop at s))) buffer′ end
-  pub few : end ≤ start + 12
-  pub ends : Ends s at (length (drop 1 (fieldsAt (drop at s)))) next
+  pub entry : Put area start (restCodes c w (fieldsAt (drop at s))) area′ end
+  pub ends : Ends s at next
 
-abbrev pub RuleAt : List ℕ → ℕ → ℕ → ℕ → Bool → ℕ → List ℕ → ℕ → List ℕ → Entry → Type 0
-RuleAt s at c w ok limit buffer start buffer′ (Good next end) = RulePut s at c w ok limit buffer start buffer′ next end
-RuleAt s at c w ok limit buffer start buffer′ Form = every (restTests (fieldsAt (drop at s))) ≡ false
-RuleAt s at c w ok limit buffer start buffer′ Range =
-    (every (restTests (fieldsAt (drop at s))) ≡ true) × ((ok && allUnder limit (map codeIn (drop 1 (fieldsAt (drop at s))))) ≡ false)
+abbrev pub RestAt : List ℕ → ℕ → ℕ → ℕ → List ℕ → ℕ → List ℕ → Entry → Type 0
+RestAt s at c w area start area′ (Good next end) = RestPut s at c w area start area′ next end
+RestAt s at c w area start area′ Form = every (restTests (fieldsAt (drop at s))) ≡ false
 
 -- the kind of a rule with an op letter, or 0 where it is none; the number of a reading letter, or 2
 unfoldable pub kindAt : ℕ → ℕ

@@ -2,11 +2,11 @@
 use mathlib.Core.Path.{_≡_}
 use mathlib.Core.Bool.{Bool, true}
 use mathlib.Core.List.{List, [], _∷_}
-use Prim.Native.Nat.{ℕ, _+_, _≤_}
+use Prim.Native.Nat.{ℕ, _<_}
 use lib.Dec.{leb}
 use lib.ListN.{length, drop}
 use Rattle.semantics.specs.Text.{field, isNumber, valueOf}
-use Rattle.reader.specs.Cursor.{Within, fieldsAt, linesAfter}
+use Rattle.fields.specs.Cursor.{Within, fieldsAt, linesAfter}
 
 -- two numbers, and another field behind them
 abbrev pub pairTests : List (List ℕ) → List Bool
@@ -22,5 +22,5 @@ pub record PairThen (s : List ℕ) (at v w e : ℕ) : Type 0 where
   pub value : valueOf f ≡ v
   pub value′ : valueOf g ≡ w
   pub lines : linesAfter (drop at s) ≡ linesAfter (drop e s)
-  pub ahead : at + 2 ≤ e
+  pub ahead : at < e
   pub place : Within s e

@@ -1,7 +1,7 @@
 -- `check_all` meets its contract, by the laws of `Texts`. Assumes nothing.
 use borrow.Author.Needs.{needs}
 use borrow.Author.Tests.{not-true, not-false}
-use Rattle.reader.proofs.Texts.{no-head, far-head, lines-fit, few-conditions, accepted, refused}
+use Rattle.reader.proofs.Texts.{no-head, far-head, few-conditions, accepted, refused}
 use Rattle.reader.proofs.check.check_all.Statement.{statement}
 use Rattle.reader.proofs.check.check_all.Tie as tie
 
@@ -9,16 +9,16 @@ parse-head-requires : tie.Need-parse-head-requires
 parse-head-requires c κs = search needs
 
 returns : tie.Need-returns
-returns c = no-head (c .before .before .before .before .before .args .bytes .now) (c .before .before .parse-head .ensures) (not-true _ (c .if1 .taken))
+returns c = no-head (c .before .before .before .before .args .bytes .now) (c .before .before .parse-head .ensures) (not-true _ (c .if1 .taken))
 
 head-in-range-requires : tie.Need-head-in-range-requires
 head-in-range-requires c κs = search needs
 
 returns-2 : tie.Need-returns-2
-returns-2 c = far-head (c .before .before .before .before .before .before .before .args .bytes .now) (c .before .before .before .before .parse-head .ensures) (not-false _ (c .before .before .if1 .left)) (c .before .head-in-range .ensures) (not-true _ (c .if2 .taken))
+returns-2 c = far-head (c .before .before .before .before .before .before .args .bytes .now) (c .before .before .before .before .parse-head .ensures) (not-false _ (c .before .before .if1 .left)) (c .before .head-in-range .ensures) (not-true _ (c .if2 .taken))
 
-read-lines-requires : tie.Need-read-lines-requires
-read-lines-requires c κs = (lines-fit (c .before .before .before .before .before .before .before .before .args .bytes .now) (c .before .before .before .before .before .parse-head .ensures) (not-false _ (c .before .before .before .if1 .left)) (c .before .before .before .before .before .before .before .before .pre .0) (c .before .before .before .before .before .before .before .before .args .buffer .now) (c .before .before .before .before .before .before .before .before .pre .1), few-conditions (c .before .before .before .before .before .before .before .before .args .bytes .now) (c .before .before .before .before .before .parse-head .ensures) (not-false _ (c .before .before .before .if1 .left)) (c .before .before .head-in-range .ensures) (not-false _ (c .before .if2 .left)))
+check-lines-requires : tie.Need-check-lines-requires
+check-lines-requires c κs = (c .before .before .before .before .before .before .pre, few-conditions (c .before .before .before .before .before .before .args .bytes .now) (c .before .before .before .before .parse-head .ensures) (not-false _ (c .before .before .if1 .left)) (c .before .head-in-range .ensures) (not-false _ (c .if2 .left)))
 
 enum-known-tally : tie.Need-enum-known-tally
 enum-known-tally c = search needs
@@ -26,17 +26,11 @@ enum-known-tally c = search needs
 enum-known-tally-2 : tie.Need-enum-known-tally-2
 enum-known-tally-2 c = search needs
 
-same-length : tie.Need-same-length
-same-length c = search needs
-
 returns-3 : tie.Need-returns-3
-returns-3 c = accepted (c .before .before .before .before .before .before .before .before .before .before .before .before .before .before .args .bytes .now) (c .before .before .before .before .before .before .before .before .before .before .before .parse-head .ensures) (not-false _ (c .before .before .before .before .before .before .before .before .before .if1 .left)) (c .before .before .before .before .before .before .before .before .head-in-range .ensures) (not-false _ (c .before .before .before .before .before .before .before .if2 .left)) _ (c .before .before .before .before .before .read-lines .ensures) (c .before .tally .given .1)
-
-same-length-2 : tie.Need-same-length-2
-same-length-2 c = search needs
+returns-3 c = accepted (c .before .before .before .before .before .before .before .before .before .before .args .bytes .now) (c .before .before .before .before .before .before .before .before .parse-head .ensures) (not-false _ (c .before .before .before .before .before .before .if1 .left)) (c .before .before .before .before .before .head-in-range .ensures) (not-false _ (c .before .before .before .before .if2 .left)) (c .before .before .before .check-lines .ensures) (c .before .tally .given .1)
 
 returns-4 : tie.Need-returns-4
-returns-4 c = refused (c .before .before .before .before .before .before .before .before .before .before .before .before .before .before .args .bytes .now) (c .before .before .before .before .before .before .before .before .before .before .before .parse-head .ensures) (not-false _ (c .before .before .before .before .before .before .before .before .before .if1 .left)) (c .before .before .before .before .before .before .before .before .head-in-range .ensures) (not-false _ (c .before .before .before .before .before .before .before .if2 .left)) _ (c .before .before .before .before .before .read-lines .ensures) (c .before .tally2 .given .1)
+returns-4 c = refused (c .before .before .before .before .before .before .before .before .before .before .args .bytes .now) (c .before .before .before .before .before .before .before .before .parse-head .ensures) (not-false _ (c .before .before .before .before .before .before .if1 .left)) (c .before .before .before .before .before .head-in-range .ensures) (not-false _ (c .before .before .before .before .if2 .left)) (c .before .before .before .check-lines .ensures) (c .before .tally2 .given .1)
 
 pub check-all-spec : {M : Type 1} → statement M
 check-all-spec =
@@ -46,10 +40,8 @@ check-all-spec =
     returns
     head-in-range-requires
     returns-2
-    read-lines-requires
+    check-lines-requires
     enum-known-tally
     enum-known-tally-2
-    same-length
     returns-3
-    same-length-2
     returns-4)

@@ -1,7 +1,7 @@
 -- `op_kind` meets its contract: the letter of each arm, computed. Assumes nothing.
 use mathlib.Core.Path.{sym, ap}
 use Rattle.reader.specs.Lines.{kindAt}
-use Rattle.reader.proofs.Letters.{kind-other}
+use Rattle.reader.proofs.LetterCodes.{kind-other}
 use Rattle.reader.proofs.line.op_kind.Statement.{statement}
 use Rattle.reader.proofs.line.op_kind.Tie as tie
 

@@ -2,17 +2,15 @@
 use borrow.Author.Needs.{needs}
 use Prim.Native.Nat.{_+_}
 use mathlib.Core.Path.{refl}
-use mathlib.Core.List.{[], _∷_}
 use native.Mathlib.Omega.{arith}
 use lib.ListN.{drop}
 use Rattle.semantics.specs.Page.{fact}
-use Rattle.reader.specs.Cursor.{fieldsAt}
+use Rattle.fields.specs.Cursor.{fieldsAt}
+use Rattle.fields.proofs.Letters.{LetterThen, letter-next, letter-here, letter-gone}
+use Rattle.fields.proofs.Tokens.{NumberThen, NumberLast, number-then, number-last, no-number-then, no-number-last, then-most, last-most, comma-class, newline-class}
 use Rattle.reader.specs.Pairs.{PairThen}
-use Rattle.reader.proofs.Letters.{LetterThen, letter-next, letter-here, letter-gone}
-use Rattle.reader.proofs.Tokens.{NumberThen, NumberLast, number-then, number-last, no-number-then, no-number-last, then-most, last-most, comma-class, newline-class}
 use Rattle.reader.proofs.Pairs.{no-first, no-second, pair-then}
-use Rattle.reader.proofs.Forms.{Says, gone-line, no-pair, no-high, a-fact, far-entry, put-entry, fact-condition, fact-high, fact-low, fact-good}
-use Rattle.reader.proofs.Writes.{put-run}
+use Rattle.reader.proofs.Forms.{Says, gone-line, no-pair, no-high, a-fact, put-entry}
 use Rattle.reader.proofs.line.parse_fact.Statement.{statement}
 use Rattle.reader.proofs.line.parse_fact.Tie as tie
 
@@ -21,16 +19,16 @@ the-letter : (c : tie.Else1) → LetterThen (c .before .before .before .before .
 the-letter c = letter-here (c .before .before .before .before .args .bytes .now) (c .before .before .before .before .args .at) (c .before .before .before .before .pre .0 .place) (c .before .before .before .before .pre .1) (λ z. omega arith) (λ z. omega arith) (λ z. omega arith) (c .if1 .left)
 
 the-condition : (c : tie.After-known-told) → NumberThen (c .before .before .before .before .before .before .before .before .args .bytes .now) (c .before .before .before .before .before .before .before .before .args .at + 2) (c .before .condition .given .0 .0) (c .before .condition .given .0 .1 .0)
-the-condition c = number-then (c .before .before .before .before .before .before .before .before .args .bytes .now) (c .before .before .before .before .before .before .before .before .args .at + 2) (the-letter (c .before .before .before .before) .place) (c .before .before .before .number-before .ensures .0) (c .before .condition .given .1)
+the-condition c = number-then (c .before .before .before .before .before .before .before .before .args .bytes .now) (c .before .before .before .before .before .before .before .before .args .at + 2) (the-letter (c .before .before .before .before) .place) (c .before .before .before .number-before .ensures) (c .before .condition .given .1)
 
 the-low : (c : tie.After-known-told2) → NumberThen (c .before .before .before .before .before .before .before .before .before .before .before .before .args .bytes .now) (c .before .before .before .before .before .condition .given .0 .1 .0) (c .before .low .given .0 .0) (c .before .low .given .0 .1 .0)
-the-low c = number-then (c .before .before .before .before .before .before .before .before .before .before .before .before .args .bytes .now) (c .before .before .before .before .before .condition .given .0 .1 .0) (the-condition (c .before .before .before .before) .place) (c .before .before .before .number-before2 .ensures .0) (c .before .low .given .1)
+the-low c = number-then (c .before .before .before .before .before .before .before .before .before .before .before .before .args .bytes .now) (c .before .before .before .before .before .condition .given .0 .1 .0) (the-condition (c .before .before .before .before) .place) (c .before .before .before .number-before2 .ensures) (c .before .low .given .1)
 
 the-pair : (c : tie.After-known-told2) → PairThen (c .before .before .before .before .before .before .before .before .before .before .before .before .args .bytes .now) (c .before .before .before .before .before .before .before .before .before .before .before .before .args .at + 2) (c .before .before .before .before .before .condition .given .0 .0) (c .before .low .given .0 .0) (c .before .low .given .0 .1 .0)
 the-pair c = pair-then (c .before .before .before .before .before .before .before .before .before .before .before .before .args .bytes .now) (c .before .before .before .before .before .before .before .before .before .before .before .before .args .at + 2) (the-condition (c .before .before .before .before)) (the-low c)
 
 the-high : (c : tie.After-known-told3) → NumberLast (c .before .before .before .before .before .before .before .before .before .before .before .before .before .before .before .before .args .bytes .now) (c .before .before .before .before .before .low .given .0 .1 .0) (c .before .high .given .0 .0) (c .before .high .given .0 .1 .0)
-the-high c = number-last (c .before .before .before .before .before .before .before .before .before .before .before .before .before .before .before .before .args .bytes .now) (c .before .before .before .before .before .low .given .0 .1 .0) (c .before .before .before .number-before3 .ensures .0) (c .before .before .before .number-before3 .ensures .1) (c .before .high .given .1)
+the-high c = number-last (c .before .before .before .before .before .before .before .before .before .before .before .before .before .before .before .before .args .bytes .now) (c .before .before .before .before .before .low .given .0 .1 .0) (c .before .before .before .number-before3 .ensures) (c .before .high .given .1)
 
 the-fact : (c : tie.After-known-told3) → Says (c .before .before .before .before .before .before .before .before .before .before .before .before .before .before .before .before .args .bytes .now) (c .before .before .before .before .before .before .before .before .before .before .before .before .before .before .before .before .args .at) (fact (c .before .before .before .before .before .before .before .before .before .condition .given .0 .0) (c .before .before .before .before .before .low .given .0 .0) (c .before .high .given .0 .0)) (c .before .high .given .0 .1 .0)
 the-fact c = a-fact (c .before .before .before .before .before .before .before .before .before .before .before .before .before .before .before .before .args .bytes .now) (c .before .before .before .before .before .before .before .before .before .before .before .before .before .before .before .before .args .at) (the-letter (c .before .before .before .before .before .before .before .before .before .before .before .before)) (the-pair (c .before .before .before .before)) (the-high c)
@@ -57,7 +55,7 @@ enum-told : tie.Need-enum-told
 enum-told c = search needs
 
 returns-2 : tie.Need-returns-2
-returns-2 c = no-pair (c .before .before .before .before .before .before .before .args .bytes .now) (c .before .before .before .before .before .before .before .args .at) (the-letter (c .before .before .before)) (no-first (c .before .before .before .before .before .before .before .args .bytes .now) (c .before .before .before .before .before .before .before .args .at + 2) (no-number-then (c .before .before .before .before .before .before .before .args .bytes .now) (c .before .before .before .before .before .before .before .args .at + 2) (c .before .before .number-before .ensures .0) (c .enum-told .given .1)))
+returns-2 c = no-pair (c .before .before .before .before .before .before .before .args .bytes .now) (c .before .before .before .before .before .before .before .args .at) (the-letter (c .before .before .before)) (no-first (c .before .before .before .before .before .before .before .args .bytes .now) (c .before .before .before .before .before .before .before .args .at + 2) (no-number-then (c .before .before .before .before .before .before .before .args .bytes .now) (c .before .before .before .before .before .before .before .args .at + 2) (c .before .before .number-before .ensures) (c .enum-told .given .1)))
 
 number-before-requires-2 : tie.Need-number-before-requires-2
 number-before-requires-2 c κs = (the-condition c .place, comma-class)
@@ -69,7 +67,7 @@ enum-told-2 : tie.Need-enum-told-2
 enum-told-2 c = search needs
 
 returns-3 : tie.Need-returns-3
-returns-3 c = no-pair (c .before .before .before .before .before .before .before .before .before .before .before .args .bytes .now) (c .before .before .before .before .before .before .before .before .before .before .before .args .at) (the-letter (c .before .before .before .before .before .before .before)) (no-second (c .before .before .before .before .before .before .before .before .before .before .before .args .bytes .now) (c .before .before .before .before .before .before .before .before .before .before .before .args .at + 2) (the-condition (c .before .before .before)) (no-number-then (c .before .before .before .before .before .before .before .before .before .before .before .args .bytes .now) (c .before .before .before .before .condition .given .0 .1 .0) (c .before .before .number-before2 .ensures .0) (c .enum-told2 .given .1)))
+returns-3 c = no-pair (c .before .before .before .before .before .before .before .before .before .before .before .args .bytes .now) (c .before .before .before .before .before .before .before .before .before .before .before .args .at) (the-letter (c .before .before .before .before .before .before .before)) (no-second (c .before .before .before .before .before .before .before .before .before .before .before .args .bytes .now) (c .before .before .before .before .before .before .before .before .before .before .before .args .at + 2) (the-condition (c .before .before .before)) (no-number-then (c .before .before .before .before .before .before .before .before .before .before .before .args .bytes .now) (c .before .before .before .before .condition .given .0 .1 .0) (c .before .before .number-before2 .ensures) (c .enum-told2 .given .1)))
 
 number-before-requires-3 : tie.Need-number-before-requires-3
 number-before-requires-3 c κs = (the-low c .place, newline-class)
@@ -81,41 +79,28 @@ enum-told-3 : tie.Need-enum-told-3
 enum-told-3 c = search needs
 
 returns-4 : tie.Need-returns-4
-returns-4 c = no-high (c .before .before .before .before .before .before .before .before .before .before .before .before .before .before .before .args .bytes .now) (c .before .before .before .before .before .before .before .before .before .before .before .before .before .before .before .args .at) (the-letter (c .before .before .before .before .before .before .before .before .before .before .before)) (the-pair (c .before .before .before)) (no-number-last (c .before .before .before .before .before .before .before .before .before .before .before .before .before .before .before .args .bytes .now) (c .before .before .before .before .low .given .0 .1 .0) (c .before .before .number-before3 .ensures .0) (c .enum-told3 .given .1))
-
-returns-5 : tie.Need-returns-5
-returns-5 c = far-entry (c .before .before .before .before .before .before .before .before .before .before .before .before .before .before .before .before .before .args .bytes .now) (c .before .before .before .before .before .before .before .before .before .before .before .before .before .before .before .before .before .args .at) (c .before .before .before .before .before .before .before .before .before .before .before .before .before .before .before .before .before .args .top) (c .before .before .before .before .before .before .before .before .before .before .before .before .before .before .before .before .before .args .conditions) (the-fact (c .before)) (fact-condition (c .before .before .before .before .before .before .before .before .before .before .before .before .before .before .before .before .before .args .top) (c .before .before .before .before .before .before .before .before .before .before .before .before .before .before .before .before .before .args .conditions) (c .before .before .before .before .before .before .before .before .before .before .condition .given .0 .0) (c .before .before .before .before .before .before .low .given .0 .0) (c .before .before .high .given .0 .0) (c .if2 .taken))
-
-returns-6 : tie.Need-returns-6
-returns-6 c = far-entry (c .before .before .before .before .before .before .before .before .before .before .before .before .before .before .before .before .before .before .args .bytes .now) (c .before .before .before .before .before .before .before .before .before .before .before .before .before .before .before .before .before .before .args .at) (c .before .before .before .before .before .before .before .before .before .before .before .before .before .before .before .before .before .before .args .top) (c .before .before .before .before .before .before .before .before .before .before .before .before .before .before .before .before .before .before .args .conditions) (the-fact (c .before .before)) (fact-high (c .before .before .before .before .before .before .before .before .before .before .before .before .before .before .before .before .before .before .args .top) (c .before .before .before .before .before .before .before .before .before .before .before .before .before .before .before .before .before .before .args .conditions) (c .before .before .before .before .before .before .before .before .before .before .before .condition .given .0 .0) (c .before .before .before .before .before .before .before .low .given .0 .0) (c .before .before .before .high .given .0 .0) (c .if3 .taken))
-
-returns-7 : tie.Need-returns-7
-returns-7 c = far-entry (c .before .before .before .before .before .before .before .before .before .before .before .before .before .before .before .before .before .before .before .args .bytes .now) (c .before .before .before .before .before .before .before .before .before .before .before .before .before .before .before .before .before .before .before .args .at) (c .before .before .before .before .before .before .before .before .before .before .before .before .before .before .before .before .before .before .before .args .top) (c .before .before .before .before .before .before .before .before .before .before .before .before .before .before .before .before .before .before .before .args .conditions) (the-fact (c .before .before .before)) (fact-low (c .before .before .before .before .before .before .before .before .before .before .before .before .before .before .before .before .before .before .before .args .top) (c .before .before .before .before .before .before .before .before .before .before .before .before .before .before .before .before .before .before .before .args .conditions) (c .before .before .before .before .before .before .before .before .before .before .before .before .condition .given .0 .0) (c .before .before .before .before .before .before .before .before .low .given .0 .0) (c .before .before .before .before .high .given .0 .0) (c .if4 .taken))
+returns-4 c = no-high (c .before .before .before .before .before .before .before .before .before .before .before .before .before .before .before .args .bytes .now) (c .before .before .before .before .before .before .before .before .before .before .before .before .before .before .before .args .at) (the-letter (c .before .before .before .before .before .before .before .before .before .before .before)) (the-pair (c .before .before .before)) (no-number-last (c .before .before .before .before .before .before .before .before .before .before .before .before .before .before .before .args .bytes .now) (c .before .before .before .before .low .given .0 .1 .0) (c .before .before .number-before3 .ensures) (c .enum-told3 .given .1))
 
 cast-put-four : tie.Need-cast-put-four
-cast-put-four c = omega (arith, then-most (the-condition (c .before .before .before .before .before .before .before .before .before .before .before .before)))
+cast-put-four c = omega (arith, then-most (the-condition (c .before .before .before .before .before .before .before .before .before)))
 
 cast-put-four-2 : tie.Need-cast-put-four-2
-cast-put-four-2 c = omega (arith, then-most (the-low (c .before .before .before .before .before .before .before .before)))
+cast-put-four-2 c = omega (arith, then-most (the-low (c .before .before .before .before .before)))
 
 cast-put-four-3 : tie.Need-cast-put-four-3
-cast-put-four-3 c = omega (arith, last-most (the-high (c .before .before .before .before)))
+cast-put-four-3 c = omega (arith, last-most (the-high (c .before)))
 
 put-four-requires : tie.Need-put-four-requires
-put-four-requires c κs = search needs
+put-four-requires c κs = omega (arith, c .before .before .before .before .before .before .before .before .before .before .before .before .before .before .before .before .before .pre .0 .four)
 
-add-t13 : tie.Need-add-t13
-add-t13 c = omega (arith, (c .before .before .before .before .before .before .before .before .before .before .before .before .before .before .before .before .before .before .before .before .before .before .before .pre) .0 .room, (c .before .before .before .before .before .before .before .before .before .before .before .before .before .before .before .before .before .before .before .before .before .before .before .good))
+add-t11 : tie.Need-add-t11
+add-t11 c = omega (arith, c .before .before .before .before .before .before .before .before .before .before .before .before .before .before .before .before .before .before .before .before .pre .0 .four, c .before .before .before .before .before .before .before .before .before .before .before .before .before .before .before .before .before .before .before .before .good)
 
 same-length : tie.Need-same-length
 same-length c = search needs
 
-returns-8 : tie.Need-returns-8
-returns-8 c =
-    put-entry (c .before .before .before .before .before .before .before .before .before .before .before .before .before .before .before .before .before .before .before .before .before .before .before .args .bytes .now) (c .before .before .before .before .before .before .before .before .before .before .before .before .before .before .before .before .before .before .before .before .before .before .before .args .at) (c .before .before .before .before .before .before .before .before .before .before .before .before .before .before .before .before .before .before .before .before .before .before .before .args .top) (c .before .before .before .before .before .before .before .before .before .before .before .before .before .before .before .before .before .before .before .before .before .before .before .args .conditions) (the-fact (c .before .before .before .before .before .before .before))
-    (fact-good (c .before .before .before .before .before .before .before .before .before .before .before .before .before .before .before .before .before .before .before .before .before .before .before .args .top) (c .before .before .before .before .before .before .before .before .before .before .before .before .before .before .before .before .before .before .before .before .before .before .before .args .conditions) (c .before .before .before .before .before .before .before .before .before .before .before .before .before .before .before .before .condition .given .0 .0) (c .before .before .before .before .before .before .before .before .before .before .before .before .low .given .0 .0) (c .before .before .before .before .before .before .before .before .high .given .0 .0) (c .before .before .before .before .before .before .if2 .left) (c .before .before .before .before .before .if3 .left) (c .before .before .before .before .if4 .left))
-    (put-run (c .before .before .before .before .before .before .before .before .before .before .before .before .before .before .before .before .before .before .before .before .before .before .before .args .buffer .now) (c .before .before .before .before .before .before .before .before .before .before .before .before .before .before .before .before .before .before .before .before .before .before .before .args .end) (c .before .before .before .before .before .before .before .before .before .before .before .before .before .before .before .before .condition .given .0 .0 ∷ 0 ∷ (c .before .before .before .before .before .before .before .before .before .before .before .before .low) .given .0 .0 ∷ (c .before .before .before .before .before .before .before .before .high) .given .0 .0 ∷ []) (omega (arith, (c .before .before .before .before .before .before .before .before .before .before .before .before .before .before .before .before .before .before .before .before .before .before .before .pre) .0 .room)) (c .before .before .put-four .ensures) refl)
-    (omega arith)
+returns-5 : tie.Need-returns-5
+returns-5 c = put-entry (the-fact (c .before .before .before .before)) (record { put = c .before .before .put-four .ensures; size = refl })
 
 pub parse-fact-spec : {M : Type 1} → statement M
 parse-fact-spec =
@@ -137,13 +122,10 @@ parse-fact-spec =
     enum-known-high
     enum-told-3
     returns-4
-    returns-5
-    returns-6
-    returns-7
     cast-put-four
     cast-put-four-2
     cast-put-four-3
     put-four-requires
-    add-t13
+    add-t11
     same-length
-    returns-8)
+    returns-5)

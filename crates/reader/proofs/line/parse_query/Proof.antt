@@ -2,22 +2,23 @@
 use borrow.Author.Needs.{needs}
 use Prim.Native.Nat.{ℕ, _+_}
 use mathlib.Core.Path.{_≡_, refl, sym, _∙_, ap}
-use mathlib.Core.List.{[], _∷_}
+use mathlib.Core.List.{List, [], _∷_}
 use native.Mathlib.Omega.{arith}
-use lib.ListN.{getD, drop}
+use lib.ListN.{length, getD, drop}
+use lib.Seq.{sets}
 use Rattle.semantics.specs.Page.{query}
 use Rattle.semantics.specs.Text.{readingIn}
-use Rattle.reader.specs.Cursor.{Within, fieldsAt}
+use Rattle.fields.specs.Cursor.{Within, fieldsAt}
+use Rattle.fields.proofs.Places.{byte-here}
+use Rattle.fields.proofs.Letters.{LetterThen, letter-next, letter-here, letter-gone}
+use Rattle.fields.proofs.Tokens.{NumberLast, number-last, no-number-last, last-most, newline-class}
 use Rattle.reader.specs.Lines.{readingAt}
-use Rattle.reader.proofs.Places.{byte-here}
-use Rattle.reader.proofs.Letters.{LetterThen, letter-next, letter-here, letter-gone, reading-comma, reading-newline, reading-zero, zero-reading, none-reading}
-use Rattle.reader.proofs.Tokens.{NumberLast, number-last, no-number-last, last-most, newline-class}
-use Rattle.reader.proofs.Forms.{Says, gone-line, no-reading-letter, query-place, no-query, query-codes, a-query, far-entry, put-entry, query-condition, query-good}
-use Rattle.reader.proofs.Writes.{put-run}
+use Rattle.reader.proofs.LetterCodes.{reading-comma, reading-newline, reading-zero, zero-reading, none-reading}
+use Rattle.reader.proofs.Forms.{Says, gone-line, no-reading-letter, query-place, no-query, query-codes, a-query, put-entry}
 use Rattle.reader.proofs.line.parse_query.Statement.{statement}
 use Rattle.reader.proofs.line.parse_query.Tie as tie
 
--- the letter of the line, the letter of the reading, the condition, and what the line says
+-- the letter, the reading, the condition, and what the line says
 the-letter : (c : tie.Else1) → LetterThen (c .before .before .before .before .args .bytes .now) (c .before .before .before .before .args .at) 81
 the-letter c = letter-here (c .before .before .before .before .args .bytes .now) (c .before .before .before .before .args .at) (c .before .before .before .before .pre .0 .place) (c .before .before .before .before .pre .1) (λ z. omega arith) (λ z. omega arith) (λ z. omega arith) (c .if1 .left)
 
@@ -25,7 +26,7 @@ byte-two : (c : tie.Else1) → getD (c .before .before .before .before .args .by
 byte-two c = byte-here (c .before .before .before .before .args .bytes .now) (c .before .before .before .before .args .at + 2) (the-letter c .place .inside)
 
 a-reading : (c : tie.Else2) → readingAt (getD (c .before .before .before .before .before .before .before .args .bytes .now) (c .before .before .before .before .before .before .before .args .at + 2) 0) ≡ 2 → ⊥
-a-reading c e = (c .if2) .left (c .before .reading-code .ensures ∙ e)
+a-reading c e = c .if2 .left (c .before .reading-code .ensures ∙ e)
 
 reading-next : (c : tie.Else2) → Within (c .before .before .before .before .before .before .before .args .bytes .now) (c .before .before .before .before .before .before .before .args .at + 2 + 1)
 reading-next c =
@@ -40,10 +41,10 @@ the-reading c =
     let r = getD (c .before .before .before .before .before .before .before .before .before .args .bytes .now) (c .before .before .before .before .before .before .before .before .before .args .at + 2) 0 in
     let n = a-reading (c .before .before) in
     letter-here (c .before .before .before .before .before .before .before .before .before .args .bytes .now) (c .before .before .before .before .before .before .before .before .before .args .at + 2) (the-letter (c .before .before .before .before .before) .place) (sym (byte-two (c .before .before .before .before .before))) (reading-comma r n) (reading-newline r n) (reading-zero r n)
-    (ap (λ (i : ℕ). getD (c .before .before .before .before .before .before .before .before .before .args .bytes .now) i 0) (three (c .before .before .before .before .before .before .before .before .before .args .at)) ∙ (c .if3) .left)
+    (ap (λ (i : ℕ). getD (c .before .before .before .before .before .before .before .before .before .args .bytes .now) i 0) (three (c .before .before .before .before .before .before .before .before .before .args .at)) ∙ c .if3 .left)
 
 the-condition : (c : tie.After-known-told) → NumberLast (c .before .before .before .before .before .before .before .before .before .before .before .before .before .args .bytes .now) (c .before .before .before .before .before .before .before .before .before .before .before .before .before .args .at + 4) (c .before .condition .given .0 .0) (c .before .condition .given .0 .1 .0)
-the-condition c = number-last (c .before .before .before .before .before .before .before .before .before .before .before .before .before .args .bytes .now) (c .before .before .before .before .before .before .before .before .before .before .before .before .before .args .at + 4) (c .before .before .before .number-before .ensures .0) (c .before .before .before .number-before .ensures .1) (c .before .condition .given .1)
+the-condition c = number-last (c .before .before .before .before .before .before .before .before .before .before .before .before .before .args .bytes .now) (c .before .before .before .before .before .before .before .before .before .before .before .before .before .args .at + 4) (c .before .before .before .number-before .ensures) (c .before .condition .given .1)
 
 the-query : (c : tie.After-known-told) → Says (c .before .before .before .before .before .before .before .before .before .before .before .before .before .args .bytes .now) (c .before .before .before .before .before .before .before .before .before .before .before .before .before .args .at) (query (readingIn (getD (c .before .before .before .before .before .before .before .before .before .before .before .before .before .args .bytes .now) (c .before .before .before .before .before .before .before .before .before .before .before .before .before .args .at + 2) 0 ∷ [])) (c .before .condition .given .0 .0)) (c .before .condition .given .0 .1 .0)
 the-query c = a-query (c .before .before .before .before .before .before .before .before .before .before .before .before .before .args .bytes .now) (c .before .before .before .before .before .before .before .before .before .before .before .before .before .args .at) (the-letter (c .before .before .before .before .before .before .before .before .before)) (the-reading (c .before .before .before .before)) (a-reading (c .before .before .before .before .before .before)) (the-condition c)
@@ -69,7 +70,7 @@ reading-code-requires c κs = search needs
 returns-2 : tie.Need-returns-2
 returns-2 c =
     no-reading-letter (c .before .before .before .before .before .before .before .args .bytes .now) (c .before .before .before .before .before .before .before .args .at) (the-letter (c .before .before .before))
-    (none-reading (c .before .before .before .before .before .before .before .args .bytes .now) (c .before .before .before .before .before .before .before .args .at + 2) (ap readingAt (sym (byte-two (c .before .before .before))) ∙ sym (c .before .reading-code .ensures) ∙ (c .if2) .taken))
+    (none-reading (c .before .before .before .before .before .before .before .args .bytes .now) (c .before .before .before .before .before .before .before .args .at + 2) (ap readingAt (sym (byte-two (c .before .before .before))) ∙ sym (c .before .reading-code .ensures) ∙ c .if2 .taken))
 
 add-if3 : tie.Need-add-if3
 add-if3 c = search needs
@@ -84,7 +85,7 @@ returns-3 c =
     no-reading-letter (c .before .before .before .before .before .before .before .before .before .args .bytes .now) (c .before .before .before .before .before .before .before .before .before .args .at) (the-letter (c .before .before .before .before .before))
     (zero-reading
     (letter-gone (c .before .before .before .before .before .before .before .before .before .args .bytes .now) (c .before .before .before .before .before .before .before .before .before .args .at + 2) (the-letter (c .before .before .before .before .before) .place) (sym (byte-two (c .before .before .before .before .before))) (reading-comma r n) (reading-newline r n)
-    (λ z. (c .if3) .taken (ap (λ (i : ℕ). getD (c .before .before .before .before .before .before .before .before .before .args .bytes .now) i 0) (sym (three (c .before .before .before .before .before .before .before .before .before .args .at))) ∙ z))))
+    (λ z. c .if3 .taken (ap (λ (i : ℕ). getD (c .before .before .before .before .before .before .before .before .before .args .bytes .now) i 0) (sym (three (c .before .before .before .before .before .before .before .before .before .args .at))) ∙ z))))
 
 add-number-before : tie.Need-add-number-before
 add-number-before c = search needs
@@ -99,33 +100,27 @@ enum-told : tie.Need-enum-told
 enum-told c = search needs
 
 returns-4 : tie.Need-returns-4
-returns-4 c = no-query (c .before .before .before .before .before .before .before .before .before .before .before .before .args .bytes .now) (c .before .before .before .before .before .before .before .before .before .before .before .before .args .at) (the-letter (c .before .before .before .before .before .before .before .before)) (the-reading (c .before .before .before)) (no-number-last (c .before .before .before .before .before .before .before .before .before .before .before .before .args .bytes .now) (c .before .before .before .before .before .before .before .before .before .before .before .before .args .at + 4) (c .before .before .number-before .ensures .0) (c .enum-told .given .1))
-
-returns-5 : tie.Need-returns-5
-returns-5 c = far-entry (c .before .before .before .before .before .before .before .before .before .before .before .before .before .before .args .bytes .now) (c .before .before .before .before .before .before .before .before .before .before .before .before .before .before .args .at) (c .before .before .before .before .before .before .before .before .before .before .before .before .before .before .args .top) (c .before .before .before .before .before .before .before .before .before .before .before .before .before .before .args .conditions) (the-query (c .before)) (query-condition (c .before .before .before .before .before .before .before .before .before .before .before .before .before .before .args .top) (c .before .before .before .before .before .before .before .before .before .before .before .before .before .before .args .conditions) (c .before .before .condition .given .0 .0) (readingIn (getD (c .before .before .before .before .before .before .before .before .before .before .before .before .before .before .args .bytes .now) (c .before .before .before .before .before .before .before .before .before .before .before .before .before .before .args .at + 2) 0 ∷ [])) (c .if4 .taken))
+returns-4 c = no-query (c .before .before .before .before .before .before .before .before .before .before .before .before .args .bytes .now) (c .before .before .before .before .before .before .before .before .before .before .before .before .args .at) (the-letter (c .before .before .before .before .before .before .before .before)) (the-reading (c .before .before .before)) (no-number-last (c .before .before .before .before .before .before .before .before .before .before .before .before .args .bytes .now) (c .before .before .before .before .before .before .before .before .before .before .before .before .args .at + 4) (c .before .before .number-before .ensures) (c .enum-told .given .1))
 
 cast-put-four : tie.Need-cast-put-four
-cast-put-four c = omega (arith, last-most (the-condition (c .before .before)))
+cast-put-four c = omega (arith, last-most (the-condition (c .before)))
 
 put-four-requires : tie.Need-put-four-requires
-put-four-requires c κs = search needs
+put-four-requires c κs = omega (arith, c .before .before .before .before .before .before .before .before .before .before .before .before .before .before .pre .0 .four)
 
-add-t10 : tie.Need-add-t10
-add-t10 c = search needs
+add-t8 : tie.Need-add-t8
+add-t8 c = omega (arith, c .before .before .before .before .before .before .before .before .before .before .before .before .before .before .before .before .before .pre .0 .four, c .before .before .before .before .before .before .before .before .before .before .before .before .before .before .before .before .before .good)
 
 same-length : tie.Need-same-length
 same-length c = search needs
 
-returns-6 : tie.Need-returns-6
-returns-6 c =
-    let r = getD (c .before .before .before .before .before .before .before .before .before .before .before .before .before .before .before .before .before .before .args .bytes .now) (c .before .before .before .before .before .before .before .before .before .before .before .before .before .before .before .before .before .before .args .at + 2) 0 in
-    let v = (c .before .before .before .before .before .before .condition) .given .0 .0 in
-    let codes : v ∷ 6 ∷ (c .before .before .before .before .before .before .before .before .before .before .before .before .reading-code) .result ∷ 0 ∷ [] ≡ v ∷ 6 ∷ readingAt r ∷ 0 ∷ [] = ap (λ (x : ℕ). v ∷ 6 ∷ x ∷ 0 ∷ []) (c .before .before .before .before .before .before .before .before .before .before .before .before .reading-code .ensures) in
-    let same = codes ∙ query-codes (c .before .before .before .before .before .before .before .before .before .before .before .before .before .before .before .before .before .before .args .bytes .now) (c .before .before .before .before .before .before .before .before .before .before .before .before .before .before .before .before .before .before .args .at) (the-letter (c .before .before .before .before .before .before .before .before .before .before .before .before .before .before)) (the-reading (c .before .before .before .before .before .before .before .before .before)) (a-reading (c .before .before .before .before .before .before .before .before .before .before .before)) (the-condition (c .before .before .before .before .before)) in
-    put-entry (c .before .before .before .before .before .before .before .before .before .before .before .before .before .before .before .before .before .before .args .bytes .now) (c .before .before .before .before .before .before .before .before .before .before .before .before .before .before .before .before .before .before .args .at) (c .before .before .before .before .before .before .before .before .before .before .before .before .before .before .before .before .before .before .args .top) (c .before .before .before .before .before .before .before .before .before .before .before .before .before .before .before .before .before .before .args .conditions) (the-query (c .before .before .before .before .before))
-    (query-good (c .before .before .before .before .before .before .before .before .before .before .before .before .before .before .before .before .before .before .args .top) (c .before .before .before .before .before .before .before .before .before .before .before .before .before .before .before .before .before .before .args .conditions) v (readingIn (r ∷ [])) (c .before .before .before .before .if4 .left))
-    (rw same at (put-run (c .before .before .before .before .before .before .before .before .before .before .before .before .before .before .before .before .before .before .args .buffer .now) (c .before .before .before .before .before .before .before .before .before .before .before .before .before .before .before .before .before .before .args .end) (v ∷ 6 ∷ (c .before .before .before .before .before .before .before .before .before .before .before .before .reading-code) .result ∷ 0 ∷ []) (omega (arith, (c .before .before .before .before .before .before .before .before .before .before .before .before .before .before .before .before .before .before .pre) .0 .room)) (c .before .before .put-four .ensures) refl))
-    (omega arith)
+returns-5 : tie.Need-returns-5
+returns-5 c =
+    let a = c .before .before .before .before .before .before .before .before .before .before .before .before .before .before .before .before .before .args in
+    let r = getD (a .bytes .now) (a .at + 2) 0 in
+    let v = c .before .before .before .before .before .condition .given .0 .0 in
+    let codes = ap (λ (x : ℕ). v ∷ 6 ∷ x ∷ 0 ∷ []) (c .before .before .before .before .before .before .before .before .before .before .before .reading-code .ensures) ∙ query-codes (a .bytes .now) (a .at) (the-letter (c .before .before .before .before .before .before .before .before .before .before .before .before .before)) (the-reading (c .before .before .before .before .before .before .before .before)) (a-reading (c .before .before .before .before .before .before .before .before .before .before)) (the-condition (c .before .before .before .before)) in
+    put-entry (the-query (c .before .before .before .before)) (record { put = c .before .before .put-four .ensures ∙ ap (sets (a .area .now) (a .end)) codes; size = ap (λ (l : List ℕ). a .end + length l) codes })
 
 pub parse-query-spec : {M : Type 1} → statement M
 parse-query-spec =
@@ -146,9 +141,8 @@ parse-query-spec =
     enum-known-condition
     enum-told
     returns-4
-    returns-5
     cast-put-four
     put-four-requires
-    add-t10
+    add-t8
     same-length
-    returns-6)
+    returns-5)

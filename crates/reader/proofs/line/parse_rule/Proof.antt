@@ -3,12 +3,12 @@ use borrow.Author.Needs.{needs}
 use Prim.Native.Nat.{_+_}
 use native.Mathlib.Omega.{arith}
 use lib.ListN.{drop}
-use Rattle.reader.specs.Cursor.{fieldsAt}
+use Rattle.fields.specs.Cursor.{fieldsAt}
+use Rattle.fields.proofs.Letters.{LetterThen, letter-next, letter-here, letter-gone}
+use Rattle.fields.proofs.Tokens.{NumberThen, number-then, no-number-then, then-most, comma-class}
 use Rattle.reader.specs.Pairs.{PairThen}
-use Rattle.reader.proofs.Letters.{LetterThen, letter-next, letter-here, letter-gone}
-use Rattle.reader.proofs.Tokens.{NumberThen, number-then, no-number-then, then-most, comma-class}
 use Rattle.reader.proofs.Pairs.{no-first, no-second, pair-then}
-use Rattle.reader.proofs.Forms.{gone-line, no-rule-pair, rule-entry}
+use Rattle.reader.proofs.Forms.{gone-line, no-rule-pair, rule-room, rule-entry}
 use Rattle.reader.proofs.line.parse_rule.Statement.{statement}
 use Rattle.reader.proofs.line.parse_rule.Tie as tie
 
@@ -17,10 +17,10 @@ the-letter : (c : tie.Else1) → LetterThen (c .before .before .before .before .
 the-letter c = letter-here (c .before .before .before .before .args .bytes .now) (c .before .before .before .before .args .at) (c .before .before .before .before .pre .0 .place) (c .before .before .before .before .pre .1) (λ z. omega arith) (λ z. omega arith) (λ z. omega arith) (c .if1 .left)
 
 the-condition : (c : tie.After-known-told) → NumberThen (c .before .before .before .before .before .before .before .before .args .bytes .now) (c .before .before .before .before .before .before .before .before .args .at + 2) (c .before .condition .given .0 .0) (c .before .condition .given .0 .1 .0)
-the-condition c = number-then (c .before .before .before .before .before .before .before .before .args .bytes .now) (c .before .before .before .before .before .before .before .before .args .at + 2) (the-letter (c .before .before .before .before) .place) (c .before .before .before .number-before .ensures .0) (c .before .condition .given .1)
+the-condition c = number-then (c .before .before .before .before .before .before .before .before .args .bytes .now) (c .before .before .before .before .before .before .before .before .args .at + 2) (the-letter (c .before .before .before .before) .place) (c .before .before .before .number-before .ensures) (c .before .condition .given .1)
 
 the-weight : (c : tie.After-known-told2) → NumberThen (c .before .before .before .before .before .before .before .before .before .before .before .before .args .bytes .now) (c .before .before .before .before .before .condition .given .0 .1 .0) (c .before .weight .given .0 .0) (c .before .weight .given .0 .1 .0)
-the-weight c = number-then (c .before .before .before .before .before .before .before .before .before .before .before .before .args .bytes .now) (c .before .before .before .before .before .condition .given .0 .1 .0) (the-condition (c .before .before .before .before) .place) (c .before .before .before .number-before2 .ensures .0) (c .before .weight .given .1)
+the-weight c = number-then (c .before .before .before .before .before .before .before .before .before .before .before .before .args .bytes .now) (c .before .before .before .before .before .condition .given .0 .1 .0) (the-condition (c .before .before .before .before) .place) (c .before .before .before .number-before2 .ensures) (c .before .weight .given .1)
 
 the-pair : (c : tie.After-known-told2) → PairThen (c .before .before .before .before .before .before .before .before .before .before .before .before .args .bytes .now) (c .before .before .before .before .before .before .before .before .before .before .before .before .args .at + 2) (c .before .before .before .before .before .condition .given .0 .0) (c .before .weight .given .0 .0) (c .before .weight .given .0 .1 .0)
 the-pair c = pair-then (c .before .before .before .before .before .before .before .before .before .before .before .before .args .bytes .now) (c .before .before .before .before .before .before .before .before .before .before .before .before .args .at + 2) (the-condition (c .before .before .before .before)) (the-weight c)
@@ -47,7 +47,7 @@ enum-told : tie.Need-enum-told
 enum-told c = search needs
 
 returns-2 : tie.Need-returns-2
-returns-2 c = no-rule-pair (c .before .before .before .before .before .before .before .args .bytes .now) (c .before .before .before .before .before .before .before .args .at) (the-letter (c .before .before .before)) (no-first (c .before .before .before .before .before .before .before .args .bytes .now) (c .before .before .before .before .before .before .before .args .at + 2) (no-number-then (c .before .before .before .before .before .before .before .args .bytes .now) (c .before .before .before .before .before .before .before .args .at + 2) (c .before .before .number-before .ensures .0) (c .enum-told .given .1)))
+returns-2 c = no-rule-pair (c .before .before .before .before .before .before .before .args .bytes .now) (c .before .before .before .before .before .before .before .args .at) (the-letter (c .before .before .before)) (no-first (c .before .before .before .before .before .before .before .args .bytes .now) (c .before .before .before .before .before .before .before .args .at + 2) (no-number-then (c .before .before .before .before .before .before .before .args .bytes .now) (c .before .before .before .before .before .before .before .args .at + 2) (c .before .before .number-before .ensures) (c .enum-told .given .1)))
 
 number-before-requires-2 : tie.Need-number-before-requires-2
 number-before-requires-2 c κs = (the-condition c .place, comma-class)
@@ -59,24 +59,22 @@ enum-told-2 : tie.Need-enum-told-2
 enum-told-2 c = search needs
 
 returns-3 : tie.Need-returns-3
-returns-3 c = no-rule-pair (c .before .before .before .before .before .before .before .before .before .before .before .args .bytes .now) (c .before .before .before .before .before .before .before .before .before .before .before .args .at) (the-letter (c .before .before .before .before .before .before .before)) (no-second (c .before .before .before .before .before .before .before .before .before .before .before .args .bytes .now) (c .before .before .before .before .before .before .before .before .before .before .before .args .at + 2) (the-condition (c .before .before .before)) (no-number-then (c .before .before .before .before .before .before .before .before .before .before .before .args .bytes .now) (c .before .before .before .before .condition .given .0 .1 .0) (c .before .before .number-before2 .ensures .0) (c .enum-told2 .given .1)))
+returns-3 c = no-rule-pair (c .before .before .before .before .before .before .before .before .before .before .before .args .bytes .now) (c .before .before .before .before .before .before .before .before .before .before .before .args .at) (the-letter (c .before .before .before .before .before .before .before)) (no-second (c .before .before .before .before .before .before .before .before .before .before .before .args .bytes .now) (c .before .before .before .before .before .before .before .before .before .before .before .args .at + 2) (the-condition (c .before .before .before)) (no-number-then (c .before .before .before .before .before .before .before .before .before .before .before .args .bytes .now) (c .before .before .before .before .condition .given .0 .1 .0) (c .before .before .number-before2 .ensures) (c .enum-told2 .given .1)))
 
-rule-range-requires : tie.Need-rule-range-requires
-rule-range-requires c κs = search needs
+cast-rule-rest : tie.Need-cast-rule-rest
+cast-rule-rest c = omega (arith, then-most (the-condition (c .before .before .before .before)))
 
-mul-rule-rest : tie.Need-mul-rule-rest
-mul-rule-rest c = omega (arith, (c .before .before .before .before .before .before .before .before .before .before .before .before .before .pre) .2)
+cast-rule-rest-2 : tie.Need-cast-rule-rest-2
+cast-rule-rest-2 c = omega (arith, then-most (the-weight c))
 
 rule-rest-requires : tie.Need-rule-rest-requires
-rule-rest-requires c κs = (record { place = the-weight (c .before .before) .place; room = (c .before .before .before .before .before .before .before .before .before .before .before .before .before .before .pre) .0 .room }, then-most (the-condition (c .before .before .before .before .before .before)), then-most (the-weight (c .before .before)))
+rule-rest-requires c κs = rule-room (c .before .before .before .before .before .before .before .before .before .before .before .before .before .args .bytes .now) (c .before .before .before .before .before .before .before .before .before .before .before .before .before .args .at) (the-letter (c .before .before .before .before .before .before .before .before .before)) (the-pair (c .before)) (c .before .before .before .before .before .before .before .before .before .before .before .before .before .pre .0)
 
 same-length : tie.Need-same-length
 same-length c = search needs
 
 returns-4 : tie.Need-returns-4
-returns-4 c =
-    rule-entry (c .before .before .before .before .before .before .before .before .before .before .before .before .before .before .before .before .before .args .bytes .now) (c .before .before .before .before .before .before .before .before .before .before .before .before .before .before .before .before .before .args .at) (the-letter (c .before .before .before .before .before .before .before .before .before .before .before .before .before)) (the-pair (c .before .before .before .before .before)) (c .before .before .before .before .before .before .before .before .before .before .before .before .before .before .before .before .before .args .top) (c .before .before .before .before .before .before .before .before .before .before .before .before .before .before .before .before .before .args .conditions) (c .before .before .before .before .rule-range .result) (c .before .before .before .before .rule-range .ensures) (c .before .before .before .before .before .before .before .before .before .before .before .before .before .before .before .before .before .args .buffer .now) (c .before .before .before .before .before .before .before .before .before .before .before .before .before .before .before .before .before .args .end) _ (c .before .before .rule-rest .result)
-    (c .before .before .rule-rest .ensures)
+returns-4 c = rule-entry (c .before .before .before .before .before .before .before .before .before .before .before .before .before .before .before .before .args .bytes .now) (c .before .before .before .before .before .before .before .before .before .before .before .before .before .before .before .before .args .at) (the-letter (c .before .before .before .before .before .before .before .before .before .before .before .before)) (the-pair (c .before .before .before .before)) (c .before .before .before .before .before .before .before .before .before .before .before .before .before .before .before .before .args .area .now) (c .before .before .before .before .before .before .before .before .before .before .before .before .before .before .before .before .args .end) _ (c .before .before .rule-rest .result) (c .before .before .rule-rest .ensures)
 
 pub parse-rule-spec : {M : Type 1} → statement M
 parse-rule-spec =
@@ -94,8 +92,8 @@ parse-rule-spec =
     enum-known-weight
     enum-told-2
     returns-3
-    rule-range-requires
-    mul-rule-rest
+    cast-rule-rest
+    cast-rule-rest-2
     rule-rest-requires
     same-length
     returns-4)
