@@ -12,14 +12,14 @@ use Rattle.semantics.specs.Text.{textLines, hasForm, lineIn, linesIn}
 use Rattle.semantics.specs.ReadPage.{badLine}
 use Rattle.semantics.proofs.ReadLines.{GoodLine, good-line}
 use Rattle.fields.specs.Cursor.{fieldsAt, linesAfter}
-use Rattle.reader.specs.declared.line.Entry.{Entry}
-use Rattle.reader.specs.declared.line.Entry.the-variants.{Good, Form}
-use Rattle.reader.specs.Lines.{LineFits, LinePut, EntryAt}
+use Rattle.lines.specs.declared.Entry.{Entry}
+use Rattle.lines.specs.declared.Entry.the-variants.{Good, Form}
+use Rattle.lines.specs.Lines.{LineFits, LinePut, EntryAt}
 use Rattle.reader.specs.Checks.{entriesOf, LinesFit}
 use Rattle.reader.proofs.LinePlaces.{line-here}
-use Rattle.reader.proofs.Forms.{put-told, form-told, form-size}
+use Rattle.lines.proofs.Forms.{put-told, form-told, form-size}
 use Rattle.reader.proofs.Passes.{entries-here}
-use Rattle.reader.proofs.Writes.{sets-append}
+use Rattle.lines.proofs.Writes.{sets-append}
 
 -- The entries from the place `from` of the text on stand in the area from 4 on, as far as the place i of the text and the place e of the area.
 pub record Writing (s : List ℕ) (from : ℕ) (area₀ area : List ℕ) (i e : ℕ) : Type 0 where

@@ -17,10 +17,10 @@ use Rattle.semantics.specs.Area.{every, allUnder, codeOf, lineCode}
 use Rattle.semantics.specs.Call.{cause, firstOf}
 use Rattle.semantics.specs.Text.{hasForm, lineIn, literalRanges, rangeTests}
 use Rattle.fields.specs.Cursor.{fieldsAt}
-use Rattle.reader.specs.Lines.{LinePut}
+use Rattle.lines.specs.Lines.{LinePut}
 use Rattle.reader.specs.Checks.{factRange, ruleRange, entryRange, faultOf, lineRefusal, LineGood}
-use Rattle.reader.proofs.Forms.{form-size}
-use Rattle.reader.proofs.Writes.{sets-front}
+use Rattle.lines.proofs.Forms.{form-size}
+use Rattle.lines.proofs.Writes.{sets-front}
 
 pub and-true : (t : Bool) → (t && true) ≡ t
 and-true true = refl

@@ -16,7 +16,7 @@ use Rattle.fields.proofs.Places.{byte-here}
 use Rattle.reader.specs.declared.check.Checked.{Checked}
 use Rattle.reader.specs.declared.check.Checked.the-variants.{Page, Refused}
 use Rattle.reader.specs.Checks.{entriesOf, Accepted, CheckedAs, LinesFit}
-use Rattle.reader.proofs.Writes.{sets-append}
+use Rattle.lines.proofs.Writes.{sets-append}
 
 -- an answer and what the area holds are those of the definition
 abbrev pub Result : List ℕ → List ℕ → ReadAnswer → List ℕ → Type 0

@@ -18,7 +18,7 @@ use Rattle.reader.specs.declared.check.Tally.{Tally}
 use Rattle.reader.specs.declared.check.Tally.the-variants.{Good, Bad}
 use Rattle.reader.specs.declared.check.Checked.{Checked}
 use Rattle.reader.specs.declared.check.Checked.the-variants.{Page as aPage, Refused}
-use Rattle.reader.specs.Lines.{Ends}
+use Rattle.lines.specs.Lines.{Ends}
 
 -- The ranges of a line, read off its entry e: the fields behind the condition of a fact, of a rule, and all fields.
 unfoldable pub factRange : ℕ → ℕ → ℕ → Bool

@@ -8,10 +8,10 @@ ghost use Rattle.semantics.specs.Text.{textLines, headRanges};
 ghost use Rattle.semantics.specs.ReadPage.{badLineOf, textRefusal};
 ghost use Rattle.fields.specs.Cursor.{Within};
 ghost use Rattle.reader.specs.Checks.{faultOf, factRange, ruleRange, entryRange, LineAs, HeadAt, Tallied, CheckedAs};
-use crate::line::Entry;
-use crate::line::parse_line;
 use fields::Field;
 use fields::number_before;
+use lines::Entry;
+use lines::parse_line;
 
 // The refusal for the first field of a fact that is out of range, behind its condition; 0 where there is none.
 fn fact_fault(low: u16, high: u16, top: u16) -> u16

@@ -1,8 +1,6 @@
 // Read a page, from its text to a page area, and show a line of it.
 mod check;
-mod line;
 mod show;
-mod store;
 mod write;
 
 ghost use mathlib.Core.Path.{_≡_};
@@ -13,8 +11,8 @@ use crate::check::Checked;
 use crate::check::check_page;
 use crate::show::line_end;
 use crate::show::next_line;
-use crate::store::put_four;
 use crate::write::write_lines;
+use lines::put_four;
 
 // The used length of a page that is read, or the number and the line of a refusal.
 pub enum ReadAnswer {

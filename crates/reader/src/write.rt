@@ -2,8 +2,8 @@
 ghost use mathlib.Core.Path.{_≡_};
 ghost use lib.Seq.{sets};
 ghost use Rattle.reader.specs.Checks.{LinesFit, entriesOf};
-use crate::line::Entry;
-use crate::line::parse_line;
+use lines::Entry;
+use lines::parse_line;
 
 // The entries of the lines from a place on, behind the four numbers of the head.
 pub fn write_lines(bytes: &[u8], from: usize, area: &mut [u16])

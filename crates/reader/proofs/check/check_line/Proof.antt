@@ -4,8 +4,8 @@ use Prim.Native.Nat.{ℕ, _≤_}
 use native.Mathlib.Omega.{arith}
 use lib.ListN.{length, drop, replicate}
 use Rattle.fields.specs.Cursor.{fieldsAt}
-use Rattle.reader.specs.Lines.{LinePut}
-use Rattle.reader.proofs.Forms.{put-told, form-told}
+use Rattle.lines.specs.Lines.{LinePut}
+use Rattle.lines.proofs.Forms.{put-told, form-told}
 use Rattle.reader.proofs.Ranges.{formless, entry-room, entry-length, entry-least, far-line, good-line}
 use Rattle.reader.proofs.check.check_line.Statement.{statement}
 use Rattle.reader.proofs.check.check_line.Tie as tie

@@ -13,11 +13,11 @@ use Rattle.semantics.specs.Text.{allLiterals}
 use Rattle.semantics.proofs.Soundness.{both-true}
 use Rattle.fields.specs.Cursor.{fieldsAt}
 use Rattle.fields.proofs.Letters.{LetterThen}
-use Rattle.reader.specs.declared.line.Entry.{Entry}
-use Rattle.reader.specs.declared.line.Entry.the-variants.{Good, Form}
-use Rattle.reader.specs.Lines.{codeIn, Put, Room, LiteralsPut, LiteralsAt, RestPut, restTests, restCodes, kindAt}
-use Rattle.reader.proofs.Forms.{rest-form, rest-codes}
-use Rattle.reader.proofs.Writes.{sets-before}
+use Rattle.lines.specs.declared.Entry.{Entry}
+use Rattle.lines.specs.declared.Entry.the-variants.{Good, Form}
+use Rattle.lines.specs.Lines.{codeIn, Put, Room, LiteralsPut, LiteralsAt, RestPut, restTests, restCodes, kindAt}
+use Rattle.lines.proofs.Forms.{rest-form, rest-codes}
+use Rattle.lines.proofs.Writes.{sets-before}
 
 module _ (s : List ℕ) (at : ℕ) {x : ℕ} (k : LetterThen s at x) (n : kindAt x ≡ 0 → ⊥) (area : List ℕ) (start : ℕ) where
   -- the literals have their places

@@ -8,11 +8,11 @@ use Rattle.semantics.specs.Page.{fact}
 use Rattle.fields.specs.Cursor.{fieldsAt}
 use Rattle.fields.proofs.Letters.{LetterThen, letter-next, letter-here, letter-gone}
 use Rattle.fields.proofs.Tokens.{NumberThen, NumberLast, number-then, number-last, no-number-then, no-number-last, then-most, last-most, comma-class, newline-class}
-use Rattle.reader.specs.Pairs.{PairThen}
-use Rattle.reader.proofs.Pairs.{no-first, no-second, pair-then}
-use Rattle.reader.proofs.Forms.{Says, gone-line, no-pair, no-high, a-fact, put-entry}
-use Rattle.reader.proofs.line.parse_fact.Statement.{statement}
-use Rattle.reader.proofs.line.parse_fact.Tie as tie
+use Rattle.lines.specs.Pairs.{PairThen}
+use Rattle.lines.proofs.Pairs.{no-first, no-second, pair-then}
+use Rattle.lines.proofs.Forms.{Says, gone-line, no-pair, no-high, a-fact, put-entry}
+use Rattle.lines.proofs.parse_fact.Statement.{statement}
+use Rattle.lines.proofs.parse_fact.Tie as tie
 
 -- the letter, the first two numbers, the third, and what the line says
 the-letter : (c : tie.Else1) → LetterThen (c .before .before .before .before .args .bytes .now) (c .before .before .before .before .args .at) 70

@@ -18,7 +18,7 @@ use Rattle.fields.proofs.Places.{byte-here, within-next}
 use Rattle.fields.proofs.Fields.{some-field, first-here, Comma, Newline, comma-after, newline-after}
 use Rattle.fields.proofs.Numbers.{and-false, class-end}
 use Rattle.fields.proofs.Tokens.{picked-number, picked-bad}
-use Rattle.reader.specs.Lines.{codeIn, Room, areLiterals, LiteralsPut}
+use Rattle.lines.specs.Lines.{codeIn, Room, areLiterals, LiteralsPut}
 
 -- the answer of `read_literal` by its cases
 module _ (s : List ℕ) (at : ℕ) {r : Field} (p : LiteralAt s at r) where

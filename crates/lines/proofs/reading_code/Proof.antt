@@ -1,9 +1,9 @@
 -- `reading_code` meets its contract: the letter of each arm, computed. Assumes nothing.
 use mathlib.Core.Path.{sym, ap}
-use Rattle.reader.specs.Lines.{readingAt}
-use Rattle.reader.proofs.LetterCodes.{reading-other}
-use Rattle.reader.proofs.line.reading_code.Statement.{statement}
-use Rattle.reader.proofs.line.reading_code.Tie as tie
+use Rattle.lines.specs.Lines.{readingAt}
+use Rattle.lines.proofs.LetterCodes.{reading-other}
+use Rattle.lines.proofs.reading_code.Statement.{statement}
+use Rattle.lines.proofs.reading_code.Tie as tie
 
 returns : tie.Need-returns
 unfolding readingAt

@@ -3,9 +3,9 @@ use borrow.Author.Needs.{needs}
 use mathlib.Core.Path.{_≡_, sym, _∙_}
 use lib.ListN.{getD}
 use Rattle.fields.proofs.Places.{byte-here}
-use Rattle.reader.proofs.Forms.{other-line}
-use Rattle.reader.proofs.line.parse_line.Statement.{statement}
-use Rattle.reader.proofs.line.parse_line.Tie as tie
+use Rattle.lines.proofs.Forms.{other-line}
+use Rattle.lines.proofs.parse_line.Statement.{statement}
+use Rattle.lines.proofs.parse_line.Tie as tie
 
 -- the first byte of the line
 the-byte : (c : tie.After-shared-slice-known2) → getD (c .before .before .before .args .bytes .now) (c .before .before .before .args .at) 10 ≡ getD (c .before .before .before .args .bytes .now) (c .before .before .before .args .at) 0

@@ -6,11 +6,11 @@ use lib.ListN.{drop}
 use Rattle.fields.specs.Cursor.{fieldsAt}
 use Rattle.fields.proofs.Letters.{LetterThen, letter-next, letter-here, letter-gone}
 use Rattle.fields.proofs.Tokens.{NumberThen, number-then, no-number-then, then-most, comma-class}
-use Rattle.reader.specs.Pairs.{PairThen}
-use Rattle.reader.proofs.Pairs.{no-first, no-second, pair-then}
-use Rattle.reader.proofs.Forms.{gone-line, no-rule-pair, rule-room, rule-entry}
-use Rattle.reader.proofs.line.parse_rule.Statement.{statement}
-use Rattle.reader.proofs.line.parse_rule.Tie as tie
+use Rattle.lines.specs.Pairs.{PairThen}
+use Rattle.lines.proofs.Pairs.{no-first, no-second, pair-then}
+use Rattle.lines.proofs.Forms.{gone-line, no-rule-pair, rule-room, rule-entry}
+use Rattle.lines.proofs.parse_rule.Statement.{statement}
+use Rattle.lines.proofs.parse_rule.Tie as tie
 
 -- the letter and the first two numbers
 the-letter : (c : tie.Else1) → LetterThen (c .before .before .before .before .args .bytes .now) (c .before .before .before .before .args .at) 82

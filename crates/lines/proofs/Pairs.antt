@@ -11,7 +11,7 @@ use Rattle.semantics.specs.Area.{every}
 use Rattle.semantics.specs.Text.{isNumber}
 use Rattle.semantics.proofs.TestLists.{fails}
 use Rattle.fields.specs.Cursor.{fieldsAt, fieldAt}
-use Rattle.reader.specs.Pairs.{pairTests, PairThen}
+use Rattle.lines.specs.Pairs.{pairTests, PairThen}
 use Rattle.fields.proofs.Tokens.{NumberThen}
 
 module _ (s : List ℕ) (at : ℕ) where

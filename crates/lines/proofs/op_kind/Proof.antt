@@ -1,9 +1,9 @@
 -- `op_kind` meets its contract: the letter of each arm, computed. Assumes nothing.
 use mathlib.Core.Path.{sym, ap}
-use Rattle.reader.specs.Lines.{kindAt}
-use Rattle.reader.proofs.LetterCodes.{kind-other}
-use Rattle.reader.proofs.line.op_kind.Statement.{statement}
-use Rattle.reader.proofs.line.op_kind.Tie as tie
+use Rattle.lines.specs.Lines.{kindAt}
+use Rattle.lines.proofs.LetterCodes.{kind-other}
+use Rattle.lines.proofs.op_kind.Statement.{statement}
+use Rattle.lines.proofs.op_kind.Tie as tie
 
 returns : tie.Need-returns
 unfolding kindAt

@@ -6,9 +6,9 @@ use native.Mathlib.Omega.{arith}
 use lib.ListN.{length, length-set}
 use Rattle.fields.specs.Cursor.{classOf, Coded}
 use Rattle.fields.proofs.Tokens.{comma-class, newline-class}
-use Rattle.reader.proofs.Literals.{Reading, some-literal, no-literal, reading-none, too-many, not-literal, literal-room, byte-behind, not-ended, reading-more, reading-last}
-use Rattle.reader.proofs.line.parse_literals.Statement.{statement}
-use Rattle.reader.proofs.line.parse_literals.Tie as tie
+use Rattle.lines.proofs.Literals.{Reading, some-literal, no-literal, reading-none, too-many, not-literal, literal-room, byte-behind, not-ended, reading-more, reading-last}
+use Rattle.lines.proofs.parse_literals.Statement.{statement}
+use Rattle.lines.proofs.parse_literals.Tie as tie
 
 abbrev Inv-loop : tie.InvT-loop
 Inv-loop bytes at area₀ start n₀ i₀ area n i = Reading bytes at area₀ start area n i

@@ -7,12 +7,12 @@ use lib.ListN.{getD, drop}
 use Rattle.fields.specs.Cursor.{fieldsAt}
 use Rattle.fields.proofs.Places.{byte-here}
 use Rattle.fields.proofs.Letters.{LetterThen, letter-next, letter-here, letter-gone}
-use Rattle.reader.specs.Lines.{kindAt}
-use Rattle.reader.proofs.LetterCodes.{kind-comma, kind-newline, kind-zero, zero-kind, none-kind}
-use Rattle.reader.proofs.Forms.{no-rest}
-use Rattle.reader.proofs.Rules.{rest-room, no-literals, literals-put, literals-few, rest-put}
-use Rattle.reader.proofs.line.rule_rest.Statement.{statement}
-use Rattle.reader.proofs.line.rule_rest.Tie as tie
+use Rattle.lines.specs.Lines.{kindAt}
+use Rattle.lines.proofs.LetterCodes.{kind-comma, kind-newline, kind-zero, zero-kind, none-kind}
+use Rattle.lines.proofs.Forms.{no-rest}
+use Rattle.lines.proofs.Rules.{rest-room, no-literals, literals-put, literals-few, rest-put}
+use Rattle.lines.proofs.rule_rest.Statement.{statement}
+use Rattle.lines.proofs.rule_rest.Tie as tie
 
 -- the op letter
 the-byte : (c : tie.After-op-kind) → getD (c .before .before .before .before .args .bytes .now) (c .before .before .before .before .args .at) 0 ≡ getD (c .before .before .before .before .args .bytes .now) (c .before .before .before .before .args .at) 10

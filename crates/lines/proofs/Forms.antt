@@ -16,11 +16,11 @@ use Rattle.fields.specs.Cursor.{Within, fieldsAt, fieldAt, letterThen}
 use Rattle.fields.proofs.Tokens.{NumberLast}
 use Rattle.fields.proofs.Fields.{some-field}
 use Rattle.fields.proofs.Letters.{LetterThen, letter-absent, letter-or}
-use Rattle.reader.specs.declared.line.Entry.{Entry}
-use Rattle.reader.specs.declared.line.Entry.the-variants.{Good, Form}
-use Rattle.reader.specs.Pairs.{pairTests, PairThen}
-use Rattle.reader.specs.Lines.{codeIn, Room, LineFits, Ends, Put, LinePut, EntryAt, RestAt, areLiterals, restTests, restCodes, kindAt, readingAt}
-use Rattle.reader.proofs.LetterCodes.{op-one, op-known, op-none, reading-one, reading-known, reading-none}
+use Rattle.lines.specs.declared.Entry.{Entry}
+use Rattle.lines.specs.declared.Entry.the-variants.{Good, Form}
+use Rattle.lines.specs.Pairs.{pairTests, PairThen}
+use Rattle.lines.specs.Lines.{codeIn, Room, LineFits, Ends, Put, LinePut, EntryAt, RestAt, areLiterals, restTests, restCodes, kindAt, readingAt}
+use Rattle.lines.proofs.LetterCodes.{op-one, op-known, op-none, reading-one, reading-known, reading-none}
 
 or-false : (t : Bool) → (t || false) ≡ t
 or-false true = refl

@@ -14,7 +14,7 @@ use Rattle.semantics.specs.Page.{K, W, query}
 use Rattle.semantics.specs.Text.{isOp, opIn, isReading, readingIn}
 use Rattle.fields.specs.Cursor.{fieldsAt, letterThen}
 use Rattle.fields.proofs.Letters.{letter-or}
-use Rattle.reader.specs.Lines.{kindAt, readingAt}
+use Rattle.lines.specs.Lines.{kindAt, readingAt}
 
 -- The op letters.
 pub op-one : (f : List ℕ) → isOp f ≡ (eqb (length f) 1 && isOp (getD f 0 0 ∷ []))

@@ -12,11 +12,11 @@ use Rattle.fields.specs.Cursor.{Within, fieldsAt}
 use Rattle.fields.proofs.Places.{byte-here}
 use Rattle.fields.proofs.Letters.{LetterThen, letter-next, letter-here, letter-gone}
 use Rattle.fields.proofs.Tokens.{NumberLast, number-last, no-number-last, last-most, newline-class}
-use Rattle.reader.specs.Lines.{readingAt}
-use Rattle.reader.proofs.LetterCodes.{reading-comma, reading-newline, reading-zero, zero-reading, none-reading}
-use Rattle.reader.proofs.Forms.{Says, gone-line, no-reading-letter, query-place, no-query, query-codes, a-query, put-entry}
-use Rattle.reader.proofs.line.parse_query.Statement.{statement}
-use Rattle.reader.proofs.line.parse_query.Tie as tie
+use Rattle.lines.specs.Lines.{readingAt}
+use Rattle.lines.proofs.LetterCodes.{reading-comma, reading-newline, reading-zero, zero-reading, none-reading}
+use Rattle.lines.proofs.Forms.{Says, gone-line, no-reading-letter, query-place, no-query, query-codes, a-query, put-entry}
+use Rattle.lines.proofs.parse_query.Statement.{statement}
+use Rattle.lines.proofs.parse_query.Tie as tie
 
 -- the letter, the reading, the condition, and what the line says
 the-letter : (c : tie.Else1) → LetterThen (c .before .before .before .before .args .bytes .now) (c .before .before .before .before .args .at) 81

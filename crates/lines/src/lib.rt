@@ -1,10 +1,12 @@
 // The lines after the first: `F,cond,low,high`, `R,cond,weight,op,literal,...`, `Q,reading,cond`. The entry of a line is written to
 // an area, from the place `end` on. Ranges are not looked at.
 ghost use mathlib.Core.Path.{_≡_};
+ghost use mathlib.Core.List.{[], _∷_};
+ghost use Prim.Native.Nat.{_≤_, _+_};
 ghost use lib.ListN.{length, getD, drop};
+ghost use lib.Seq.{sets};
 ghost use Rattle.fields.specs.Cursor.{Within, fieldsAt};
-ghost use Rattle.reader.specs.Lines.{Room, LineFits, EntryAt, RestAt, LiteralsAt, kindAt, readingAt};
-use crate::store::put_four;
+ghost use Rattle.lines.specs.Lines.{Room, LineFits, EntryAt, RestAt, LiteralsAt, kindAt, readingAt};
 use fields::Field;
 use fields::number_before;
 use fields::read_literal;
@@ -13,6 +15,17 @@ use fields::read_literal;
 pub enum Entry {
     Good { next: usize, end: usize },
     Form,
+}
+
+// Four numbers from a place on.
+pub fn put_four(area: &mut [u16], at: usize, a: u16, b: u16, c: u16, d: u16)
+    requires { ⌜ at + 4 ≤ length (now area) ⌝ }
+    ensures { λ _. ⌜ now (area .exit) ≡ sets (now (area .entry)) at (a ∷ b ∷ c ∷ d ∷ []) ⌝ }
+{
+    area[at] = a;
+    area[at + 1] = b;
+    area[at + 2] = c;
+    area[at + 3] = d;
 }
 
 // The line at a place that begins with `F`.

@@ -9,8 +9,8 @@ use lib.Seq.{sets}
 use Rattle.semantics.specs.Area.{every, codeOf, kindOf, lineCode}
 use Rattle.semantics.specs.Text.{textLines, field, isOp, opIn, allLiterals, literalIn, hasForm, lineIn}
 use Rattle.fields.specs.Cursor.{Within, fieldsAt, linesAfter}
-use Rattle.reader.specs.declared.line.Entry.{Entry}
-use Rattle.reader.specs.declared.line.Entry.the-variants.{Good, Form}
+use Rattle.lines.specs.declared.Entry.{Entry}
+use Rattle.lines.specs.declared.Entry.the-variants.{Good, Form}
 
 -- the code of the literal in a field
 abbrev pub codeIn : List ℕ → ℕ
