@@ -8,10 +8,10 @@ use native.Mathlib.Decide.{ℕ-discrete}
 use mathlib.Core.Logic.{_⊎_, inl, inr, ⊎-elim}
 use lib.Dec.{eqb, leb}
 use lib.ListN.{length, getD}
-use borrow.Author.Tests.{eq-eqb, ne-eqb, eqb-true, le-leb, lt-leb, leb-true}
+use borrow.Author.Tests.{eq-eqb, ne-eqb, eqb-true, le-leb, lt-leb}
 use Rattle.semantics.proofs.TestLists.{fails}
 use Rattle.semantics.proofs.TextNumbers.{digit-range, one-digit, two-digits, three-digits}
-use Rattle.semantics.specs.Text.{field, isDigit, allDigits, isNumber, valueFrom, valueOf}
+use Rattle.semantics.specs.Text.{field, isDigit, allDigits, isNumber, valueOf}
 use Rattle.fields.specs.Cursor.{fieldAt, classOf, DigitIs, Numbered}
 use Rattle.fields.proofs.Places.{comma-fields, newline-fields, other-fields}
 
@@ -22,7 +22,7 @@ and-false false e = refl
 -- What `digit` answers for a digit, and for any other byte.
 pub digit-value : (b : ℕ) → 48 ≤ b → b ≤ 57 → DigitIs b (b - 48)
 unfolding classOf
-digit-value b h l = record { is = λ z. rw (le-leb 48 b h, le-leb b 57 l); other = λ z. absurd (omega arith) }
+digit-value b h l = record { is = rw (le-leb 48 b h, le-leb b 57 l); most = omega arith }
 
 other-class : (b : ℕ) → isDigit b ≡ false → 9 < classOf b
 unfolding classOf
@@ -32,11 +32,11 @@ other-class b e = rw e (go (eqb b 44 || eqb b 10))
     go true = omega arith
     go false = omega arith
 
-pub digit-low : (b : ℕ) → b < 48 → DigitIs b 10
-digit-low b h = record { is = λ z. absurd (omega arith); other = λ z. other-class b (rw (lt-leb 48 b h)) }
+pub below-digits : (b : ℕ) → b < 48 → 9 < classOf b
+below-digits b h = other-class b (rw (lt-leb 48 b h))
 
-pub digit-high : (b : ℕ) → 57 < b → DigitIs b 10
-digit-high b h = record { is = λ z. absurd (omega arith); other = λ z. other-class b (rw (le-leb 48 b (omega arith), lt-leb b 57 h)) }
+pub above-digits : (b : ℕ) → 57 < b → 9 < classOf b
+above-digits b h = other-class b (rw (le-leb 48 b (omega arith), lt-leb b 57 h))
 
 -- What a class says of its byte.
 class-digit : (b : ℕ) → classOf b ≤ 9 → isDigit b ≡ true

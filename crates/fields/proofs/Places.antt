@@ -1,16 +1,14 @@
 -- The fields at a place of a text, by the byte that stands there. Assumes nothing.
-use mathlib.Core.Path.{_≡_, refl, sym, _∙_, ap}
-use mathlib.Core.Bool.{Bool, true, false}
+use mathlib.Core.Path.{_≡_, refl, _∙_, ap}
 use mathlib.Core.List.{List, [], _∷_}
 use Prim.Native.Nat.{ℕ, zero, suc, _+_, _-_, _≤_, _<_}
 use native.Mathlib.Omega.{arith}
 use native.Mathlib.Numerals.{add-one}
 use native.Mathlib.Decide.{decLt}
-use lib.Dec.{eqb}
 use lib.ListN.{length, getD, drop, drop-of-length-le, List·getD-eq-default}
 use lib.Seq.{drop-cons}
-use borrow.Author.Tests.{eq-eqb, ne-eqb}
-use Rattle.semantics.specs.Text.{parted, textLines, fieldsOf, field}
+use borrow.Author.Tests.{ne-eqb}
+use Rattle.semantics.specs.Text.{textLines, fieldsOf, field}
 use Rattle.fields.specs.Cursor.{Within, fieldsAt}
 
 -- the byte that is read where there is one, and 10 where there is none

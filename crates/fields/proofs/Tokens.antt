@@ -3,14 +3,14 @@ use mathlib.Core.Path.{_≡_, refl, sym, _∙_, ap, subst}
 use mathlib.Core.Bool.{Bool, true, false, _&&_}
 use mathlib.Core.List.{List, [], _∷_}
 use mathlib.Core.Logic.{_⊎_, inl, inr, ⊎-elim}
-use Prim.Native.Nat.{ℕ, suc, _+_, _*_, _-_, _≤_, _<_}
+use Prim.Native.Nat.{ℕ, suc, _+_, _*_, _≤_, _<_}
 use native.Mathlib.Omega.{arith}
 use native.Mathlib.Nat.{add-zero}
 use native.Mathlib.Decide.{ℕ-discrete}
 use lib.Dec.{eqb}
 use lib.ListN.{length, getD, drop}
 use borrow.Author.Tests.{eq-eqb, ne-eqb, eqb-true, eqb-false}
-use Rattle.semantics.specs.Text.{textLines, field, isNumber, valueOf, isLiteral, literalIn}
+use Rattle.semantics.specs.Text.{textLines, isNumber, valueOf, isLiteral, literalIn}
 use Rattle.semantics.proofs.Soundness.{both-true}
 use Rattle.semantics.proofs.TextNumbers.{value-most}
 use Rattle.fields.specs.declared.Field.{Field}

@@ -9,6 +9,8 @@ use lib.Dec.{eqb, leb}
 use lib.ListN.{length, getD, drop}
 use Rattle.semantics.specs.Area.{codeOf}
 use Rattle.semantics.specs.Text.{textLines, fieldsOf, field, isDigit, isNumber, valueOf, isLiteral, literalIn}
+use Rattle.fields.specs.declared.Class.{Class}
+use Rattle.fields.specs.declared.Class.the-variants.{Digit, Other}
 use Rattle.fields.specs.declared.Field.{Field}
 use Rattle.fields.specs.declared.Field.the-variants.{Number, Bad}
 
@@ -42,10 +44,14 @@ numberBefore s at mark =
     let f = fieldAt s at in
     pick (isNumber f && eqb (getD s (at + length f) 10) mark) (Number (valueOf f) (at + length f + 1)) Bad
 
--- what `digit` answers for a byte: a digit's value, or more than 9
-pub record DigitIs (b r : ℕ) : Type 0 where
-  pub is : r ≤ 9 → r ≡ classOf b
-  pub other : 9 < r → 9 < classOf b
+-- what `digit` answers for a byte: a digit's value, or that it is another byte
+pub record DigitIs (b v : ℕ) : Type 0 where
+  pub is : v ≡ classOf b
+  pub most : v ≤ 9
+
+abbrev pub DigitAs : ℕ → Class → Type 0
+DigitAs b (Digit v) = DigitIs b v
+DigitAs b Other = 9 < classOf b
 
 -- the field at a place is a number of value v and ends at the place e
 pub record Numbered (s : List ℕ) (at v e : ℕ) : Type 0 where

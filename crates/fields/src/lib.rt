@@ -3,15 +3,20 @@
 ghost use mathlib.Core.Path.{_≡_};
 ghost use Prim.Native.Nat.{_<_, _+_};
 ghost use lib.ListN.{length};
-ghost use Rattle.fields.specs.Cursor.{classOf, Within, DigitIs, SignIs, DigitsAt, LiteralAt, numberBefore};
+ghost use Rattle.fields.specs.Cursor.{classOf, Within, DigitAs, SignIs, DigitsAt, LiteralAt, numberBefore};
 
-// A digit's value; 10 for any other byte.
-fn digit(b: u8) -> u32
-    ensures { λ r. ⌜ DigitIs b r ⌝ }
+// What a byte is: a digit with its value, or another byte.
+enum Class {
+    Digit(u32),
+    Other,
+}
+
+fn digit(b: u8) -> Class
+    ensures { λ r. ⌜ DigitAs b r ⌝ }
 {
     match b {
-        b'0'..=b'9' => b as u32 - 48,
-        _ => 10,
+        b'0'..=b'9' => Class::Digit(b as u32 - 48),
+        _ => Class::Other,
     }
 }
 
@@ -26,21 +31,18 @@ fn digits(bytes: &[u8], at: usize) -> Field
     requires { ⌜ Within (now bytes) at ⌝ }
     ensures { λ r. ⌜ DigitsAt (now (bytes .entry)) at r ⌝ }
 {
-    let a = digit(bytes[at]);
-    if 9 < a {
+    let Class::Digit(a) = digit(bytes[at]) else {
         return Field::Bad;
-    }
+    };
     if a == 0 {
         return Field::Number(a, at + 1);
     }
-    let b = digit(bytes[at + 1]);
-    if 9 < b {
+    let Class::Digit(b) = digit(bytes[at + 1]) else {
         return Field::Number(a, at + 1);
-    }
-    let c = digit(bytes[at + 2]);
-    if 9 < c {
+    };
+    let Class::Digit(c) = digit(bytes[at + 2]) else {
         return Field::Number(a * 10 + b, at + 2);
-    }
+    };
     Field::Number((a * 10 + b) * 10 + c, at + 3)
 }
 

@@ -3,9 +3,8 @@ use mathlib.Core.Path.{_≡_, refl, sym, _∙_, ap, subst}
 use mathlib.Core.Bool.{Bool, true, false, cond, _&&_, _||_, false≢true}
 use mathlib.Core.List.{List, [], _∷_, map, map-map}
 use mathlib.Core.Logic.{_⊎_, inl, inr, ⊎-elim}
-use Prim.Native.Nat.{ℕ, suc, _+_, _≤_, _<_}
+use Prim.Native.Nat.{ℕ, suc, _+_, _≤_}
 use native.Mathlib.Omega.{arith}
-use lib.Dec.{leb}
 use lib.ListN.{length, getD, drop, length-drop, length-map}
 use borrow.Author.Tests.{ne-eqb, eqb-true, le-leb, lt-leb, leb-true}
 use Rattle.semantics.specs.Area.{every, codeOf, lineCode}
@@ -19,7 +18,7 @@ use Rattle.fields.proofs.Letters.{LetterThen, letter-absent, letter-or}
 use Rattle.lines.specs.declared.Entry.{Entry}
 use Rattle.lines.specs.declared.Entry.the-variants.{Good, Form}
 use Rattle.lines.specs.Pairs.{pairTests, PairThen}
-use Rattle.lines.specs.Lines.{codeIn, Room, LineFits, Ends, Put, LinePut, EntryAt, RestAt, areLiterals, restTests, restCodes, kindAt, readingAt}
+use Rattle.lines.specs.Lines.{codeIn, LineFits, Ends, Put, LinePut, EntryAt, RestAt, areLiterals, restTests, restCodes, kindAt, readingAt}
 use Rattle.lines.proofs.LetterCodes.{op-one, op-known, op-none, reading-one, reading-known, reading-none}
 
 or-false : (t : Bool) → (t || false) ≡ t

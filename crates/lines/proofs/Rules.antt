@@ -1,6 +1,6 @@
 -- What stands behind the condition and the weight of a rule, by what the parser has read of it. Assumes nothing.
-use mathlib.Core.Path.{_≡_, refl, sym, _∙_, ap, subst}
-use mathlib.Core.Bool.{true, false, _&&_}
+use mathlib.Core.Path.{_≡_, _∙_, ap, subst}
+use mathlib.Core.Bool.{false}
 use mathlib.Core.List.{List, [], _∷_, map}
 use Prim.Native.Nat.{ℕ, _+_, _-_, _≤_}
 use native.Mathlib.Omega.{arith}
@@ -15,7 +15,7 @@ use Rattle.fields.specs.Cursor.{fieldsAt}
 use Rattle.fields.proofs.Letters.{LetterThen}
 use Rattle.lines.specs.declared.Entry.{Entry}
 use Rattle.lines.specs.declared.Entry.the-variants.{Good, Form}
-use Rattle.lines.specs.Lines.{codeIn, Put, Room, LiteralsPut, LiteralsAt, RestPut, restTests, restCodes, kindAt}
+use Rattle.lines.specs.Lines.{codeIn, Room, LiteralsPut, LiteralsAt, RestPut, restTests, restCodes, kindAt}
 use Rattle.lines.proofs.Forms.{rest-form, rest-codes}
 use Rattle.lines.proofs.Writes.{sets-before}
 

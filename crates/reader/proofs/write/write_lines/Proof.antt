@@ -1,7 +1,6 @@
 -- `write_lines` meets its contract: a turn writes one entry, `Writing`. Assumes nothing.
 use borrow.Author.Needs.{needs}
 use Prim.Native.Nat.{_+_, _-_}
-use mathlib.Core.Path.{_∙_}
 use native.Mathlib.Omega.{arith}
 use lib.ListN.{length}
 use Rattle.reader.proofs.Entries.{Writing, writing-first, line-fits, never-form, put-here, writing-next, writing-done}
