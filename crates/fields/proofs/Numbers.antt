@@ -2,9 +2,9 @@
 use mathlib.Core.Path.{_≡_, refl, sym, _∙_, ap}
 use mathlib.Core.Bool.{Bool, true, false, not, cond, _&&_, _||_}
 use mathlib.Core.List.{List, [], _∷_}
-use Prim.Native.Nat.{ℕ, zero, suc, _+_, _*_, _-_, _≤_, _<_}
+use Prim.Native.Nat.{ℕ, zero, suc, _+_, _*_, _-_, _%_, _≤_, _<_}
 use native.Mathlib.Omega.{arith}
-use native.Mathlib.Decide.{ℕ-discrete}
+use native.Mathlib.Decide.{ℕ-discrete, decLt}
 use mathlib.Core.Logic.{_⊎_, inl, inr, ⊎-elim}
 use lib.Dec.{eqb, leb}
 use lib.ListN.{length, getD}
@@ -19,24 +19,31 @@ pub and-false : (t : Bool) {u : Bool} → u ≡ false → (t && u) ≡ false
 and-false true e = e
 and-false false e = refl
 
--- What `digit` answers for a digit, and for any other byte.
-pub digit-value : (b : ℕ) → 48 ≤ b → b ≤ 57 → DigitIs b (b - 48)
-unfolding classOf
-digit-value b h l = record { is = rw (le-leb 48 b h, le-leb b 57 l); most = omega arith }
+-- What `digit` answers, by the difference r of a byte to 48, which wraps.
+module _ (b r : ℕ) (e : (r + 48) % 4294967296 ≡ b) where
+  pub a-digit : r ≤ 9 → DigitIs b r
+  unfolding classOf
+  a-digit h =
+      let l : 48 ≤ b = omega arith in
+      let m : b ≤ 57 = omega arith in
+      record { is = rw (le-leb 48 b l, le-leb b 57 m) (omega arith); most = h }
 
-other-class : (b : ℕ) → isDigit b ≡ false → 9 < classOf b
-unfolding classOf
-other-class b e = rw e (go (eqb b 44 || eqb b 10))
-  where
-    go : (t : Bool) → 9 < cond t 10 11
-    go true = omega arith
-    go false = omega arith
+  not-digit : r < 4294967296 → 9 < r → isDigit b ≡ false
+  not-digit l h = go (decLt b 48)
+    where
+      go : Dec (b < 48) → isDigit b ≡ false
+      go (yes k) = rw (lt-leb 48 b k)
+      go (no k) =
+          let m : 57 < b = omega arith in
+          rw (le-leb 48 b (omega arith), lt-leb b 57 m)
 
-pub below-digits : (b : ℕ) → b < 48 → 9 < classOf b
-below-digits b h = other-class b (rw (lt-leb 48 b h))
-
-pub above-digits : (b : ℕ) → 57 < b → 9 < classOf b
-above-digits b h = other-class b (rw (le-leb 48 b (omega arith), lt-leb b 57 h))
+  pub other-byte : r < 4294967296 → 9 < r → 9 < classOf b
+  unfolding classOf
+  other-byte l h = rw (not-digit l h) (go (eqb b 44 || eqb b 10))
+    where
+      go : (t : Bool) → 9 < cond t 10 11
+      go true = omega arith
+      go false = omega arith
 
 -- What a class says of its byte.
 class-digit : (b : ℕ) → classOf b ≤ 9 → isDigit b ≡ true
@@ -99,9 +106,9 @@ not-digits [] k h e = absurd (omega arith)
 not-digits (b ∷ f) zero h e = rw e
 not-digits (b ∷ f) (suc k) h e = and-false (isDigit b) (not-digits f k (omega arith) e)
 
-not-digit : (f : List ℕ) (k : ℕ) → k < length f → isDigit (getD f k 0) ≡ false → isNumber f ≡ false
+no-digit : (f : List ℕ) (k : ℕ) → k < length f → isDigit (getD f k 0) ≡ false → isNumber f ≡ false
 unfolding isNumber
-not-digit f k h e =
+no-digit f k h e =
     fails (leb 1 (length f) ∷ leb (length f) 3 ∷ allDigits f ∷ (not (eqb (getD f 0 0) 48) || eqb (length f) 1) ∷ []) 2 (not-digits f k h e)
 
 not-long : (f : List ℕ) → 3 < length f → isNumber f ≡ false
@@ -147,7 +154,7 @@ module _ (s : List ℕ) (at A : ℕ) (a : A ≡ classOf (getD s at 10)) where
       go (yes e) = no-number s at [] (field-end s at (sym a ∙ e)) not-empty
       go (no n) =
           no-number s at (getD s at 10 ∷ fieldAt s (at + 1)) (field-more s at (at + 1) refl (λ e. n (a ∙ e)))
-          (not-digit (getD s at 10 ∷ fieldAt s (at + 1)) 0 (omega arith) (class-other (getD s at 10) (rw (← a) h)))
+          (no-digit (getD s at 10 ∷ fieldAt s (at + 1)) 0 (omega arith) (class-other (getD s at 10) (rw (← a) h)))
 
   module _ (B : ℕ) (b : B ≡ classOf (getD s (at + 1) 10)) where
     pub one-number : A ≤ 9 → B ≡ 10 → Numbered s at A (at + 1)
@@ -168,7 +175,7 @@ module _ (s : List ℕ) (at A : ℕ) (a : A ≡ classOf (getD s at 10)) where
     pub none-second : A ≤ 9 → B ≡ 11 → isNumber (fieldAt s at) ≡ false
     none-second h e =
         let f = getD s at 10 ∷ getD s (at + 1) 10 ∷ fieldAt s (at + 2) in
-        no-number s at f (two-bytes h (λ z. omega arith)) (not-digit f 1 (omega arith) (class-other (getD s (at + 1) 10) (rw (← b) (omega arith))))
+        no-number s at f (two-bytes h (λ z. omega arith)) (no-digit f 1 (omega arith) (class-other (getD s (at + 1) 10) (rw (← b) (omega arith))))
 
     pub none-leading : A ≡ 0 → (B ≡ 10 → ⊥) → isNumber (fieldAt s at) ≡ false
     none-leading h n =
@@ -206,7 +213,7 @@ module _ (s : List ℕ) (at A : ℕ) (a : A ≡ classOf (getD s at 10)) where
       pub none-third : D ≡ 11 → isNumber (fieldAt s at) ≡ false
       none-third e =
           let f = getD s at 10 ∷ getD s (at + 1) 10 ∷ getD s (at + 2) 10 ∷ fieldAt s (at + 3) in
-          no-number s at f (three-bytes (λ z. omega arith)) (not-digit f 2 (omega arith) (class-other (getD s (at + 2) 10) (rw (← d) (omega arith))))
+          no-number s at f (three-bytes (λ z. omega arith)) (no-digit f 2 (omega arith) (class-other (getD s (at + 2) 10) (rw (← d) (omega arith))))
 
       module _ (k : D ≡ 10 → ⊥) (k₁ : D ≡ 11 → ⊥) (E : ℕ) (e : E ≡ classOf (getD s (at + 3) 10)) where
         pub three-number : E ≡ 10 → Numbered s at ((A * 10 + B) * 10 + D) (at + 3)

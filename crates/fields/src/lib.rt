@@ -11,11 +11,13 @@ enum Class {
     Other,
 }
 
+// The difference to byte 48, which is `0`, wraps for a byte below it.
 fn digit(b: u8) -> Class
     ensures { λ r. ⌜ DigitAs b r ⌝ }
 {
-    match b {
-        b'0'..=b'9' => Class::Digit(b as u32 - 48),
+    let value = std::num::wrapping_sub_u32(b as u32, 48);
+    match value {
+        0..=9 => Class::Digit(value),
         _ => Class::Other,
     }
 }
