@@ -85,19 +85,28 @@ module _ (s : List ℕ) (at : ℕ) (p : Within s at) {r : ℕ} (a : r ≡ letter
       (λ (k : (getD s (at + 1) 10 ≡ 10) × Newline s at (at + 1)). absurd (omega (arith, ap length (k .1 .fields))))
       (follows s at (at + 1) (omega arith))
 
+-- A byte that is neither a comma, byte 10 nor 0, as a letter is.
+pub record Plain (x : ℕ) : Type 0 where
+  pub comma : x ≡ 44 → ⊥
+  pub newline : x ≡ 10 → ⊥
+  pub zero : x ≡ 0 → ⊥
+
+pub plain : (x : ℕ) → 44 < x → Plain x
+plain x h = record { comma = λ z. omega arith; newline = λ z. omega arith; zero = λ z. omega arith }
+
 -- A line that begins with the letter x.
-module _ (s : List ℕ) (at : ℕ) (p : Within s at) {x : ℕ} (b : getD s at 10 ≡ x) (m : x ≡ 44 → ⊥) (n : x ≡ 10 → ⊥) where
+module _ (s : List ℕ) (at : ℕ) (p : Within s at) {x : ℕ} (b : getD s at 10 ≡ x) (l : Plain x) where
   pub letter-next : Within s (at + 1)
-  letter-next = within-next s at p (λ e. n (sym b ∙ e))
+  letter-next = within-next s at p (λ e. l .newline (sym b ∙ e))
 
   byte-next : getD s (at + 1) 0 ≡ getD s (at + 1) 10
-  byte-next = let l : at + 1 < length s = letter-next .inside in byte-here s (at + 1) l
+  byte-next = let h : at + 1 < length s = letter-next .inside in byte-here s (at + 1) h
 
-  pub letter-here : (x ≡ 0 → ⊥) → getD s (at + 1) 0 ≡ 44 → LetterThen s at x
-  letter-here z e = letter-then s at p (letter-is s at (sym b) m n byte-next e) z
+  pub letter-here : getD s (at + 1) 0 ≡ 44 → LetterThen s at x
+  letter-here e = letter-then s at p (letter-is s at (sym b) (l .comma) (l .newline) byte-next e) (l .zero)
 
   pub letter-gone : (getD s (at + 1) 0 ≡ 44 → ⊥) → letterThen (fieldsAt (drop at s)) ≡ 0
-  letter-gone e = sym (letter-not s at (sym b) m n byte-next e)
+  letter-gone e = sym (letter-not s at (sym b) (l .comma) (l .newline) byte-next e)
 
 -- The letter is the byte at the place, or 0.
 pub letter-or : (s : List ℕ) (at : ℕ) → (letterThen (fieldsAt (drop at s)) ≡ getD s at 10) ⊎ (letterThen (fieldsAt (drop at s)) ≡ 0)

@@ -13,7 +13,7 @@ use Rattle.semantics.specs.Grade.{M, X, L, B, P}
 use Rattle.semantics.specs.Page.{K, W, query}
 use Rattle.semantics.specs.Text.{isOp, opIn, isReading, readingIn}
 use Rattle.fields.specs.Cursor.{fieldsAt, letterThen}
-use Rattle.fields.proofs.Letters.{letter-or}
+use Rattle.fields.proofs.Letters.{Plain, letter-or}
 use Rattle.lines.specs.Lines.{kindAt, readingAt}
 
 -- The op letters.
@@ -83,31 +83,14 @@ reading-known b = go (eqb b 75) (eqb b 87)
     go false true h = (refl, λ c. refl)
     go false false h = absurd (h refl)
 
--- the letters of an op or a reading: none is a comma, byte 10 or 0
-module _ (x : ℕ) where
-  pub kind-comma : (kindAt x ≡ 0 → ⊥) → x ≡ 44 → ⊥
-  unfolding kindAt
-  kind-comma n e = n (ap kindAt e)
+-- a letter of an op or a reading is neither a comma, byte 10 nor 0
+pub kind-plain : (x : ℕ) → (kindAt x ≡ 0 → ⊥) → Plain x
+unfolding kindAt
+kind-plain x n = record { comma = λ e. n (ap kindAt e); newline = λ e. n (ap kindAt e); zero = λ e. n (ap kindAt e) }
 
-  pub kind-newline : (kindAt x ≡ 0 → ⊥) → x ≡ 10 → ⊥
-  unfolding kindAt
-  kind-newline n e = n (ap kindAt e)
-
-  pub kind-zero : (kindAt x ≡ 0 → ⊥) → x ≡ 0 → ⊥
-  unfolding kindAt
-  kind-zero n e = n (ap kindAt e)
-
-  pub reading-comma : (readingAt x ≡ 2 → ⊥) → x ≡ 44 → ⊥
-  unfolding readingAt
-  reading-comma n e = n (ap readingAt e)
-
-  pub reading-newline : (readingAt x ≡ 2 → ⊥) → x ≡ 10 → ⊥
-  unfolding readingAt
-  reading-newline n e = n (ap readingAt e)
-
-  pub reading-zero : (readingAt x ≡ 2 → ⊥) → x ≡ 0 → ⊥
-  unfolding readingAt
-  reading-zero n e = n (ap readingAt e)
+pub reading-plain : (x : ℕ) → (readingAt x ≡ 2 → ⊥) → Plain x
+unfolding readingAt
+reading-plain x n = record { comma = λ e. n (ap readingAt e); newline = λ e. n (ap readingAt e); zero = λ e. n (ap readingAt e) }
 
 -- what the letter 0 is, and so a byte that is none
 pub zero-kind : {r : ℕ} → r ≡ 0 → kindAt r ≡ 0

@@ -6,7 +6,7 @@ use native.Mathlib.Omega.{arith}
 use lib.ListN.{drop}
 use Rattle.semantics.specs.Page.{fact}
 use Rattle.fields.specs.Cursor.{fieldsAt}
-use Rattle.fields.proofs.Letters.{LetterThen, letter-next, letter-here, letter-gone}
+use Rattle.fields.proofs.Letters.{LetterThen, plain, letter-next, letter-here, letter-gone}
 use Rattle.fields.proofs.Tokens.{NumberThen, NumberLast, number-then, number-last, no-number-then, no-number-last, then-most, last-most, comma-class, newline-class}
 use Rattle.lines.specs.Pairs.{PairThen}
 use Rattle.lines.proofs.Pairs.{no-first, no-second, pair-then}
@@ -16,7 +16,7 @@ use Rattle.lines.proofs.parse_fact.Tie as tie
 
 -- the letter, the first two numbers, the third, and what the line says
 the-letter : (c : tie.Else1) → LetterThen (c .before .before .before .before .args .bytes .now) (c .before .before .before .before .args .at) 70
-the-letter c = letter-here (c .before .before .before .before .args .bytes .now) (c .before .before .before .before .args .at) (c .before .before .before .before .pre .0 .place) (c .before .before .before .before .pre .1) (λ z. omega arith) (λ z. omega arith) (λ z. omega arith) (c .if1 .left)
+the-letter c = letter-here (c .before .before .before .before .args .bytes .now) (c .before .before .before .before .args .at) (c .before .before .before .before .pre .0 .place) (c .before .before .before .before .pre .1) (plain 70 (omega arith)) (c .if1 .left)
 
 the-condition : (c : tie.After-known-told) → NumberThen (c .before .before .before .before .before .before .before .before .args .bytes .now) (c .before .before .before .before .before .before .before .before .args .at + 2) (c .before .condition .given .0 .0) (c .before .condition .given .0 .1 .0)
 the-condition c = number-then (c .before .before .before .before .before .before .before .before .args .bytes .now) (c .before .before .before .before .before .before .before .before .args .at + 2) (the-letter (c .before .before .before .before) .place) (c .before .before .before .number-before .ensures) (c .before .condition .given .1)
@@ -37,10 +37,10 @@ add-if1 : tie.Need-add-if1
 add-if1 c = search needs
 
 shared-slice-read-if1 : tie.Need-shared-slice-read-if1
-shared-slice-read-if1 c = letter-next (c .before .before .before .args .bytes .now) (c .before .before .before .args .at) (c .before .before .before .pre .0 .place) (c .before .before .before .pre .1) (λ z. omega arith) (λ z. omega arith) .inside
+shared-slice-read-if1 c = letter-next (c .before .before .before .args .bytes .now) (c .before .before .before .args .at) (c .before .before .before .pre .0 .place) (c .before .before .before .pre .1) (plain 70 (omega arith)) .inside
 
 returns : tie.Need-returns
-returns c = gone-line (fieldsAt (drop (c .before .before .before .before .args .at) (c .before .before .before .before .args .bytes .now))) (letter-gone (c .before .before .before .before .args .bytes .now) (c .before .before .before .before .args .at) (c .before .before .before .before .pre .0 .place) (c .before .before .before .before .pre .1) (λ z. omega arith) (λ z. omega arith) (c .if1 .taken))
+returns c = gone-line (fieldsAt (drop (c .before .before .before .before .args .at) (c .before .before .before .before .args .bytes .now))) (letter-gone (c .before .before .before .before .args .bytes .now) (c .before .before .before .before .args .at) (c .before .before .before .before .pre .0 .place) (c .before .before .before .before .pre .1) (plain 70 (omega arith)) (c .if1 .taken))
 
 add-number-before : tie.Need-add-number-before
 add-number-before c = search needs

@@ -10,17 +10,17 @@ use Rattle.semantics.specs.Page.{query}
 use Rattle.semantics.specs.Text.{readingIn}
 use Rattle.fields.specs.Cursor.{Within, fieldsAt}
 use Rattle.fields.proofs.Places.{byte-here}
-use Rattle.fields.proofs.Letters.{LetterThen, letter-next, letter-here, letter-gone}
+use Rattle.fields.proofs.Letters.{LetterThen, plain, letter-next, letter-here, letter-gone}
 use Rattle.fields.proofs.Tokens.{NumberLast, number-last, no-number-last, last-most, newline-class}
 use Rattle.lines.specs.Lines.{readingAt}
-use Rattle.lines.proofs.LetterCodes.{reading-comma, reading-newline, reading-zero, zero-reading, none-reading}
+use Rattle.lines.proofs.LetterCodes.{reading-plain, zero-reading, none-reading}
 use Rattle.lines.proofs.Forms.{Says, gone-line, no-reading-letter, query-place, no-query, query-codes, a-query, put-entry}
 use Rattle.lines.proofs.parse_query.Statement.{statement}
 use Rattle.lines.proofs.parse_query.Tie as tie
 
 -- the letter, the reading, the condition, and what the line says
 the-letter : (c : tie.Else1) → LetterThen (c .before .before .before .before .args .bytes .now) (c .before .before .before .before .args .at) 81
-the-letter c = letter-here (c .before .before .before .before .args .bytes .now) (c .before .before .before .before .args .at) (c .before .before .before .before .pre .0 .place) (c .before .before .before .before .pre .1) (λ z. omega arith) (λ z. omega arith) (λ z. omega arith) (c .if1 .left)
+the-letter c = letter-here (c .before .before .before .before .args .bytes .now) (c .before .before .before .before .args .at) (c .before .before .before .before .pre .0 .place) (c .before .before .before .before .pre .1) (plain 81 (omega arith)) (c .if1 .left)
 
 byte-two : (c : tie.Else1) → getD (c .before .before .before .before .args .bytes .now) (c .before .before .before .before .args .at + 2) 0 ≡ getD (c .before .before .before .before .args .bytes .now) (c .before .before .before .before .args .at + 2) 10
 byte-two c = byte-here (c .before .before .before .before .args .bytes .now) (c .before .before .before .before .args .at + 2) (the-letter c .place .inside)
@@ -31,7 +31,7 @@ a-reading c e = c .if2 .left (c .before .reading-code .ensures ∙ e)
 reading-next : (c : tie.Else2) → Within (c .before .before .before .before .before .before .before .args .bytes .now) (c .before .before .before .before .before .before .before .args .at + 2 + 1)
 reading-next c =
     let r = getD (c .before .before .before .before .before .before .before .args .bytes .now) (c .before .before .before .before .before .before .before .args .at + 2) 0 in
-    letter-next (c .before .before .before .before .before .before .before .args .bytes .now) (c .before .before .before .before .before .before .before .args .at + 2) (the-letter (c .before .before .before) .place) (sym (byte-two (c .before .before .before))) (reading-comma r (a-reading c)) (reading-newline r (a-reading c))
+    letter-next (c .before .before .before .before .before .before .before .args .bytes .now) (c .before .before .before .before .before .before .before .args .at + 2) (the-letter (c .before .before .before) .place) (sym (byte-two (c .before .before .before))) (reading-plain r (a-reading c))
 
 three : (at : ℕ) → at + 2 + 1 ≡ at + 3
 three at = omega arith
@@ -40,7 +40,7 @@ the-reading : (c : tie.Else3) → LetterThen (c .before .before .before .before 
 the-reading c =
     let r = getD (c .before .before .before .before .before .before .before .before .before .args .bytes .now) (c .before .before .before .before .before .before .before .before .before .args .at + 2) 0 in
     let n = a-reading (c .before .before) in
-    letter-here (c .before .before .before .before .before .before .before .before .before .args .bytes .now) (c .before .before .before .before .before .before .before .before .before .args .at + 2) (the-letter (c .before .before .before .before .before) .place) (sym (byte-two (c .before .before .before .before .before))) (reading-comma r n) (reading-newline r n) (reading-zero r n)
+    letter-here (c .before .before .before .before .before .before .before .before .before .args .bytes .now) (c .before .before .before .before .before .before .before .before .before .args .at + 2) (the-letter (c .before .before .before .before .before) .place) (sym (byte-two (c .before .before .before .before .before))) (reading-plain r n)
     (ap (λ (i : ℕ). getD (c .before .before .before .before .before .before .before .before .before .args .bytes .now) i 0) (three (c .before .before .before .before .before .before .before .before .before .args .at)) ∙ c .if3 .left)
 
 the-condition : (c : tie.After-known-told) → NumberLast (c .before .before .before .before .before .before .before .before .before .before .before .before .before .args .bytes .now) (c .before .before .before .before .before .before .before .before .before .before .before .before .before .args .at + 4) (c .before .condition .given .0 .0) (c .before .condition .given .0 .1 .0)
@@ -53,10 +53,10 @@ add-if1 : tie.Need-add-if1
 add-if1 c = search needs
 
 shared-slice-read-if1 : tie.Need-shared-slice-read-if1
-shared-slice-read-if1 c = letter-next (c .before .before .before .args .bytes .now) (c .before .before .before .args .at) (c .before .before .before .pre .0 .place) (c .before .before .before .pre .1) (λ z. omega arith) (λ z. omega arith) .inside
+shared-slice-read-if1 c = letter-next (c .before .before .before .args .bytes .now) (c .before .before .before .args .at) (c .before .before .before .pre .0 .place) (c .before .before .before .pre .1) (plain 81 (omega arith)) .inside
 
 returns : tie.Need-returns
-returns c = gone-line (fieldsAt (drop (c .before .before .before .before .args .at) (c .before .before .before .before .args .bytes .now))) (letter-gone (c .before .before .before .before .args .bytes .now) (c .before .before .before .before .args .at) (c .before .before .before .before .pre .0 .place) (c .before .before .before .before .pre .1) (λ z. omega arith) (λ z. omega arith) (c .if1 .taken))
+returns c = gone-line (fieldsAt (drop (c .before .before .before .before .args .at) (c .before .before .before .before .args .bytes .now))) (letter-gone (c .before .before .before .before .args .bytes .now) (c .before .before .before .before .args .at) (c .before .before .before .before .pre .0 .place) (c .before .before .before .before .pre .1) (plain 81 (omega arith)) (c .if1 .taken))
 
 add-reading-code : tie.Need-add-reading-code
 add-reading-code c = search needs
@@ -84,7 +84,7 @@ returns-3 c =
     let n = a-reading (c .before .before) in
     no-reading-letter (c .before .before .before .before .before .before .before .before .before .args .bytes .now) (c .before .before .before .before .before .before .before .before .before .args .at) (the-letter (c .before .before .before .before .before))
     (zero-reading
-    (letter-gone (c .before .before .before .before .before .before .before .before .before .args .bytes .now) (c .before .before .before .before .before .before .before .before .before .args .at + 2) (the-letter (c .before .before .before .before .before) .place) (sym (byte-two (c .before .before .before .before .before))) (reading-comma r n) (reading-newline r n)
+    (letter-gone (c .before .before .before .before .before .before .before .before .before .args .bytes .now) (c .before .before .before .before .before .before .before .before .before .args .at + 2) (the-letter (c .before .before .before .before .before) .place) (sym (byte-two (c .before .before .before .before .before))) (reading-plain r n)
     (λ z. c .if3 .taken (ap (λ (i : ℕ). getD (c .before .before .before .before .before .before .before .before .before .args .bytes .now) i 0) (sym (three (c .before .before .before .before .before .before .before .before .before .args .at))) ∙ z))))
 
 add-number-before : tie.Need-add-number-before

@@ -8,7 +8,7 @@ use Rattle.fields.specs.Cursor.{fieldsAt}
 use Rattle.fields.proofs.Places.{byte-here}
 use Rattle.fields.proofs.Letters.{LetterThen, letter-next, letter-here, letter-gone}
 use Rattle.lines.specs.Lines.{kindAt}
-use Rattle.lines.proofs.LetterCodes.{kind-comma, kind-newline, kind-zero, zero-kind, none-kind}
+use Rattle.lines.proofs.LetterCodes.{kind-plain, zero-kind, none-kind}
 use Rattle.lines.proofs.Forms.{no-rest}
 use Rattle.lines.proofs.Rules.{rest-room, no-literals, literals-put, literals-few, rest-put}
 use Rattle.lines.proofs.rule_rest.Statement.{statement}
@@ -25,7 +25,7 @@ the-op : (c : tie.Else2) → LetterThen (c .before .before .before .before .befo
 the-op c =
     let x = getD (c .before .before .before .before .before .before .before .args .bytes .now) (c .before .before .before .before .before .before .before .args .at) 0 in
     let n = an-op (c .before .before) in
-    letter-here (c .before .before .before .before .before .before .before .args .bytes .now) (c .before .before .before .before .before .before .before .args .at) (c .before .before .before .before .before .before .before .pre .place) (sym (the-byte (c .before .before .before))) (kind-comma x n) (kind-newline x n) (kind-zero x n) (c .if2 .left)
+    letter-here (c .before .before .before .before .before .before .before .args .bytes .now) (c .before .before .before .before .before .before .before .args .at) (c .before .before .before .before .before .before .before .pre .place) (sym (the-byte (c .before .before .before))) (kind-plain x n) (c .if2 .left)
 
 shared-slice-read-op-kind : tie.Need-shared-slice-read-op-kind
 shared-slice-read-op-kind c = search needs
@@ -45,14 +45,14 @@ shared-slice-read-if2 : tie.Need-shared-slice-read-if2
 shared-slice-read-if2 c =
     let x = getD (c .before .before .before .before .before .before .args .bytes .now) (c .before .before .before .before .before .before .args .at) 0 in
     let n = an-op (c .before) in
-    letter-next (c .before .before .before .before .before .before .args .bytes .now) (c .before .before .before .before .before .before .args .at) (c .before .before .before .before .before .before .pre .place) (sym (the-byte (c .before .before))) (kind-comma x n) (kind-newline x n) .inside
+    letter-next (c .before .before .before .before .before .before .args .bytes .now) (c .before .before .before .before .before .before .args .at) (c .before .before .before .before .before .before .pre .place) (sym (the-byte (c .before .before))) (kind-plain x n) .inside
 
 returns-2 : tie.Need-returns-2
 returns-2 c =
     let x = getD (c .before .before .before .before .before .before .before .args .bytes .now) (c .before .before .before .before .before .before .before .args .at) 0 in
     let n = an-op (c .before .before) in
     no-rest (fieldsAt (drop (c .before .before .before .before .before .before .before .args .at) (c .before .before .before .before .before .before .before .args .bytes .now)))
-    (zero-kind (letter-gone (c .before .before .before .before .before .before .before .args .bytes .now) (c .before .before .before .before .before .before .before .args .at) (c .before .before .before .before .before .before .before .pre .place) (sym (the-byte (c .before .before .before))) (kind-comma x n) (kind-newline x n) (c .if2 .taken)))
+    (zero-kind (letter-gone (c .before .before .before .before .before .before .before .args .bytes .now) (c .before .before .before .before .before .before .before .args .at) (c .before .before .before .before .before .before .before .pre .place) (sym (the-byte (c .before .before .before))) (kind-plain x n) (c .if2 .taken)))
 
 add-start : tie.Need-add-start
 add-start c = omega (arith, c .before .before .before .before .before .before .before .pre .four, c .before .before .before .before .before .before .before .good)

@@ -4,7 +4,7 @@ use mathlib.Core.Path.{_≡_, sym, _∙_}
 use native.Mathlib.Omega.{arith}
 use lib.ListN.{getD}
 use Rattle.fields.proofs.Places.{byte-here}
-use Rattle.fields.proofs.Letters.{LetterThen, letter-next, letter-here, letter-gone}
+use Rattle.fields.proofs.Letters.{LetterThen, plain, letter-next, letter-here, letter-gone}
 use Rattle.fields.proofs.Tokens.{NumberThen, NumberLast, number-then, no-number-then, number-last, no-number-last, then-most, last-most, comma-class, newline-class}
 use Rattle.reader.proofs.Heads.{headless, other-head, gone-head, no-top, no-conditions, a-head}
 use Rattle.reader.proofs.check.parse_head.Statement.{statement}
@@ -15,7 +15,7 @@ the-byte : (c : tie.Else1) → getD (c .before .before .before .args .bytes .now
 the-byte c = sym (byte-here (c .before .before .before .args .bytes .now) 0 (c .before .before .before .pre .inside)) ∙ c .if1 .left
 
 the-letter : (c : tie.Else2) → LetterThen (c .before .before .before .before .before .args .bytes .now) 0 71
-the-letter c = letter-here (c .before .before .before .before .before .args .bytes .now) 0 (c .before .before .before .before .before .pre) (the-byte (c .before .before)) (λ z. omega arith) (λ z. omega arith) (λ z. omega arith) (c .if2 .left)
+the-letter c = letter-here (c .before .before .before .before .before .args .bytes .now) 0 (c .before .before .before .before .before .pre) (the-byte (c .before .before)) (plain 71 (omega arith)) (c .if2 .left)
 
 the-top : (c : tie.After-known-told) → NumberThen (c .before .before .before .before .before .before .before .before .before .args .bytes .now) 2 (c .before .top .given .0 .0) (c .before .top .given .0 .1 .0)
 the-top c = number-then (c .before .before .before .before .before .before .before .before .before .args .bytes .now) 2 (the-letter (c .before .before .before .before) .place) (c .before .before .before .number-before .ensures) (c .before .top .given .1)
@@ -33,13 +33,13 @@ returns : tie.Need-returns
 returns c = headless (c .before .before .before .before .args .bytes .now) (c .no-head .ensures) (other-head (c .before .before .before .before .args .bytes .now) (λ z. c .before .if1 .taken (byte-here (c .before .before .before .before .args .bytes .now) 0 (c .before .before .before .before .pre .inside) ∙ z)))
 
 shared-slice-read-if2 : tie.Need-shared-slice-read-if2
-shared-slice-read-if2 c = letter-next (c .before .before .before .before .args .bytes .now) 0 (c .before .before .before .before .pre) (the-byte (c .before)) (λ z. omega arith) (λ z. omega arith) .inside
+shared-slice-read-if2 c = letter-next (c .before .before .before .before .args .bytes .now) 0 (c .before .before .before .before .pre) (the-byte (c .before)) (plain 71 (omega arith)) .inside
 
 no-head-requires-2 : tie.Need-no-head-requires-2
 no-head-requires-2 c κs = search needs
 
 returns-2 : tie.Need-returns-2
-returns-2 c = headless (c .before .before .before .before .before .before .args .bytes .now) (c .no-head2 .ensures) (gone-head (c .before .before .before .before .before .before .args .bytes .now) (letter-gone (c .before .before .before .before .before .before .args .bytes .now) 0 (c .before .before .before .before .before .before .pre) (the-byte (c .before .before .before)) (λ z. omega arith) (λ z. omega arith) (c .before .if2 .taken)))
+returns-2 c = headless (c .before .before .before .before .before .before .args .bytes .now) (c .no-head2 .ensures) (gone-head (c .before .before .before .before .before .before .args .bytes .now) (letter-gone (c .before .before .before .before .before .before .args .bytes .now) 0 (c .before .before .before .before .before .before .pre) (the-byte (c .before .before .before)) (plain 71 (omega arith)) (c .before .if2 .taken)))
 
 number-before-requires : tie.Need-number-before-requires
 number-before-requires c κs = (the-letter c .place, comma-class)
