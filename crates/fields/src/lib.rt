@@ -1,7 +1,7 @@
 // The fields of a line: numbers and literals. A place is an index into a text that ends with byte 10, so a byte that is not 10 has a
 // byte behind it, and no length is tested.
 ghost use mathlib.Core.Path.{_≡_};
-ghost use Prim.Native.Nat.{_<_, _+_};
+ghost use Prim.Native.Nat.{_+_};
 ghost use lib.ListN.{length};
 ghost use Rattle.fields.specs.Cursor.{classOf, Within, DigitAs, SignIs, DigitsAt, LiteralAt, numberBefore};
 

@@ -22,7 +22,7 @@ use Rattle.reader.specs.Checks.{factRange, ruleRange, entryRange, faultO
 use Rattle.lines.proofs.Forms.{form-size}
 use Rattle.lines.proofs.Writes.{sets-front}
 
-pub and-true : (t : Bool) → (t && true) ≡ t
+and-true : (t : Bool) → (t && true) ≡ t
 and-true true = refl
 and-true false = refl
 

@@ -14,6 +14,7 @@ use Rattle.fields.specs.Cursor.{Within, fieldsAt, linesAfter}
 use Rattle.reader.specs.declared.check.Line.{Line}
 use Rattle.reader.specs.declared.check.Line.the-variants as line-as
 use Rattle.reader.specs.declared.check.Head.{Head}
+use Rattle.reader.specs.declared.check.Head.the-variants as head-as
 use Rattle.reader.specs.declared.check.Tally.{Tally}
 use Rattle.reader.specs.declared.check.Tally.the-variants.{Good, Bad}
 use Rattle.reader.specs.declared.check.Checked.{Checked}
@@ -52,15 +53,16 @@ abbrev pub LineAs : List ℕ → ℕ → ℕ → ℕ → Line → Type 0
 LineAs s at top n (line-as.Good next size) = LineGood s at top n next size
 LineAs s at top n (line-as.Bad number) = lineRefusal top n (fieldsAt (drop at s)) ≡ some number
 
--- what the first line says
-pub record HeadSays (s : List ℕ) (h : Head) : Type 0 where
-  pub top : h .top ≡ valueOf (field (fieldsAt s) 1)
-  pub conditions : h .conditions ≡ valueOf (field (fieldsAt s) 2)
-  pub lines : linesAfter s ≡ textLines (drop (h .next) s)
+-- the first line has its form, says top and C, and the next line begins at the place `next`
+pub record HeadSays (s : List ℕ) (t n next : ℕ) : Type 0 where
+  pub form : isHead (fieldsAt s) ≡ true
+  pub top : t ≡ valueOf (field (fieldsAt s) 1)
+  pub conditions : n ≡ valueOf (field (fieldsAt s) 2)
+  pub lines : linesAfter s ≡ textLines (drop next s)
 
-pub record HeadAt (s : List ℕ) (h : Head) : Type 0 where
-  pub form : h .form ≡ isHead (fieldsAt s)
-  pub says : h .form ≡ true → HeadSays s h
+abbrev pub HeadAt : List ℕ → Head → Type 0
+HeadAt s (head-as.Good t n next) = HeadSays s t n next
+HeadAt s head-as.Form = isHead (fieldsAt s) ≡ false
 
 -- the entries of the lines from a place on
 abbrev pub entriesOf : List ℕ → ℕ → List ℕ

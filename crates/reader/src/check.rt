@@ -1,6 +1,5 @@
 // The first pass over a text: each line is parsed and its fields are checked, and the used length is summed.
 ghost use mathlib.Core.Path.{_≡_};
-ghost use mathlib.Core.Bool.{false};
 ghost use Prim.Native.Nat.{_≤_};
 ghost use lib.ListN.{length, drop};
 ghost use Rattle.semantics.specs.Area.{every, allUnder};
@@ -97,23 +96,14 @@ fn check_line(bytes: &[u8], at: usize, top: u16, conditions: u16) -> Line
     Line::Good { next, size: end }
 }
 
-// The first line, `G,top,C`, and the place behind it.
-pub struct Head {
-    pub form: bool,
-    pub top: u16,
-    pub conditions: u16,
-    pub next: usize,
-}
-
-fn no_head() -> Head
-    ensures { λ r. ⌜ r .form ≡ false ⌝ }
-{
-    Head {
-        form: false,
-        top: 0,
-        conditions: 0,
-        next: 0,
-    }
+// What is read of the first line, `G,top,C`: top, C and the place of the next line, or that the line has no form.
+pub enum Head {
+    Good {
+        top: u16,
+        conditions: u16,
+        next: usize,
+    },
+    Form,
 }
 
 fn parse_head(bytes: &[u8]) -> Head
@@ -121,19 +111,18 @@ fn parse_head(bytes: &[u8]) -> Head
     ensures { λ r. ⌜ HeadAt (now (bytes .entry)) r ⌝ }
 {
     if bytes[0] != b'G' {
-        return no_head();
+        return Head::Form;
     }
     if bytes[1] != b',' {
-        return no_head();
+        return Head::Form;
     }
     let Field::Number(top, a) = number_before(bytes, 2, b',') else {
-        return no_head();
+        return Head::Form;
     };
     let Field::Number(conditions, next) = number_before(bytes, a, b'\n') else {
-        return no_head();
+        return Head::Form;
     };
-    Head {
-        form: true,
+    Head::Good {
         top: top as u16,
         conditions: conditions as u16,
         next,
@@ -176,20 +165,23 @@ fn check_lines(bytes: &[u8], from: usize, top: u16, conditions: u16) -> Tally
     }
 }
 
-// Top and C of the first line are in range.
-fn head_in_range(top: u16, conditions: u16) -> bool
-    ensures { λ r. ⌜ r ≡ every (headRanges top conditions) ⌝ }
+// The refusal for the first field of the first line that is out of range; 0 where there is none.
+fn head_fault(top: u16, conditions: u16) -> u16
+    ensures { λ r. ⌜ r ≡ faultOf (every (headRanges top conditions)) ⌝ }
 {
     if top < 1 {
-        return false;
+        return 4;
     }
     if 200 < top {
-        return false;
+        return 4;
     }
     if conditions < 1 {
-        return false;
+        return 4;
     }
-    conditions <= 512
+    if 512 < conditions {
+        return 4;
+    }
+    0
 }
 
 // What a text comes to: the numbers of its page and the place of its second line, or a refusal.
@@ -212,24 +204,29 @@ fn check_all(bytes: &[u8]) -> Checked
     requires { ⌜ Within (now bytes) 0 ⌝ }
     ensures { λ r. ⌜ CheckedAs (badLineOf (textLines (now (bytes .entry)))) (now (bytes .entry)) r ⌝ }
 {
-    let head = parse_head(bytes);
-    if !head.form {
+    let Head::Good {
+        top,
+        conditions,
+        next,
+    } = parse_head(bytes)
+    else {
         return Checked::Refused { number: 3, line: 1 };
+    };
+    let fault = head_fault(top, conditions);
+    if fault != 0 {
+        return Checked::Refused {
+            number: fault,
+            line: 1,
+        };
     }
-    let top = head.top;
-    let conditions = head.conditions;
-    if !head_in_range(top, conditions) {
-        return Checked::Refused { number: 4, line: 1 };
-    }
-    let from = head.next;
-    let tally = check_lines(bytes, from, top, conditions);
+    let tally = check_lines(bytes, next, top, conditions);
     match tally {
         Tally::Good { count, used } => Checked::Page {
             top,
             conditions,
             count,
             used,
-            from,
+            from: next,
         },
         Tally::Bad { number, line } => Checked::Refused { number, line },
     }
