@@ -80,7 +80,7 @@ pub enum Line {
     Bad(u16),
 }
 
-// The line at a place. It is refused here and nowhere else: its form first, then its fields in their order.
+// The line at a place, and its refusal: its form first, then its fields in their order. The longest entry has 12 numbers.
 fn check_line(bytes: &[u8], at: usize, top: u16, conditions: u16) -> Line
     requires { ⌜ Within (now bytes) at × (conditions ≤ 512) ⌝ }
     ensures { λ r. ⌜ LineAs (now (bytes .entry)) at top conditions r ⌝ }

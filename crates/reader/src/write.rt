@@ -5,7 +5,7 @@ ghost use Rattle.reader.specs.Checks.{LinesFit, entriesOf};
 use lines::Entry;
 use lines::parse_line;
 
-// The entries of the lines from a place on, behind the four numbers of the head.
+// The entries of the lines from a place on, behind the four numbers of the head. Each line has a form, so the loop goes to the end.
 pub fn write_lines(bytes: &[u8], from: usize, area: &mut [u16])
     requires { ⌜ LinesFit (now bytes) from (now area) 4 ⌝ }
     ensures { λ _. ⌜ now (area .exit) ≡ sets (now (area .entry)) 4 (entriesOf (now (bytes .entry)) from) ⌝ }
