@@ -36,11 +36,11 @@ module _ (s : List ℕ) (at m : ℕ) where
   before-none n = rw n
 
   module _ {v e x : ℕ} (n : Numbered s at v e) (b : x ≡ getD s e 10) where
-    pub before-number : x ≡ m → Number v (e + 1) ≡ numberBefore s at m
+    before-number : x ≡ m → Number v (e + 1) ≡ numberBefore s at m
     unfolding numberBefore
     before-number h = rw (n .number, n .end, n .value, eq-eqb (getD s e 10) m (sym b ∙ h))
 
-    pub before-other : (x ≡ m → ⊥) → Bad ≡ numberBefore s at m
+    before-other : (x ≡ m → ⊥) → Bad ≡ numberBefore s at m
     unfolding numberBefore
     before-other h = rw (n .number, n .end, n .value, ne-eqb (getD s e 10) m (λ z. h (b ∙ z)))
 
@@ -184,7 +184,7 @@ module _ (s : List ℕ) (at : ℕ) (w : Within s at) where
         field-more s at (at + 1) refl (λ (z : classOf (getD s at 10) ≡ 10). let k : 11 ≡ 10 = ap classOf (sym e) ∙ z in omega arith)
         ∙ ap (λ (y : ℕ). y ∷ fieldAt s (at + 1)) e
 
-    pub negated-none : isNumber (fieldAt s (at + 1)) ≡ false → Bad ≡ literalTo s at
+    negated-none : isNumber (fieldAt s (at + 1)) ≡ false → Bad ≡ literalTo s at
     unfolding literalTo isLiteral
     negated-none h = rw (negated-field, h)
 
@@ -194,10 +194,10 @@ module _ (s : List ℕ) (at : ℕ) (w : Within s at) where
         let g : at + suc (length (fieldAt s (at + 1))) ≡ e = omega (arith, h .end) in
         rw (negated-field, h .number, h .value, g)
 
-    pub negated-place : Within s (at + 1)
+    negated-place : Within s (at + 1)
     negated-place = within-next s at w (λ z. omega (arith, byte-first))
 
-    pub negated-coded : {v e : ℕ} → Digits s (at + 1) v e → Coded s at (2 * v + 1) e
+    negated-coded : {v e : ℕ} → Digits s (at + 1) v e → Coded s at (2 * v + 1) e
     negated-coded {v} {e} d =
         record {
           ends = λ t. negated-literal (d .ends t);
@@ -215,7 +215,7 @@ module _ (s : List ℕ) (at : ℕ) (w : Within s at) where
         go (yes e) = rw (field-end s at e)
         go (no k) = rw (field-more s at (at + 1) refl k) (ne-eqb (getD s at 10) 33 (λ z. n (byte-first ∙ z)))
 
-    pub positive-none : isNumber (fieldAt s at) ≡ false → Bad ≡ literalTo s at
+    positive-none : isNumber (fieldAt s at) ≡ false → Bad ≡ literalTo s at
     unfolding literalTo isLiteral
     positive-none h = rw (not-negated, h)
 
@@ -223,7 +223,7 @@ module _ (s : List ℕ) (at : ℕ) (w : Within s at) where
     unfolding literalTo isLiteral literalIn
     positive-literal {v} {e} h = rw (not-negated, h .number, h .value, h .end)
 
-    pub positive-coded : {v e : ℕ} → Digits s at v e → Coded s at (2 * v) e
+    positive-coded : {v e : ℕ} → Digits s at v e → Coded s at (2 * v) e
     positive-coded {v} {e} d =
         record {
           ends = λ t. positive-literal (d .ends t);

@@ -1,6 +1,6 @@
 -- The ranges of a line, read off its entry. Assumes nothing.
 use mathlib.Core.Path.{_≡_, refl, sym, _∙_, ap}
-use mathlib.Core.Bool.{Bool, true, false, not, _&&_}
+use mathlib.Core.Bool.{Bool, true, false, not}
 use mathlib.Core.List.{List, [], _∷_, map}
 use mathlib.Core.Option.{none, some}
 use Prim.Native.Nat.{ℕ, _+_, _*_, _≤_, _<_}
@@ -19,12 +19,8 @@ use Rattle.semantics.specs.Text.{hasForm, lineIn, literalRanges, rangeTests}
 use Rattle.fields.specs.Cursor.{fieldsAt}
 use Rattle.lines.specs.Lines.{LinePut}
 use Rattle.reader.specs.Checks.{factRange, ruleRange, entryRange, faultOf, lineRefusal, LineGood}
-use Rattle.lines.proofs.Forms.{form-size}
+use Rattle.lines.proofs.Forms.{and-true, form-size}
 use Rattle.lines.proofs.Writes.{sets-front}
-
-and-true : (t : Bool) → (t && true) ≡ t
-and-true true = refl
-and-true false = refl
 
 -- What `fact_fault` answers.
 module _ (top l h : ℕ) where
