@@ -7,19 +7,7 @@ pub mod Entries
 pub mod Sizes
 pub mod OneEntry
 pub mod Scans
--- tables of one end of every literal
-pub mod Tables
--- an op over the numbers of literals, and a rule's end
-pub mod Folds
-pub mod RuleEnds
--- the lines of an area by number, and the body value as the largest over them
-pub mod LineNumbers
-pub mod BodyEnds
--- binary digits
-pub mod Bits
--- sets of conditions as bits
-pub mod Sets
--- heads woken in a loop
-pub mod Waking
--- readers and dependants woken
-pub mod Dependants
+-- beginnings and items in one slice
+pub mod Lent
+-- an index that may be missing
+pub mod Parts

@@ -1,15 +1,15 @@
 -- Document 01, "Operations and their refusals", on areas: what each call answers, and what it leaves in every lent slice.
 -- Assumes nothing.
-use mathlib.Core.Bool.{Bool, true, false, not, _&&_}
+use mathlib.Core.Bool.{Bool, true, false, not, cond, _&&_}
 use mathlib.Core.List.{List, [], _∷_, _++_}
 use mathlib.Core.Option.{Option, none, some}
 use mathlib.Core.Path.{_≡_}
-use Prim.Native.Nat.{ℕ, zero, suc, _*_}
+use Prim.Native.Nat.{ℕ, zero, suc, _+_, _-_, _*_}
 use lib.Dec.{leb}
 use lib.ListN.{length, drop}
 use Rattle.fixpoint.specs.Interval.{Interval, Assign}
 use Rattle.semantics.specs.Page.{Page}
-use Rattle.semantics.specs.Area.{sound, pageOf, allUnder}
+use Rattle.semantics.specs.Area.{sound, pageOf, firstLine, conditionsOf, countOf, usedOf, allUnder}
 use Rattle.semantics.specs.Reading.{IsClosed, closure, countR, countE, bound}
 use Rattle.semantics.specs.Worklist.{Worklist, start}
 use Rattle.semantics.specs.RunArea.{runOf, worklistOf, reachedOf, runSound}
@@ -57,9 +57,12 @@ abbrev pub leftAs : Option ℕ → Page → List ℕ → Outcome → Left
 leftAs (some k) page r o = record { answer = refused k; run = r }
 leftAs none page r o = record { answer = o .answer; run = runOf page (reachedOf page r) (o .state) ++ drop (3 * page .conditions) r }
 
+abbrev pub runCauses : List ℕ → List ℕ → List Cause
+runCauses a r = cause (not (sound a)) 10 ∷ cause (not (runSound (pageOf a) r)) 14 ∷ []
+
 unfoldable pub operation : List ℕ → List ℕ → Call → Left
 operation a r c =
-    leftAs (firstOf (cause (not (sound a)) 10 ∷ cause (not (runSound (pageOf a) r)) 14 ∷ [])) (pageOf a) r
+    leftAs (firstOf (runCauses a r)) (pageOf a) r
     (outcome (pageOf a) (reachedOf (pageOf a) r) (worklistOf (pageOf a) r) c)
 
 abbrev pub evaluateOf : List ℕ → List ℕ → ℕ → Left
@@ -70,6 +73,30 @@ driveOf a r k = operation a r (drive k)
 
 abbrev pub valueOf : List ℕ → List ℕ → ℕ → Answer
 valueOf a r c = operation a r (value c) .answer
+
+-- A workspace: numbers lent for an index of the page, which makes a drive and the closed reading fast and changes no answer. The index
+-- takes C + 1 numbers and one for each line, then 2 × C + 1 and one for each literal.
+abbrev pub linesLength : List ℕ → ℕ
+linesLength a = conditionsOf a + 1 + countOf a
+
+abbrev pub usersLength : List ℕ → ℕ
+usersLength a = 2 * conditionsOf a + 1 + (usedOf a - (firstLine a + 4 * countOf a))
+
+abbrev pub indexLength : List ℕ → ℕ
+indexLength a = linesLength a + usersLength a
+
+unfoldable pub zeros : ℕ → List ℕ
+zeros zero = []
+zeros (suc n) = 0 ∷ zeros n
+
+-- What an accepted call leaves in a workspace: zeros where the index stood. One that is too short is not touched.
+abbrev pub usedWorkspace : List ℕ → List ℕ → List ℕ
+usedWorkspace a w = cond (leb (indexLength a) (length w)) (zeros (indexLength a) ++ drop (indexLength a) w) w
+
+-- A refusal leaves it as it is.
+abbrev pub workspaceAs : Option ℕ → List ℕ → List ℕ → List ℕ
+workspaceAs (some k) a w = w
+workspaceAs none a w = usedWorkspace a w
 
 -- how many scratch numbers the closed reading takes
 abbrev pub scratchLength : Page → ℕ
@@ -83,14 +110,17 @@ closedCauses a qs scratch answers =
     ∷ cause (not (leb (2 * length qs) (length answers))) 19
     ∷ [])
 
+-- The workspaces of the two operations that take one.
+unfoldable pub driveWorkspace : List ℕ → List ℕ → List ℕ → List ℕ
+driveWorkspace a r w = workspaceAs (firstOf (runCauses a r)) a w
+
+unfoldable pub closedWorkspace : List ℕ → List ℕ → List ℕ → List ℕ → List ℕ → List ℕ
+closedWorkspace a qs scratch answers w = workspaceAs (firstOf (closedCauses a qs scratch answers)) a w
+
 -- "low, high per query in list order"
 abbrev pub ends : Assign → List ℕ → List ℕ
 ends C [] = []
 ends C (q ∷ qs) = C q .low ∷ C q .high ∷ ends C qs
-
-unfoldable pub zeros : ℕ → List ℕ
-zeros zero = []
-zeros (suc n) = 0 ∷ zeros n
 
 -- What an accepted call leaves: the page has a closed reading, and these are its answers. (It has exactly one: `closed-one`.)
 pub record ClosedAnswers (a qs scratch answers scratch′ answers′ : List ℕ) : Type 0 where

@@ -73,7 +73,7 @@ module _ (a values : List ℕ) (at : ℕ) (r : RuleAt (topOf a) (conditionsOf a)
   rest-length : length rest ≡ at + 4 + getD a (at + 3) 0 - (at + 5)
   rest-length = simp (length-take, length-drop) (omega (arith, r .fits, r .some))
 
-  rest-code : (j : ℕ) → j < length rest → getD rest j 0 < 2 * conditionsOf a
+  pub rest-code : (j : ℕ) → j < length rest → getD rest j 0 < 2 * conditionsOf a
   rest-code j l =
       let m : j < at + 4 + getD a (at + 3) 0 - (at + 5) = omega (arith, rest-length) in
       let q : getD rest j 0 ≡ getD a (at + 4 + (j + 1)) 0 =

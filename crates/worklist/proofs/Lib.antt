@@ -3,5 +3,11 @@ pub mod Soundness
 -- the dependants of a condition
 pub mod Stores
 pub mod Marking
+-- the set of those that wait
+pub mod Matching
+-- heads woken in a loop
+pub mod Waking
+-- dependants woken
+pub mod Dependants
 -- an evaluation
 pub mod Evaluation

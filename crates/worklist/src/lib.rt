@@ -1,15 +1,20 @@
+// The cells of a run area (low, high, mark for each condition): soundness, the lowest waiting condition, waking dependants, a store.
 ghost use mathlib.Core.Path.{_≡_};
 ghost use mathlib.Core.Bool.{true, cond, not};
 ghost use Prim.Native.Nat.{ℕ, _≤_, _+_, _<_, _*_};
 ghost use lib.ListN.{length, getD, drop};
 ghost use Rattle.fixpoint.specs.ChaoticIteration.{same};
 ghost use Rattle.fixpoint.specs.Interval.{Interval};
-ghost use Rattle.semantics.specs.Area.{sound, pageOf, every, lineAt};
+ghost use Rattle.semantics.specs.Area.{sound, pageOf, conditionsOf, every, lineAt};
 ghost use Rattle.semantics.specs.RunArea.{intervalAt, markAt, cellTests, runSound};
 ghost use Rattle.page.specs.Lines.{EntryIn, lineNames};
+ghost use Rattle.index.specs.Groups.{Cleared};
+ghost use Rattle.index.specs.Parts.{MaybeUsers};
 ghost use Rattle.worklist.specs.Cells.{Lowest, DependantsMarked};
+ghost use Rattle.worklist.specs.Waiting.{WordsMatch, StillMatches};
+ghost use Rattle.worklist.specs.Woken.{HeadsIn, HeadsWoken, SetKept};
 ghost use Rattle.worklist.specs.Marks.{marked};
-ghost use Rattle.worklist.specs.Evaluation.{stored, Evaluated};
+ghost use Rattle.worklist.specs.Evaluation.{stored};
 
 // Whether the cell of c (low, high, mark) is sound.
 fn cell_ok(run: &[u16], c: u16, top: u16) -> bool
@@ -76,25 +81,29 @@ pub fn lowest_waiting(run: &[u16], n: u16) -> u16
     c
 }
 
-// The condition h waits if it is reached.
-pub fn mark_waiting(run: &mut [u16], h: u16)
-    requires { ⌜ 3 * h + 3 ≤ length (now run) ⌝ }
-    ensures { λ r. ⌜ now (run .exit) ≡ marked h (now (run .entry)) ⌝ }
+// The set of the conditions that wait.
+pub fn fill_words(run: &[u16], n: u16, words: &mut [u64])
+    requires { ⌜ (3 * n ≤ length (now run)) × (n ≤ 512) × (length (now words) ≡ 8) × Cleared (now words) ⌝ }
+    ensures { λ _. ⌜ WordsMatch n (now (run .entry)) (now (words .exit)) ⌝ }
 {
-    let at = 3 * h as usize + 2;
-    if 0 < run[at] {
-        run[at] = 2;
+    let mut c: u16 = 0;
+    while c < n {
+        if run[3 * c as usize + 2] == 2 {
+            bits::insert(words, c);
+        }
+        c += 1;
     }
 }
 
 // The head of the entry at `at` waits if the entry is a rule that names c and the head is reached. A head that is not reached
 // or that waits already stays as it is, so its literals are not looked at.
-fn mark_head(a: &[u16], at: usize, run: &mut [u16], c: u16)
-    requires { ⌜ EntryIn (now a) at ⌝ }
-    requires { ⌜ 3 * getD (now a) at 0 + 3 ≤ length (now run) ⌝ }
-    ensures { λ r. ⌜ now (run .exit) ≡ cond (lineNames (lineAt (drop at (now (a .entry)))) c) (marked (getD (now (a .entry)) at 0) (now (run .entry))) (now (run .entry)) ⌝ }
+fn wake_head(a: &[u16], at: usize, run: &mut [u16], words: &mut [u64], c: u16)
+    requires { ⌜ EntryIn (now a) at × (3 * getD (now a) at 0 + 3 ≤ length (now run)) × (getD (now a) at 0 < 512) × (length (now words) ≡ 8) ⌝ }
+    ensures marks { λ r. ⌜ now (run .exit) ≡ cond (lineNames (lineAt (drop at (now (a .entry)))) c) (marked (getD (now (a .entry)) at 0) (now (run .entry))) (now (run .entry)) ⌝ }
+    ensures set { λ r. ⌜ ((n : ℕ) → getD (now (a .entry)) at 0 < n → StillMatches n (now (run .entry)) (now (words .entry)) (now (run .exit)) (now (words .exit))) ⌝ }
 {
-    let place = 3 * a[at] as usize + 2;
+    let h = a[at];
+    let place = 3 * h as usize + 2;
     let mark = run[place];
     if mark == 0 {
         return;
@@ -104,22 +113,58 @@ fn mark_head(a: &[u16], at: usize, run: &mut [u16], c: u16)
     }
     if page::line_names(a, at, c) {
         run[place] = 2;
+        bits::insert(words, h);
     }
 }
 
-// Every reached condition with a rule that names c waits.
-pub fn mark_dependants(a: &[u16], run: &mut [u16], c: u16)
-    requires { ⌜ sound (now a) ≡ true ⌝ }
-    requires { ⌜ 3 * getD (now a) 1 0 ≤ length (now run) ⌝ }
-    ensures { λ r. ⌜ DependantsMarked (pageOf (now (a .entry))) c (now (run .entry)) (now (run .exit)) ⌝ }
+// Every reached condition with a rule that names c waits, and the set follows: by a scan of the page.
+fn wake_by_scan(a: &[u16], run: &mut [u16], words: &mut [u64], c: u16)
+    requires { ⌜ (sound (now a) ≡ true) × (3 * conditionsOf (now a) ≤ length (now run)) × (length (now words) ≡ 8) ⌝ }
+    ensures { λ r. ⌜ DependantsMarked (pageOf (now (a .entry))) c (now (run .entry)) (now (run .exit)) × StillMatches (conditionsOf (now (a .entry))) (now (run .entry)) (now (words .entry)) (now (run .exit)) (now (words .exit)) ⌝ }
 {
     let count = a[2];
     let mut line = page::Cursor::first(a);
     while line.passed < count {
         let at = line.at;
-        mark_head(a, at, run, c);
+        wake_head(a, at, run, words, c);
         line = line.next(a);
     }
+}
+
+// Every reached condition among heads[from..to) waits, and the set follows.
+fn wake_group(run: &mut [u16], words: &mut [u64], heads: &[u16], from: usize, to: usize)
+    requires { ⌜ HeadsIn (now heads) from to (now run) × (length (now words) ≡ 8) ⌝ }
+    ensures { λ _. ⌜ HeadsWoken (now (heads .entry)) from to (now (run .entry)) (now (run .exit)) × SetKept (now (heads .entry)) from to (now (run .entry)) (now (words .entry)) (now (run .exit)) (now (words .exit)) ⌝ }
+{
+    let mut i = from;
+    while i < to {
+        let h = heads[i];
+        let at = 3 * h as usize + 2;
+        let mark = run[at];
+        if mark != 2 {
+            if mark != 0 {
+                run[at] = 2;
+                bits::insert(words, h);
+            }
+        }
+        i += 1;
+    }
+}
+
+// Every reached condition with a rule that names c waits, and the set follows: by the dependants of the index, or by a scan where there is none.
+pub fn wake_dependants(a: &[u16], users: &[u16], run: &mut [u16], words: &mut [u64], c: u16)
+    requires { ⌜ (sound (now a) ≡ true) × MaybeUsers (now a) (now users) × (3 * conditionsOf (now a) ≤ length (now run)) × (length (now words) ≡ 8) × (c < conditionsOf (now a)) ⌝ }
+    ensures { λ r. ⌜ DependantsMarked (pageOf (now (a .entry))) c (now (run .entry)) (now (run .exit)) × StillMatches (conditionsOf (now (a .entry))) (now (run .entry)) (now (words .entry)) (now (run .exit)) (now (words .exit)) ⌝ }
+{
+    if users.len() == 0 {
+        wake_by_scan(a, run, words, c);
+        return;
+    }
+    let base = 2 * a[1] as usize + 1;
+    let start = &users[0..base];
+    let heads = &users[base..];
+    let t = 2 * c as usize;
+    wake_group(run, words, heads, start[t] as usize, start[t + 2] as usize);
 }
 
 // Whether two intervals differ, at either end.
@@ -141,26 +186,4 @@ pub fn store_cell(run: &mut [u16], c: u16, low: u16, high: u16, mark: u16)
     run[at] = low;
     run[at + 1] = high;
     run[at + 2] = mark;
-}
-
-// An evaluation of c, which waits: c holds its body value and waits no longer; if that changed it, its dependants wait.
-pub fn step(a: &[u16], run: &mut [u16], c: u16) -> bool
-    requires { ⌜ sound (now a) ≡ true ⌝ }
-    requires { ⌜ runSound (pageOf (now a)) (now run) ≡ true ⌝ }
-    requires { ⌜ c < getD (now a) 1 0 ⌝ }
-    requires { ⌜ markAt (now run) c ≡ 2 ⌝ }
-    ensures { λ r. ⌜ Evaluated (pageOf (now (a .entry))) c (now (run .entry)) (now (run .exit)) r ⌝ }
-{
-    let at = 3 * c as usize;
-    let low = run[at];
-    let high = run[at + 1];
-    let v = page::body(a, run, c);
-    let new_low = v.low;
-    let new_high = v.high;
-    let changed = differs(low, high, new_low, new_high);
-    store_cell(run, c, new_low, new_high, 1);
-    if changed {
-        mark_dependants(a, run, c);
-    }
-    changed
 }

@@ -1,0 +1,2 @@
+-- sets of conditions as words
+pub mod Words

@@ -1,0 +1,2 @@
+-- one table for both ends
+pub mod Mirror
