@@ -8,7 +8,7 @@ use Prim.Native.Nat.{ℕ, zero, suc, _+_, _*_, _-_, _≤_, _<_}
 use native.Mathlib.Numerals.{add-one}
 use native.Mathlib.Omega.{arith}
 use lib.Dec.{eqb, leb, ltb}
-use lib.ListN.{length, getD, set, take, drop, replicate, length-append, length-take, length-drop, length-set}
+use lib.ListN.{length, getD, set, take, drop, length-append, length-take, length-drop, length-set}
 use lib.Seq.{drop-cons, take-suc, take-length, set-at, getD-set-same, getD-set-other, drop-set-lt}
 use mir.Val.{boolByte}
 use borrow.Author.Tests.{le-leb, lt-leb, leb-true, ltb-true, eq-eqb, eqb-true, not-false}
@@ -26,7 +26,6 @@ use Rattle.semantics.proofs.Soundness.{sound-proper, both-true}
 use Rattle.semantics.proofs.Table.{or-cases}
 use Rattle.reach.specs.Marks.{Marks}
 use Rattle.reach.proofs.Refusals.{first-10, first-11, first-12, first-behind}
-use Rattle.index.specs.Groups.{Cleared}
 use Rattle.closed.specs.Scratch.{held, reachedAt}
 use Rattle.closed.specs.Answer.{FirstCause}
 use Rattle.closed.specs.Round.{Begun, closedAt, RoundReady, Alternated, SolveReady, Solved}
@@ -149,12 +148,6 @@ module _ (I : Assign) (qs answers₀ : List ℕ) where
         let e : i ≡ length qs = omega (arith, s .in-list) in
         s .is ∙ ap (λ (j : ℕ). ends I (take j qs) ++ drop (2 * j) answers₀) e ∙ ap (λ (t : List ℕ). ends I t ++ drop (2 * length qs) answers₀) (take-length qs)
 
--- zeros
-pub zeros-are : (m : ℕ) → replicate m 0 ≡ zeros m
-unfolding zeros
-zeros-are zero = refl
-zeros-are (suc m) = ap (λ (t : List ℕ). 0 ∷ t) (zeros-are m)
-
 -- every query is a condition that is reached
 under-listed : (n : ℕ) (qs : List ℕ) → allUnder n qs ≡ true → (c : ℕ) → listed c qs ≡ true → c < n
 unfolding allUnder listed
@@ -257,9 +250,3 @@ module _ (a qs s w : List ℕ) where
 pub byte-is : (b : Bool) → leb 1 (boolByte b) ≡ b
 byte-is true = refl
 byte-is false = refl
-
--- an array of zeros
-pub zeros-clear : (m : ℕ) → Cleared (replicate m 0)
-zeros-clear zero i = refl
-zeros-clear (suc m) zero = refl
-zeros-clear (suc m) (suc i) = zeros-clear m i

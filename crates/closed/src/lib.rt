@@ -1,29 +1,15 @@
 // The closed reading, by rounds of two halves: the least high ends over the low ends held, then the least low ends over the high ends held.
 ghost use mathlib.Core.Path.{_≡_};
-ghost use mathlib.Core.Bool.{true};
 ghost use mathlib.Core.List.{_++_};
 ghost use Prim.Native.Nat.{ℕ, _≤_, _+_, _<_, _*_};
 ghost use lib.ListN.{length, getD, set, drop};
-ghost use Rattle.semantics.specs.Area.{sound, pageOf, conditionsOf, allUnder};
-ghost use Rattle.semantics.specs.Operation.{ends, zeros, ClosedOf};
-ghost use Rattle.reach.specs.Marks.{ClosureMarks};
+ghost use Rattle.semantics.specs.Operation.{ends, ClosedOf};
 ghost use Rattle.closed.specs.Scratch.{held};
 ghost use Rattle.closed.specs.Round.{Begun, SolveReady, Solved};
 ghost use Rattle.closed.specs.Answer.{refusalOf, FirstCause};
 
 mod rounds;
 mod settle;
-
-// The marks of the closure of the queries.
-fn closure_of(a: &[u16], queries: &[u16]) -> [bool; 512]
-    requires { ⌜ (sound (now a) ≡ true) × (allUnder (conditionsOf (now a)) (now queries) ≡ true) ⌝ }
-    ensures { λ r. ⌜ ClosureMarks (pageOf (now (a .entry))) (now (queries .entry)) r ⌝ }
-{
-    let mut first = [0u16; 513];
-    let mut places = [0u16; 1024];
-    index::build::lines_by_head(a, &mut first, &mut places);
-    reach::closure_by_index(a, queries, &first, &places)
-}
 
 // The low ends are 0, and the reached conditions are marked.
 fn begin(scratch: &mut [u16], n: u16, marks: &[bool])
@@ -44,7 +30,7 @@ fn solve(a: &[u16], queries: &[u16], scratch: &mut [u16])
     requires { ⌜ SolveReady (now a) (now queries) (now scratch) ⌝ }
     ensures { λ r. ⌜ Solved (now (a .entry)) (now (queries .entry)) (now (scratch .entry)) (now (scratch .exit)) ⌝ }
 {
-    let marks = closure_of(a, queries);
+    let marks = reach::closure_of(a, queries);
     begin(scratch, a[1], &marks);
     rounds::alternate(a, scratch);
 }
@@ -60,18 +46,6 @@ fn write_answers(scratch: &[u16], n: u16, queries: &[u16], answers: &mut [u16])
         let at = 2 * queries[i] as usize;
         answers[2 * i] = scratch[at];
         answers[2 * i + 1] = scratch[base + at];
-        i += 1;
-    }
-}
-
-// The first m numbers are 0.
-fn clear(scratch: &mut [u16], m: usize)
-    requires { ⌜ m ≤ length (now scratch) ⌝ }
-    ensures { λ r. ⌜ now (scratch .exit) ≡ zeros m ++ drop m (now (scratch .entry)) ⌝ }
-{
-    let mut i: usize = 0;
-    while i < m {
-        scratch[i] = 0;
         i += 1;
     }
 }
@@ -121,6 +95,6 @@ pub fn closed_reading(
     solve(page, queries, scratch);
     let n = page[1];
     write_answers(scratch, n, queries, answers);
-    clear(scratch, 6 * n as usize);
+    index::erase(scratch, 6 * n as usize);
     ClosedAnswer::Done
 }

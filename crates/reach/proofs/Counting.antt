@@ -6,6 +6,8 @@ use Prim.Native.Nat.{ℕ, zero, suc, _+_, _*_, _≤_, _<_}
 use native.Mathlib.Numerals.{add-one}
 use native.Mathlib.Decide.{decLe}
 use native.Mathlib.Omega.{arith}
+use lib.Dec.{eqb}
+use lib.ListN.{set, replicate}
 use Rattle.fixpoint.specs.ChaoticIteration.{DependencyClosed}
 use Rattle.fixpoint.specs.Sum.{sum, bit, count}
 use Rattle.fixpoint.proofs.Sum.{sum-eq, sum-zero}
@@ -16,11 +18,11 @@ use Rattle.semantics.specs.Table.{member}
 use Rattle.semantics.proofs.Closure.{reached-closed}
 use Rattle.semantics.proofs.Readings.{names-inside}
 use Rattle.semantics.proofs.Soundness.{sound-proper}
-use Rattle.reach.specs.Listing.{Reaches}
-use Rattle.reach.specs.Marks.{Marks, ClosureMarks}
-use Rattle.reach.proofs.Listing.{listing-few}
-use Rattle.reach.proofs.Naming.{conditions-few}
-use Rattle.reach.proofs.Sets.{not-so}
+use Rattle.reach.specs.Marks.{Marks, ClosureMarks, Adds, namedBy}
+use Rattle.reach.proofs.Adding.{adds-new}
+use Rattle.reach.proofs.Following.{conditions-few}
+use Rattle.reach.proofs.Naming.{any-eq, any-only}
+use Rattle.reach.proofs.Passes.{not-so, none-marked}
 
 pub sum-none : (f : ℕ → ℕ) → sum 0 f ≡ 0
 unfolding sum
@@ -49,16 +51,31 @@ count-past n (suc k) s l h =
     ]
 
 -- the conditions that one condition names
-module _ (a : List ℕ) (ok : sound a ≡ true) (c : ℕ) where
-  pub named-count : {m₀ m : List Bool} {list list′ : List ℕ} {r : ℕ} → ((b : ℕ) → member m₀ b ≡ false) → Reaches (names (pageOf a) c) m₀ list 0 m list′ r
-      → (r ≡ count (conditionsOf a) (names (pageOf a) c)) × (r ≤ 512)
+module _ (a : List ℕ) (ok : sound a ≡ true) (c : ℕ) (l : c < conditionsOf a) where
+  abbrev blank : List Bool
+  blank = replicate 512 false
+
+  one-marked : (b : ℕ) → member (set blank c true) b ≡ eqb c b
+  one-marked b =
+      adds-new blank c (omega (arith, conditions-few a ok)) (none-marked 512 c) refl .is b
+      ∙ ap (λ (t : Bool). t || eqb c b) (none-marked 512 b)
+
+  named-is : (b : ℕ) → namedBy (pageOf a) (set blank c true) b ≡ names (pageOf a) c b
   unfolding pageOf
-  named-count {m = m} {r = r} none h =
-      let all : count 512 (member m) ≡ count 512 (names (pageOf a) c) = sum-eq 512 _ _ (λ b k. ap bit (h .is b ∙ ap (λ (t : Bool). t || names (pageOf a) c b) (none b))) in
+  named-is b =
+      any-eq (conditionsOf a) _ (λ x. eqb c x && names (pageOf a) x b) (λ x k. ap (λ (t : Bool). t && names (pageOf a) x b) (one-marked x))
+      ∙ any-only (conditionsOf a) c (λ x. names (pageOf a) x b) l
+
+  pub named-count : {m : List Bool} {r : ℕ} → Adds (namedBy (pageOf a) (set blank c true)) blank m r → r ≡ count (conditionsOf a) (names (pageOf a) c)
+  unfolding pageOf
+  named-count {m} {r} h =
+      let none : count 512 (member blank) ≡ 0 = sum-eq 512 _ (λ b. 0) (λ b k. ap bit (none-marked 512 b)) ∙ sum-zero 512 in
+      let all : count 512 (member m) ≡ count 512 (names (pageOf a) c)
+      = sum-eq 512 _ _ (λ b k. ap bit (h .is b ∙ ap (λ (t : Bool). t || namedBy (pageOf a) (set blank c true) b) (none-marked 512 b) ∙ named-is b)) in
       let few : count 512 (names (pageOf a) c) ≡ count (conditionsOf a) (names (pageOf a) c)
       = count-past (conditionsOf a) 512 (names (pageOf a) c) (conditions-few a ok)
       (λ b k. not-so (names (pageOf a) c b) (λ q. let i = names-inside (pageOf a) (sound-proper a ok) c b q in omega arith)) in
-      (omega (arith, h .listing .counted), listing-few (h .listing))
+      omega (arith, h .counted)
 
 -- E, row by row
 module _ (page : Page) (m : List Bool) where

@@ -1,13 +1,11 @@
--- sets of conditions as marks
-pub mod Sets
--- what queries and literals name
+-- marking, one condition or several
+pub mod Adding
+-- what queries, literals and lines name
 pub mod Naming
--- what a condition names, by its group of the index
-pub mod Grouping
--- marking and listing what is reached
-pub mod Listing
--- the closure by the list of reached conditions
-pub mod Closing
+-- a scan over the lines that marks what they name
+pub mod Following
+-- the passes, until one adds nothing
+pub mod Passes
 -- R and E
 pub mod Counting
 -- the run area that an opening writes

@@ -4,7 +4,7 @@ ghost use mathlib.Core.List.{map};
 ghost use Prim.Native.Nat.{_≤_, _+_, _<_, _*_};
 ghost use lib.Dec.{eqb, leb};
 ghost use lib.ListN.{length, getD, take, drop};
-ghost use Rattle.semantics.specs.Area.{sound, allUnder, literalOf, pageOf, topOf, conditionsOf, countOf};
+ghost use Rattle.semantics.specs.Area.{sound, lineAt, lineTests, every, allUnder, kind, spanAs, literalOf, pageOf, topOf, conditionsOf};
 ghost use Rattle.fixpoint.specs.ChaoticIteration.{DependencyClosed};
 ghost use Rattle.fixpoint.specs.Sum.{count};
 ghost use Rattle.semantics.specs.Operation.{openOf};
@@ -13,102 +13,128 @@ ghost use Rattle.semantics.specs.Reading.{countE};
 ghost use Rattle.semantics.specs.RunArea.{markOf};
 ghost use Rattle.semantics.specs.Table.{member, listed};
 ghost use Rattle.page.specs.Graded.{RuleAt};
-ghost use Rattle.index.specs.Groups.{LinesByHead, Cleared};
 ghost use Rattle.reach.specs.Opening.{openingOf, accepted, cellSet, Written};
-ghost use Rattle.reach.specs.Listing.{Listing, Reaches};
-ghost use Rattle.reach.specs.Marks.{ClosureMarks};
+ghost use Rattle.reach.specs.Marks.{ClosureMarks, Below, Adds, lineNames, namedBy, Passed, Spread};
 
-// Marks c and puts it behind the `known` conditions listed, unless it is marked; answers how many are listed then.
-fn reach_condition(c: u16, marks: &mut [bool], list: &mut [u16], known: usize) -> usize
-    requires { ⌜ Listing (now marks) (now list) known × (c < 512) ⌝ }
-    ensures { λ r. ⌜ Reaches (eqb c) (now (marks .entry)) (now (list .entry)) known (now (marks .exit)) (now (list .exit)) r ⌝ }
+// Marks c; answers how many marks are new.
+fn mark(marks: &mut [bool], c: usize) -> u32
+    requires { ⌜ (length (now marks) ≡ 512) × (c < 512) ⌝ }
+    ensures { λ r. ⌜ Adds (eqb c) (now (marks .entry)) (now (marks .exit)) r ⌝ }
 {
-    let k = c as usize;
-    if marks[k] {
-        return known;
+    if marks[c] {
+        return 0;
     }
-    marks[k] = true;
-    list[known] = c;
-    known + 1
+    marks[c] = true;
+    1
 }
 
-// Marks and lists the queries.
-fn reach_queries(queries: &[u16], marks: &mut [bool], list: &mut [u16]) -> usize
-    requires { ⌜ Listing (now marks) (now list) 0 × (allUnder 512 (now queries) ≡ true) ⌝ }
-    ensures { λ r. ⌜ Reaches (λ c. listed c (now (queries .entry))) (now (marks .entry)) (now (list .entry)) 0 (now (marks .exit)) (now (list .exit)) r ⌝ }
+// Marks the queries; answers how many marks are new.
+fn mark_queries(queries: &[u16], marks: &mut [bool]) -> u32
+    requires { ⌜ (length (now marks) ≡ 512) × (allUnder 512 (now queries) ≡ true) ⌝ }
+    ensures { λ r. ⌜ Adds (λ c. listed c (now (queries .entry))) (now (marks .entry)) (now (marks .exit)) r ⌝ }
 {
-    let mut known: usize = 0;
+    let mut new: u32 = 0;
     let mut i: usize = 0;
     while i < queries.len() {
-        known = reach_condition(queries[i], marks, list, known);
+        new += mark(marks, queries[i] as usize);
         i += 1;
     }
-    known
+    new
 }
 
-// Marks and lists the conditions of the literals of the rule at `at`.
-fn reach_literals(
-    a: &[u16],
-    at: usize,
-    marks: &mut [bool],
-    list: &mut [u16],
-    before: usize,
-) -> usize
-    requires { ⌜ RuleAt (topOf (now a)) (conditionsOf (now a)) (now a) at × (conditionsOf (now a) ≤ 512) × Listing (now marks) (now list) before ⌝ }
-    ensures { λ r. ⌜ Reaches (mentions (map literalOf (take (getD (now (a .entry)) (at + 3) 0) (drop (at + 4) (now (a .entry)))))) (now (marks .entry)) (now (list .entry)) before (now (marks .exit)) (now (list .exit)) r ⌝ }
+// Marks the conditions that the literals of the rule at `at` name; answers how many marks are new.
+fn mark_literals(a: &[u16], at: usize, marks: &mut [bool]) -> u32
+    requires { ⌜ RuleAt (topOf (now a)) (conditionsOf (now a)) (now a) at × (conditionsOf (now a) ≤ 512) × (length (now marks) ≡ 512) ⌝ }
+    ensures { λ r. ⌜ Adds (mentions (map literalOf (take (getD (now (a .entry)) (at + 3) 0) (drop (at + 4) (now (a .entry)))))) (now (marks .entry)) (now (marks .exit)) r ⌝ }
 {
-    let size = a[at + 3] as usize;
-    let mut known = before;
-    let mut j: usize = 0;
-    while j < size {
-        let code = a[at + 4 + j];
-        known = reach_condition(code / 2, marks, list, known);
+    let y = a[at + 3];
+    let mut new: u32 = 0;
+    let mut j: u16 = 0;
+    while j < y {
+        let code = a[at + 4 + j as usize];
+        new += mark(marks, (code / 2) as usize);
         j += 1;
     }
-    known
+    new
 }
 
-// Marks and lists the conditions that the R lines of c name. The lines of c are its group of the index, F lines among them.
-fn reach_group(
-    a: &[u16],
-    first: &[u16],
-    places: &[u16],
-    c: usize,
-    marks: &mut [bool],
-    list: &mut [u16],
-    before: usize,
-) -> usize
-    requires { ⌜ (sound (now a) ≡ true) × LinesByHead (now a) (now first) (now places) × (c < conditionsOf (now a)) × Listing (now marks) (now list) before ⌝ }
-    ensures { λ r. ⌜ Reaches (names (pageOf (now (a .entry))) c) (now (marks .entry)) (now (list .entry)) before (now (marks .exit)) (now (list .exit)) r ⌝ }
+// Marks the conditions that the line at `at` names, if it is an R line of a condition of the set; answers how many marks are new.
+fn mark_line(a: &[u16], at: usize, left: usize, heads: &[bool], marks: &mut [bool]) -> u32
+    requires { ⌜ (at + left ≤ length (now a)) × (conditionsOf (now a) ≤ 512) × (every (lineTests (topOf (now a)) (conditionsOf (now a)) left (drop at (now a))) ≡ true) × (length (now heads) ≡ 512) × (length (now marks) ≡ 512) ⌝ }
+    ensures { λ r. ⌜ Adds (lineNames (now (heads .entry)) (lineAt (drop at (now (a .entry))))) (now (marks .entry)) (now (marks .exit)) r ⌝ }
 {
-    let end = first[c + 1] as usize;
-    let mut known = before;
-    let mut i = first[c] as usize;
-    while i < end {
-        let at = places[i] as usize;
-        if a[at + 1] != 0 {
-            known = reach_literals(a, at, marks, list, known);
+    let c = a[at] as usize;
+    let k = a[at + 1];
+    if heads[c] {
+        match k {
+            1..=5 => mark_literals(a, at, marks),
+            _ => 0,
         }
-        i += 1;
+    } else {
+        0
     }
-    known
 }
 
-// The marks of the closure of the queries. The reached conditions are listed in the order found; each is followed once.
-pub fn closure_by_index(a: &[u16], queries: &[u16], first: &[u16], places: &[u16]) -> [bool; 512]
-    requires { ⌜ (sound (now a) ≡ true) × (allUnder (conditionsOf (now a)) (now queries) ≡ true) × LinesByHead (now a) (now first) (now places) ⌝ }
+// How many numbers the entry at `at` takes.
+fn span_at(a: &[u16], at: usize) -> usize
+    requires { ⌜ at + 4 ≤ length (now a) ⌝ }
+    ensures { λ r. ⌜ r ≡ spanAs (kind (getD (now (a .entry)) (at + 1) 0)) (getD (now (a .entry)) (at + 3) 0) ⌝ }
+{
+    let k = a[at + 1];
+    match k {
+        1..=5 => 4 + a[at + 3] as usize,
+        _ => 4,
+    }
+}
+
+// Marks every condition that an R line of a condition of the set names, in one scan over the lines; answers how many marks are new.
+fn mark_named(a: &[u16], heads: &[bool], marks: &mut [bool]) -> u32
+    requires { ⌜ (sound (now a) ≡ true) × (length (now heads) ≡ 512) × (length (now marks) ≡ 512) ⌝ }
+    ensures { λ r. ⌜ Adds (namedBy (pageOf (now (a .entry))) (now (heads .entry))) (now (marks .entry)) (now (marks .exit)) r ⌝ }
+{
+    let count = a[2];
+    let used = a[3] as usize;
+    let mut at: usize = 4;
+    let mut k: u16 = 0;
+    let mut new: u32 = 0;
+    while k < count {
+        new += mark_line(a, at, used - at, heads, marks);
+        at += span_at(a, at);
+        k += 1;
+    }
+    new
+}
+
+// One pass: adds every condition that an R line of those found before names; answers how many are new.
+fn pass(a: &[u16], before: &[bool], after: &mut [bool]) -> u32
+    requires { ⌜ (sound (now a) ≡ true) × Below (conditionsOf (now a)) (now before) × (now after ≡ now before) ⌝ }
+    ensures { λ r. ⌜ Passed (pageOf (now (a .entry))) (now (before .entry)) (now (after .exit)) r ⌝ }
+{
+    mark_named(a, before, after)
+}
+
+// The passes, until one adds nothing.
+fn all_passes(a: &[u16], first: [bool; 512]) -> [bool; 512]
+    requires { ⌜ (sound (now a) ≡ true) × Below (conditionsOf (now a)) first ⌝ }
+    ensures { λ r. ⌜ Spread (pageOf (now (a .entry))) first r ⌝ }
+{
+    let mut marks = first;
+    loop {
+        let before = marks;
+        if pass(a, &before, &mut marks) == 0 {
+            return marks;
+        }
+    }
+}
+
+// The marks of the closure of the queries.
+pub fn closure_of(a: &[u16], queries: &[u16]) -> [bool; 512]
+    requires { ⌜ (sound (now a) ≡ true) × (allUnder (conditionsOf (now a)) (now queries) ≡ true) ⌝ }
     ensures { λ r. ⌜ ClosureMarks (pageOf (now (a .entry))) (now (queries .entry)) r ⌝ }
 {
     let mut marks = [false; 512];
-    let mut list = [0; 512];
-    let mut known = reach_queries(queries, &mut marks, &mut list);
-    let mut done: usize = 0;
-    while done < known {
-        let c = list[done] as usize;
-        known = reach_group(a, first, places, c, &mut marks, &mut list, known);
-        done += 1;
-    }
-    marks
+    mark_queries(queries, &mut marks);
+    all_passes(a, marks)
 }
 
 // How many of the first n conditions are marked.
@@ -127,28 +153,28 @@ fn count_marks(marks: &[bool], n: u16) -> u32
     r
 }
 
-// How many conditions the R lines of c name; they are listed in `list`.
-fn named_by(a: &[u16], first: &[u16], places: &[u16], c: usize, list: &mut [u16]) -> u32
-    requires { ⌜ (sound (now a) ≡ true) × LinesByHead (now a) (now first) (now places) × (c < conditionsOf (now a)) × (length (now list) ≡ 512) ⌝ }
-    ensures count { λ r. ⌜ (r ≡ count (conditionsOf (now (a .entry))) (names (pageOf (now (a .entry))) c)) × (r ≤ 512) ⌝ }
-    ensures room { λ _. ⌜ length (now (list .exit)) ≡ 512 ⌝ }
+// How many conditions the R lines of c name.
+fn named_by(a: &[u16], c: u16) -> u32
+    requires { ⌜ (sound (now a) ≡ true) × (c < conditionsOf (now a)) ⌝ }
+    ensures { λ r. ⌜ (r ≡ count (conditionsOf (now (a .entry))) (names (pageOf (now (a .entry))) c)) × (r ≤ 512) ⌝ }
 {
+    let mut head = [false; 512];
     let mut named = [false; 512];
-    reach_group(a, first, places, c, &mut named, list, 0) as u32
+    head[c as usize] = true;
+    mark_named(a, &head, &mut named)
 }
 
 // E, where the marks are those of a set that names only itself.
-fn count_edges(a: &[u16], first: &[u16], places: &[u16], marks: &[bool]) -> u32
-    requires { ⌜ (sound (now a) ≡ true) × LinesByHead (now a) (now first) (now places) × (length (now marks) ≡ 512) × DependencyClosed (conditionsOf (now a)) (names (pageOf (now a))) (member (now marks)) ⌝ }
+fn count_edges(a: &[u16], marks: &[bool]) -> u32
+    requires { ⌜ (sound (now a) ≡ true) × (length (now marks) ≡ 512) × DependencyClosed (conditionsOf (now a)) (names (pageOf (now a))) (member (now marks)) ⌝ }
     ensures { λ r. ⌜ (r ≡ countE (pageOf (now (a .entry))) (now (marks .entry))) × (r ≤ 512 * 512) ⌝ }
 {
-    let n = a[1] as usize;
-    let mut list = [0; 512];
+    let n = a[1];
     let mut r: u32 = 0;
-    let mut c: usize = 0;
+    let mut c: u16 = 0;
     while c < n {
-        if marks[c] {
-            r += named_by(a, first, places, c, &mut list);
+        if marks[c as usize] {
+            r += named_by(a, c);
         }
         c += 1;
     }
@@ -229,65 +255,23 @@ pub enum OpenAnswer {
     },
 }
 
-// The work of an opening that no cause refuses, with room for the index of the page's lines.
-fn open_indexed(
-    page: &[u16],
-    queries: &[u16],
-    run: &mut [u16],
-    first: &mut [u16],
-    places: &mut [u16],
-) -> OpenAnswer
-    requires { ⌜ (sound (now page) ≡ true) × (allUnder (conditionsOf (now page)) (now queries) ≡ true) × (3 * conditionsOf (now page) ≤ length (now run)) ⌝ }
-    requires { ⌜ Cleared (now first) × (conditionsOf (now page) + 1 ≤ length (now first)) × (countOf (now page) ≤ length (now places)) ⌝ }
-    ensures answer { λ r. ⌜ openingOf r ≡ accepted (now (page .entry)) (now (queries .entry)) (now (run .entry)) .answer ⌝ }
-    ensures left { λ _. ⌜ now (run .exit) ≡ accepted (now (page .entry)) (now (queries .entry)) (now (run .entry)) .run ⌝ }
-{
-    let top = page[0];
-    let n = page[1];
-    index::build::lines_by_head(page, first, places);
-    let marks = closure_by_index(page, queries, first, places);
-    let reached = count_marks(&marks, n);
-    let edges = count_edges(page, first, places, &marks);
-    write_run(run, n, top, &marks);
-    OpenAnswer::Opened {
-        reached,
-        edges,
-        bound: bound_of(reached, top, edges),
-    }
-}
-
-// A page of up to 512 lines: a larger array of places would take longer to set to zero than a small page takes to open.
-fn open_short(page: &[u16], queries: &[u16], run: &mut [u16]) -> OpenAnswer
-    requires { ⌜ (sound (now page) ≡ true) × (allUnder (conditionsOf (now page)) (now queries) ≡ true) × (3 * conditionsOf (now page) ≤ length (now run)) × (countOf (now page) ≤ 512) ⌝ }
-    ensures answer { λ r. ⌜ openingOf r ≡ accepted (now (page .entry)) (now (queries .entry)) (now (run .entry)) .answer ⌝ }
-    ensures left { λ _. ⌜ now (run .exit) ≡ accepted (now (page .entry)) (now (queries .entry)) (now (run .entry)) .run ⌝ }
-{
-    let mut first = [0; 513];
-    let mut places = [0; 512];
-    open_indexed(page, queries, run, &mut first, &mut places)
-}
-
-// A page of up to 1,024 lines.
-fn open_long(page: &[u16], queries: &[u16], run: &mut [u16]) -> OpenAnswer
-    requires { ⌜ (sound (now page) ≡ true) × (allUnder (conditionsOf (now page)) (now queries) ≡ true) × (3 * conditionsOf (now page) ≤ length (now run)) ⌝ }
-    ensures answer { λ r. ⌜ openingOf r ≡ accepted (now (page .entry)) (now (queries .entry)) (now (run .entry)) .answer ⌝ }
-    ensures left { λ _. ⌜ now (run .exit) ≡ accepted (now (page .entry)) (now (queries .entry)) (now (run .entry)) .run ⌝ }
-{
-    let mut first = [0; 513];
-    let mut places = [0; 1024];
-    open_indexed(page, queries, run, &mut first, &mut places)
-}
-
 // The work of an opening that no cause refuses.
 fn open_accepted(page: &[u16], queries: &[u16], run: &mut [u16]) -> OpenAnswer
     requires { ⌜ (sound (now page) ≡ true) × (allUnder (conditionsOf (now page)) (now queries) ≡ true) × (3 * conditionsOf (now page) ≤ length (now run)) ⌝ }
     ensures answer { λ r. ⌜ openingOf r ≡ accepted (now (page .entry)) (now (queries .entry)) (now (run .entry)) .answer ⌝ }
     ensures left { λ _. ⌜ now (run .exit) ≡ accepted (now (page .entry)) (now (queries .entry)) (now (run .entry)) .run ⌝ }
 {
-    if page[2] <= 512 {
-        return open_short(page, queries, run);
+    let top = page[0];
+    let n = page[1];
+    let marks = closure_of(page, queries);
+    let reached = count_marks(&marks, n);
+    let edges = count_edges(page, &marks);
+    write_run(run, n, top, &marks);
+    OpenAnswer::Opened {
+        reached,
+        edges,
+        bound: bound_of(reached, top, edges),
     }
-    open_long(page, queries, run)
 }
 
 // Open a run.

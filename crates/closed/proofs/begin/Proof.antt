@@ -6,8 +6,6 @@ use lib.ListN.{length, length-set}
 use Rattle.closed.proofs.Answering.{Beginning, beginning-first, beginning-next, beginning-last, byte-is}
 use Rattle.closed.proofs.begin.Statement.{statement}
 use Rattle.closed.proofs.begin.Tie as tie
-use Rattle.closed.proofs.begin.Reads as reads
-use Rattle.closed.proofs.begin.Lts as lts
 
 abbrev Inv-loop : tie.InvT-loop
 Inv-loop scratch₀ n marks base c₀ scratch c = Beginning n marks scratch₀ scratch c

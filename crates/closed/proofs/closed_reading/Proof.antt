@@ -7,12 +7,6 @@ use Rattle.closed.specs.Answer.{FirstCause}
 use Rattle.closed.proofs.Answering.{under-at, refused-by, solve-ready, room, accepted}
 use Rattle.closed.proofs.closed_reading.Statement.{statement}
 use Rattle.closed.proofs.closed_reading.Tie as tie
-use Rattle.closed.proofs.closed_reading.Reads as reads
-use Rattle.closed.proofs.closed_reading.Lts as lts
-use Rattle.closed.proofs.clear.Reads as clear-reads
-use Rattle.closed.proofs.refusal.Reads as refusal-reads
-use Rattle.closed.proofs.solve.Reads as solve-reads
-use Rattle.closed.proofs.write_answers.Reads as write-answers-reads
 
 -- no cause holds
 abbrev start : tie.After-enum-told → tie.Start
@@ -48,13 +42,13 @@ shared-slice-read-n c = let d = c .before .before .before .before .before in ome
 write-answers-requires : tie.Need-write-answers-requires
 write-answers-requires c κs = let d = c .before .before .before .before .before .before .before in let r = solve-ready _ _ _ _ (none-holds d) in let h = head-of (start d .args .page .now) (r .page-sound) in (under-at _ _ (r .under), omega (arith, r .long, c .before .before .before .before .before .solve .ensures .same-length), h .few, room _ _ _ _ (none-holds d))
 
-cast-clear : tie.Need-cast-clear
-cast-clear c = let d = c .before .before .before .before .before .before .before .before .before .before .before in omega (arith, head-of (start d .args .page .now) (solve-ready _ _ _ _ (none-holds d) .page-sound))
+cast-erase : tie.Need-cast-erase
+cast-erase c = let d = c .before .before .before .before .before .before .before .before .before .before .before in omega (arith, head-of (start d .args .page .now) (solve-ready _ _ _ _ (none-holds d) .page-sound))
 
-mul-clear : tie.Need-mul-clear
-mul-clear c = let d = c .before .before .before .before .before .before .before .before .before .before .before in omega (arith, head-of (start d .args .page .now) (solve-ready _ _ _ _ (none-holds d) .page-sound))
+mul-erase : tie.Need-mul-erase
+mul-erase c = let d = c .before .before .before .before .before .before .before .before .before .before .before in omega (arith, head-of (start d .args .page .now) (solve-ready _ _ _ _ (none-holds d) .page-sound))
 
-clear-requires : tie.Need-clear-requires
+clear-requires : tie.Need-erase-requires
 clear-requires c κs = let d = c .before .before .before .before .before .before .before .before .before .before .before in omega (arith, solve-ready _ _ _ _ (none-holds d) .long, c .before .before .before .before .before .before .before .before .before .solve .ensures .same-length)
 
 same-length-3 : tie.Need-same-length-3
@@ -64,7 +58,7 @@ same-length-4 : tie.Need-same-length-4
 same-length-4 c = search needs
 
 returns-2 : tie.Need-returns-2
-returns-2 c = accepted _ _ _ _ (none-holds (c .before .before .before .before .before .before .before .before .before .before .before .before .before .before)) (c .before .before .before .before .before .before .before .before .before .before .before .before .solve .ensures) (c .before .before .before .before .before .before .write-answers .ensures) (c .before .before .clear .ensures)
+returns-2 c = accepted _ _ _ _ (none-holds (c .before .before .before .before .before .before .before .before .before .before .before .before .before .before)) (c .before .before .before .before .before .before .before .before .before .before .before .before .solve .ensures) (c .before .before .before .before .before .before .write-answers .ensures) (c .before .before .erase .ensures)
 
 pub closed-reading-spec : {M : Type 1} → statement M
 closed-reading-spec =
@@ -79,8 +73,8 @@ closed-reading-spec =
     solve-requires
     shared-slice-read-n
     write-answers-requires
-    cast-clear
-    mul-clear
+    cast-erase
+    mul-erase
     clear-requires
     same-length-3
     same-length-4

@@ -11,11 +11,6 @@ use Rattle.page.proofs.Head.{head-of}
 use Rattle.closed.proofs.Answering.{causes-10, causes-11, causes-12, causes-18, causes-19, causes-none}
 use Rattle.closed.proofs.refusal.Statement.{statement}
 use Rattle.closed.proofs.refusal.Tie as tie
-use Rattle.closed.proofs.refusal.Reads as reads
-use Rattle.closed.proofs.refusal.Lts as lts
-use Rattle.page.proofs.page_sound.Reads as page-sound-reads
-use Rattle.reach.proofs.all_below.Reads as all-below-reads
-use Rattle.reach.proofs.count_ok.Reads as count-ok-reads
 
 -- what the tests that passed say
 abbrev start : tie.Else1 → tie.Start

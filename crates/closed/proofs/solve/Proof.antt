@@ -5,11 +5,6 @@ use Rattle.page.proofs.Head.{head-of}
 use Rattle.closed.proofs.Answering.{rounds-begin, solved}
 use Rattle.closed.proofs.solve.Statement.{statement}
 use Rattle.closed.proofs.solve.Tie as tie
-use Rattle.closed.proofs.solve.Reads as reads
-use Rattle.closed.proofs.solve.Lts as lts
-use Rattle.closed.proofs.begin.Reads as begin-reads
-use Rattle.closed.proofs.closure_of.Reads as closure-of-reads
-use Rattle.closed.proofs.rounds.alternate.Reads as alternate-reads
 
 closure-of-requires : tie.Need-closure-of-requires
 closure-of-requires c κs = search needs

@@ -8,8 +8,6 @@ use Rattle.closed.specs.Scratch.{held}
 use Rattle.closed.proofs.Answering.{Answering, answering-first, answering-length, answering-next, answering-last}
 use Rattle.closed.proofs.write_answers.Statement.{statement}
 use Rattle.closed.proofs.write_answers.Tie as tie
-use Rattle.closed.proofs.write_answers.Reads as reads
-use Rattle.closed.proofs.write_answers.Lts as lts
 
 abbrev Inv-loop : tie.InvT-loop
 Inv-loop scratch n queries answers₀ base i₀ answers i = Answering (held n scratch) queries answers₀ answers i

@@ -8,7 +8,7 @@ use borrow.Author.Needs.{needs}
 use borrow.Author.Tests.{not-true, not-false}
 use Rattle.semantics.specs.Area.{sound, allUnder, conditionsOf}
 use Rattle.page.proofs.Scan.{sound-head}
-use Rattle.reach.proofs.Naming.{conditions-few}
+use Rattle.reach.proofs.Following.{conditions-few}
 use Rattle.reach.proofs.Refusals.{open-10, open-11, open-12, open-13, open-none}
 use Rattle.reach.proofs.open_run.Statement.{statement}
 use Rattle.reach.proofs.open_run.Tie as tie

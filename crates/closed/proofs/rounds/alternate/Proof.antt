@@ -5,9 +5,6 @@ use Rattle.closed.specs.Scratch.{roomAt}
 use Rattle.closed.proofs.Rounding.{Alternating, alternating-first, alternating-next, alternating-last}
 use Rattle.closed.proofs.rounds.alternate.Statement.{statement}
 use Rattle.closed.proofs.rounds.alternate.Tie as tie
-use Rattle.closed.proofs.rounds.alternate.Reads as reads
-use Rattle.closed.proofs.rounds.alternate.Lts as lts
-use Rattle.closed.proofs.rounds.round.Reads as round-reads
 
 abbrev Inv-loop : tie.InvT-loop
 Inv-loop a scratch₀ scratch = Alternating a scratch₀ scratch

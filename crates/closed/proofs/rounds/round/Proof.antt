@@ -6,11 +6,6 @@ use Rattle.page.proofs.Head.{head-of}
 use Rattle.closed.proofs.Rounding.{highs-half, lows-half, rounded}
 use Rattle.closed.proofs.rounds.round.Statement.{statement}
 use Rattle.closed.proofs.rounds.round.Tie as tie
-use Rattle.closed.proofs.rounds.round.Reads as reads
-use Rattle.closed.proofs.rounds.round.Lts as lts
-use Rattle.closed.proofs.rounds.start_highs.Reads as start-highs-reads
-use Rattle.closed.proofs.rounds.start_lows.Reads as start-lows-reads
-use Rattle.closed.proofs.settle.settle.Reads as settle-reads
 
 shared-slice-read-base : tie.Need-shared-slice-read-base
 shared-slice-read-base c = let s = c .before .before .before in omega (arith, head-of (s .args .a .now) (s .pre .page-sound))

@@ -8,9 +8,6 @@ use Rattle.fixpoint.specs.Interval.{Interval}
 use Rattle.closed.proofs.Starting.{StartingHighs, highs-first, highs-next, highs-last, low-read}
 use Rattle.closed.proofs.rounds.start_highs.Statement.{statement}
 use Rattle.closed.proofs.rounds.start_highs.Tie as tie
-use Rattle.closed.proofs.rounds.start_highs.Reads as reads
-use Rattle.closed.proofs.rounds.start_highs.Lts as lts
-use Rattle.value.proofs.bodyless.Reads as bodyless-reads
 
 abbrev Inv-loop : tie.InvT-loop
 Inv-loop a scratch₀ top n base c₀ scratch c = StartingHighs a scratch₀ scratch c

@@ -8,8 +8,6 @@ use Rattle.page.proofs.Head.{head-of}
 use Rattle.closed.proofs.Starting.{StartingLows, lows-first, lows-next, lows-last}
 use Rattle.closed.proofs.rounds.start_lows.Statement.{statement}
 use Rattle.closed.proofs.rounds.start_lows.Tie as tie
-use Rattle.closed.proofs.rounds.start_lows.Reads as reads
-use Rattle.closed.proofs.rounds.start_lows.Lts as lts
 
 abbrev Inv-loop : tie.InvT-loop
 Inv-loop a scratch₀ top n base c₀ scratch c = StartingLows a scratch₀ scratch c

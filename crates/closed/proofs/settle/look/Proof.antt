@@ -9,11 +9,6 @@ use Rattle.closed.proofs.Raising.{line-entry}
 use Rattle.closed.proofs.Looking.{Looking, looking-first, here-index, here-scan, line-here, looking-next, looking-last}
 use Rattle.closed.proofs.settle.look.Statement.{statement}
 use Rattle.closed.proofs.settle.look.Tie as tie
-use Rattle.closed.proofs.settle.look.Reads as reads
-use Rattle.closed.proofs.settle.look.Lts as lts
-use Rattle.closed.proofs.settle.raise.Reads as raise-reads
-use Rattle.page.proofs.Cursor.first.Reads as first-reads
-use Rattle.page.proofs.span_of.Reads as span-of-reads
 
 abbrev Inv-loop : tie.InvT-loop
 Inv-loop a places from to scratch₀ base end at₀ rose₀ i₀ scratch at rose i = Looking (side end) a places from to base scratch₀ scratch at rose i

@@ -4,9 +4,6 @@ use borrow.Author.Needs.{needs}
 use Rattle.closed.proofs.Raising.{facts, line-here, part-grades, raised-query, raised-apart, kept-here, raised-here}
 use Rattle.closed.proofs.settle.raise.Statement.{statement}
 use Rattle.closed.proofs.settle.raise.Tie as tie
-use Rattle.closed.proofs.settle.raise.Reads as reads
-use Rattle.closed.proofs.settle.raise.Lts as lts
-use Rattle.value.proofs.line_end.Reads as line-end-reads
 
 add-if1 : tie.Need-add-if1
 add-if1 c = let s = c .before .before in let f = facts _ _ _ _ (s .pre .0) (s .pre .2) _ (s .pre .1) in omega arith

@@ -9,9 +9,6 @@ use Rattle.closed.specs.Scratch.{roomAt}
 use Rattle.closed.proofs.Settling.{Settling, settling-first, settling-next, settling-last, all-lines, swept}
 use Rattle.closed.proofs.settle.settle.Statement.{statement}
 use Rattle.closed.proofs.settle.settle.Tie as tie
-use Rattle.closed.proofs.settle.settle.Reads as reads
-use Rattle.closed.proofs.settle.settle.Lts as lts
-use Rattle.closed.proofs.settle.look.Reads as look-reads
 
 abbrev Inv-loop : tie.InvT-loop
 Inv-loop a scratch₀ base end none count changed₀ scratch changed = Settling (side end) a scratch₀ scratch changed
