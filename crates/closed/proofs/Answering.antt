@@ -1,108 +1,109 @@
 -- The operation as a whole: the start from the closure, the answers in list order, the cleared scratch, and the refusals. Assumes nothing.
 use mathlib.Core.Path.{_≡_, refl, sym, _∙_, ap, ap₂, subst}
-use mathlib.Core.Bool.{Bool, true, false, _&&_, true≢false, or-true}
-use mathlib.Core.Logic.{inl, inr}
+use mathlib.Core.Bool.{Bool, true, false, not, _&&_, true≢false, or-true}
+use mathlib.Core.Logic.{_≢_, inl, inr}
 use mathlib.Core.List.{List, [], _∷_, _++_, append-assoc}
 use mathlib.Core.Option.{none, some}
 use Prim.Native.Nat.{ℕ, zero, suc, _+_, _*_, _-_, _≤_, _<_}
 use native.Mathlib.Numerals.{add-one}
 use native.Mathlib.Omega.{arith}
 use lib.Dec.{eqb, leb, ltb}
-use lib.ListN.{length, getD, set, take, drop, replicate, length-append, length-take, length-drop}
-use lib.Seq.{drop-cons, take-suc, take-length, set-at, drop-drop}
-use borrow.Author.Tests.{le-leb, lt-leb, leb-true, ltb-true, eq-eqb, eqb-true}
-use Rattle.fixpoint.specs.Interval.{Interval, Within, Assign}
-use Rattle.semantics.specs.Area.{Kind, factKind, ruleKind, queryKind, noKind, kind, spanAs, span, literalsAt, every, fieldTests, lineTests, linesOk, headTests, firstLine, sound, pageOf, topOf, conditionsOf, countOf, usedOf, allUnder}
-use Rattle.semantics.specs.Operation.{ends, zeros, ClosedAnswers, ClosedOf}
+use lib.ListN.{length, getD, set, take, drop, length-append, length-take, length-drop, length-set}
+use lib.Seq.{drop-cons, take-suc, take-length, set-at, getD-set-same, getD-set-other, drop-set-lt}
+use mir.Val.{boolByte}
+use borrow.Author.Tests.{le-leb, lt-leb, leb-true, ltb-true, eq-eqb, eqb-true, not-false}
+use Rattle.fixpoint.specs.Interval.{Interval, Assign}
+use Rattle.semantics.specs.Area.{sound, pageOf, topOf, conditionsOf, allUnder}
+use Rattle.semantics.specs.Body.{unknownByDefault}
+use Rattle.semantics.specs.Call.{Cause, cause, firstOf}
+use Rattle.semantics.specs.Operation.{ends, zeros, scratchLength, closedCauses, ClosedAnswers, ClosedAs, ClosedOf}
 use Rattle.semantics.specs.Reading.{queried, closure, reached}
-use Rattle.semantics.specs.RunArea.{intervalAt, markAt, markOf}
-use Rattle.semantics.specs.Table.{listed}
+use Rattle.semantics.specs.Table.{listed, member}
 use Rattle.semantics.proofs.Closure.{reached-closed, reached-complete}
+use Rattle.semantics.proofs.Invariant.{no-cause-holds}
 use Rattle.semantics.proofs.Readings.{names-inside, closed-is}
-use Rattle.semantics.proofs.Soundness.{sound-proper, every-true, both-true}
+use Rattle.semantics.proofs.Soundness.{sound-proper, both-true}
 use Rattle.semantics.proofs.Table.{or-cases}
 use Rattle.reach.specs.Marks.{Marks}
-use Rattle.reach.specs.Opening.{Written}
-use Rattle.page.proofs.Head.{head-of, conditions-is}
-use Rattle.closed.specs.Settle.{reachedAt, waitsAt}
-use Rattle.closed.specs.Round.{closedAt, RoundsBegin, Alternated, Solved}
-use Rattle.closed.proofs.Rounding.{shut-over}
-use Rattle.closed.proofs.Stores.{beyond-more}
+use Rattle.reach.proofs.Refusals.{first-10, first-11, first-12, first-behind}
+use Rattle.closed.specs.Scratch.{held, reachedAt}
+use Rattle.closed.specs.Answer.{FirstCause}
+use Rattle.closed.specs.Round.{Begun, closedAt, RoundReady, Alternated, SolveReady, Solved}
+use Rattle.closed.proofs.Scratch.{shut-over}
+use Rattle.closed.proofs.Raising.{S}
+use Rattle.closed.proofs.Turns.{turned-none}
+use Rattle.closed.proofs.Starting.{upto}
 
--- a sound page has at most 8 literals to a line
-span-most : (top n : ℕ) (t : Kind) (x y : ℕ) (lits : List ℕ) → every (fieldTests top n t x y lits) ≡ true → spanAs t y ≤ 12
-span-most top n factKind x y lits e = omega arith
-span-most top n (ruleKind op) x y lits e = omega (arith, leb-true y 8 (every-true (fieldTests top n (ruleKind op) x y lits) e .1 .1 .1 .0))
-span-most top n queryKind x y lits e = omega arith
-span-most top n noKind x y lits e = omega arith
+-- the loop that begins: the conditions before c have the low end 0 and their marks
+module _ (n : ℕ) (marks : List Bool) (s₀ : List ℕ) where
+  pub record Beginning (s : List ℕ) (c : ℕ) : Type 0 where
+    pub long : 6 * n ≤ length s₀
+    pub within : c ≤ n
+    pub same-length : length s ≡ length s₀
+    pub lows : (d : ℕ) → d < c → getD s (2 * d) 0 ≡ 0
+    pub marked : (d : ℕ) → d < c → reachedAt n s d ≡ member marks d
+    pub beyond : drop (6 * n) s ≡ drop (6 * n) s₀
 
-lines-most : (top n k left : ℕ) (p : List ℕ) → linesOk top n k left p ≡ true → left ≤ 12 * k
-unfolding linesOk span
-lines-most top n zero left p e = omega (arith, eqb-true left 0 e)
-lines-most top n (suc k) left p e =
-    let b = both-true (every (lineTests top n left p)) (linesOk top n k (left - span p) (drop (span p) p)) e in
-    let h = both-true (leb (span p) left) (ltb (getD p 0 0) n && every (fieldTests top n (kind (getD p 1 0)) (getD p 2 0) (getD p 3 0) (literalsAt p))) (b .0) in
-    let f = both-true (ltb (getD p 0 0) n) (every (fieldTests top n (kind (getD p 1 0)) (getD p 2 0) (getD p 3 0) (literalsAt p))) (h .1) in
-    omega (arith, lines-most top n k (left - span p) (drop (span p) p) (b .1), span-most top n (kind (getD p 1 0)) (getD p 2 0) (getD p 3 0) (literalsAt p) (f .1))
+  pub beginning-first : 6 * n ≤ length s₀ → Beginning s₀ 0
+  beginning-first h =
+      record { long = h; within = omega arith; same-length = refl; lows = λ d l. absurd (omega arith); marked = λ d l. absurd (omega arith); beyond = refl }
 
-pub used-most : (a : List ℕ) → sound a ≡ true → usedOf a ≤ 4 + 4 * countOf a + 8192
-unfolding sound
-used-most a e =
-    let b = both-true (every (headTests a)) (linesOk (topOf a) (conditionsOf a) (countOf a) (usedOf a - firstLine a) (drop (firstLine a) a)) e in
-    omega (arith, lines-most (topOf a) (conditionsOf a) (countOf a) (usedOf a - firstLine a) (drop (firstLine a) a) (b .1), head-of a e)
-
--- the start: the marks of the closure are written
-module _ (a qs run : List ℕ) (ok : sound a ≡ true) (long : 4 * conditionsOf a ≤ length run) {marks : List Bool} (m : Marks (closure (pageOf a) qs) marks)
-    {run₁ : List ℕ} (w : Written (conditionsOf a) 0 marks run run₁) where
-  mark-is : (c : ℕ) → c < conditionsOf a → markAt run₁ c ≡ markOf (reached (pageOf a) qs c) (reached (pageOf a) qs c)
-  mark-is c l = w .mark c l ∙ ap (λ (b : Bool). markOf b b) (m .same c)
-
-  reached-is : (c : ℕ) → c < conditionsOf a → reachedAt run₁ c ≡ reached (pageOf a) qs c
-  reached-is c l = ap (leb 1) (mark-is c l) ∙ go (reached (pageOf a) qs c)
+  pub beginning-next : {s : List ℕ} {c : ℕ} (y : ℕ) → Beginning s c → c < n → leb 1 y ≡ member marks c → Beginning (set (set s (2 * c) 0) (4 * n + c) y) (c + 1)
+  beginning-next {s} {c} y v l q =
+      record {
+        long = v .long;
+        within = omega arith;
+        same-length = simp length-set (v .same-length);
+        lows = upto (λ d. getD s′ (2 * d) 0 ≡ 0) c (λ d m. low d (omega arith) (λ z. omega arith) ∙ v .lows d m)
+            (getD-set-other s₁ (4 * n + c) (2 * c) y 0 (λ z. omega arith) ∙ getD-set-same s (2 * c) 0 0 (omega (arith, v .same-length, v .long)));
+        marked = upto (λ d. reachedAt n s′ d ≡ member marks d) c
+            (λ d m. ap (leb 1) (getD-set-other s₁ (4 * n + c) (4 * n + d) y 0 (λ z. omega arith) ∙ getD-set-other s (2 * c) (4 * n + d) 0 0 (λ z. omega arith)) ∙ v .marked d m)
+            (ap (leb 1) (getD-set-same s₁ (4 * n + c) y 0 (rw length-set (omega (arith, v .same-length, v .long)))) ∙ q);
+        beyond = drop-set-lt (6 * n) s₁ (4 * n + c) y (omega arith) ∙ drop-set-lt (6 * n) s (2 * c) 0 (omega arith) ∙ v .beyond;
+      }
     where
-      go : (b : Bool) → leb 1 (markOf b b) ≡ b
-      go true = refl
-      go false = refl
+      s₁ : List ℕ
+      s₁ = set s (2 * c) 0
 
-  waits-is : (c : ℕ) → c < conditionsOf a → waitsAt run₁ c ≡ reachedAt run₁ c
-  waits-is c l = ap (λ (k : ℕ). eqb k 2) (mark-is c l) ∙ go (reached (pageOf a) qs c) ∙ sym (ap (leb 1) (mark-is c l))
-    where
-      go : (b : Bool) → eqb (markOf b b) 2 ≡ leb 1 (markOf b b)
-      go true = refl
-      go false = refl
+      s′ : List ℕ
+      s′ = set s₁ (4 * n + c) y
 
-  pub rounds-begin : RoundsBegin a run₁
-  unfolding pageOf
+      low : (d : ℕ) → d < n → d ≢ c → getD s′ (2 * d) 0 ≡ getD s (2 * d) 0
+      low d h z = getD-set-other s₁ (4 * n + c) (2 * d) y 0 (λ e. omega arith) ∙ getD-set-other s (2 * c) (2 * d) 0 0 (λ e. z (omega arith))
+
+  pub beginning-last : {s : List ℕ} {c : ℕ} → Beginning s c → n ≤ c → Begun n marks s₀ s
+  beginning-last {s} {c} v l = record { same-length = v .same-length; lows = λ d m. v .lows d (omega arith); marked = λ d m. v .marked d (omega arith); beyond = v .beyond }
+
+-- the start: the marks are those of the closure
+module _ (a qs s : List ℕ) (r : SolveReady a qs s) {marks : List Bool} (m : Marks (closure (pageOf a) qs) marks) {s₁ : List ℕ} (b : Begun (conditionsOf a) marks s s₁) where
+  marked-is : (c : ℕ) → c < conditionsOf a → reachedAt (conditionsOf a) s₁ c ≡ reached (pageOf a) qs c
+  marked-is c l = b .marked c l ∙ m .same c
+
+  pub rounds-begin : RoundReady a s₁
+  unfolding pageOf unknownByDefault
   rounds-begin =
       record {
-        standing = record {
-          page-sound = ok;
-          long = omega (arith, w .size);
-          shut = shut-over reached-is (reached-closed (pageOf a) qs);
-          within = λ c l. subst (Within (pageOf a .top)) (sym (w .interval c l)) (omega arith);
-          apart = λ c l r. w .interval c l;
-        };
-        zeros = w .interval;
-        waiting = waits-is;
+        page-sound = r .page-sound;
+        long = omega (arith, r .long, b .same-length);
+        shut = shut-over marked-is (reached-closed (pageOf a) qs);
+        within = λ c l. omega (arith, b .lows c l);
+        apart = λ c l q. b .lows c l;
+        round = 0;
+        turned = turned-none (S a (r .page-sound)) (shut-over marked-is (reached-closed (pageOf a) qs)) (held (conditionsOf a) s₁) (λ c l q. b .lows c l);
       }
 
-  pub solved : {run′ : List ℕ} → Alternated a run₁ run′ → Solved a qs run run′
-  unfolding pageOf
-  solved {run′} v =
-      record {
-        same-length = v .same-length ∙ w .size;
-        beyond = v .beyond ∙ beyond-more (conditionsOf a) run run₁ (w .rest);
-        reads-closed = λ c l r. v .reads-closed c l (reached-is c l ∙ r);
-      }
+  pub solved : {s′ : List ℕ} → Alternated a s₁ s′ → Solved a qs s s′
+  solved v = record { same-length = v .same-length ∙ b .same-length; beyond = v .beyond ∙ b .beyond; reads-closed = λ c l q. v .reads-closed c l (marked-is c l ∙ q) }
 
 -- the answers: the first i queries are answered
-module _ (I : Assign) (qs answers₀ : List ℕ) (long : 2 * length qs ≤ length answers₀) where
+module _ (I : Assign) (qs answers₀ : List ℕ) where
   pub record Answering (answers : List ℕ) (i : ℕ) : Type 0 where
+    pub long : 2 * length qs ≤ length answers₀
     pub in-list : i ≤ length qs
     pub is : answers ≡ ends I (take i qs) ++ drop (2 * i) answers₀
 
-  pub answering-first : Answering answers₀ 0
-  answering-first = record { in-list = omega arith; is = refl }
+  pub answering-first : 2 * length qs ≤ length answers₀ → Answering answers₀ 0
+  answering-first h = record { long = h; in-list = omega arith; is = refl }
 
   length-ends : (xs : List ℕ) → length (ends I xs) ≡ 2 * length xs
   length-ends [] = omega arith
@@ -128,16 +129,17 @@ module _ (I : Assign) (qs answers₀ : List ℕ) (long : 2 * length qs ≤ lengt
     pub answering-length : length answers ≡ length answers₀
     answering-length =
         ap length (s .is) ∙ length-append (ends I (take i qs)) (drop (2 * i) answers₀)
-        ∙ omega (arith, length-ends (take i qs), length-take i qs, length-drop (2 * i) answers₀, s .in-list)
+        ∙ omega (arith, length-ends (take i qs), length-take i qs, length-drop (2 * i) answers₀, s .in-list, s .long)
 
     pub answering-next : i < length qs → {answers′ : List ℕ} → answers′ ≡ set (set answers (2 * i) (I (getD qs i 0) .low)) (2 * i + 1) (I (getD qs i 0) .high) → Answering answers′ (i + 1)
     answering-next l w =
         let q : ℕ = getD qs i 0 in
         let e : 2 * i + 2 ≡ 2 * (i + 1) = omega arith in
         record {
+          long = s .long;
           in-list = omega arith;
           is = w ∙ ap (λ (t : List ℕ). set (set t (2 * i) (I q .low)) (2 * i + 1) (I q .high)) (s .is)
-              ∙ two-stores (ends I (take i qs)) answers₀ (2 * i) (I q .low) (I q .high) (length-ends (take i qs) ∙ omega (arith, length-take i qs, s .in-list)) (omega arith)
+              ∙ two-stores (ends I (take i qs)) answers₀ (2 * i) (I q .low) (I q .high) (length-ends (take i qs) ∙ omega (arith, length-take i qs, s .in-list)) (omega (arith, s .long))
               ∙ ap₂ {C = List ℕ} (λ x y. x ++ y) (sym (ap (ends I) (ap (λ (j : ℕ). take j qs) (add-one i) ∙ take-suc qs i 0 l) ∙ ends-append (take i qs) (q ∷ []))) (ap (λ (j : ℕ). drop j answers₀) e);
         }
 
@@ -145,12 +147,6 @@ module _ (I : Assign) (qs answers₀ : List ℕ) (long : 2 * length qs ≤ lengt
     answering-last l =
         let e : i ≡ length qs = omega (arith, s .in-list) in
         s .is ∙ ap (λ (j : ℕ). ends I (take j qs) ++ drop (2 * j) answers₀) e ∙ ap (λ (t : List ℕ). ends I t ++ drop (2 * length qs) answers₀) (take-length qs)
-
--- zeros
-pub zeros-are : (m : ℕ) → replicate m 0 ≡ zeros m
-unfolding zeros
-zeros-are zero = refl
-zeros-are (suc m) = ap (λ (t : List ℕ). 0 ∷ t) (zeros-are m)
 
 -- every query is a condition that is reached
 under-listed : (n : ℕ) (qs : List ℕ) → allUnder n qs ≡ true → (c : ℕ) → listed c qs ≡ true → c < n
@@ -176,55 +172,81 @@ ends-same I J (q ∷ qs) h =
     ap₂ {C = List ℕ} (λ (p : Interval) (t : List ℕ). p .low ∷ p .high ∷ t) (h q (rw (eq-eqb q q refl)))
     (ends-same I J qs (λ c e. h c (rw (e, or-true))))
 
--- the refusals, and the work
+-- the causes of a refusal, in the order of the code's tests
 module _ (a qs s w : List ℕ) where
-  pub refused-10 : sound a ≡ false → ClosedOf (some 10) a qs s w s w
-  unfolding ClosedOf
-  refused-10 e = rw e (refl, refl, refl)
+  abbrev behind : List Cause
+  behind = cause (not (leb (scratchLength (pageOf a)) (length s))) 18 ∷ cause (not (leb (2 * length qs) (length w))) 19 ∷ []
+
+  pub causes-10 : sound a ≡ false → FirstCause (some 10) a qs s w
+  causes-10 e = record { is = sym (first-10 a qs behind e) }
 
   module _ (ok : sound a ≡ true) where
-    pub refused-11 : (leb 1 (length qs) && leb (length qs) 16) ≡ false → ClosedOf (some 11) a qs s w s w
-    unfolding ClosedOf
-    refused-11 e = rw (ok, e) (refl, refl, refl)
+    pub causes-11 : (leb 1 (length qs) && leb (length qs) 16) ≡ false → FirstCause (some 11) a qs s w
+    causes-11 e = record { is = sym (first-11 a qs behind ok e) }
 
     module _ (few : (leb 1 (length qs) && leb (length qs) 16) ≡ true) where
-      pub refused-12 : allUnder (conditionsOf a) qs ≡ false → ClosedOf (some 12) a qs s w s w
-      unfolding ClosedOf
-      refused-12 e = rw (ok, few, conditions-is a, e) (refl, refl, refl)
+      pub causes-12 : allUnder (conditionsOf a) qs ≡ false → FirstCause (some 12) a qs s w
+      causes-12 e = record { is = sym (first-12 a qs behind ok few e) }
 
       module _ (under : allUnder (conditionsOf a) qs ≡ true) where
-        pub refused-18 : length s < 6 * conditionsOf a → ClosedOf (some 18) a qs s w s w
-        unfolding ClosedOf
-        refused-18 l = rw (ok, few, conditions-is a, under, lt-leb (6 * conditionsOf a) (length s) l) (refl, refl, refl)
+        pub causes-18 : length s < 6 * conditionsOf a → FirstCause (some 18) a qs s w
+        unfolding pageOf
+        causes-18 l = record { is = sym (first-behind a qs behind ok few under ∙ rw (lt-leb (6 * conditionsOf a) (length s) l)) }
 
         module _ (long : 6 * conditionsOf a ≤ length s) where
-          pub refused-19 : length w < 2 * length qs → ClosedOf (some 19) a qs s w s w
-          unfolding ClosedOf
-          refused-19 l = rw (ok, few, conditions-is a, under, le-leb (6 * conditionsOf a) (length s) long, lt-leb (2 * length qs) (length w) l) (refl, refl, refl)
+          pub causes-19 : length w < 2 * length qs → FirstCause (some 19) a qs s w
+          unfolding pageOf
+          causes-19 l = record { is = sym (first-behind a qs behind ok few under ∙ rw (le-leb (6 * conditionsOf a) (length s) long, lt-leb (2 * length qs) (length w) l)) }
 
-          module _ (room : 2 * length qs ≤ length w) {s₁ s′ w′ : List ℕ} (v : Solved a qs s s₁)
-              (written : w′ ≡ ends (intervalAt s₁) qs ++ drop (2 * length qs) w) (cleared : s′ ≡ zeros (6 * conditionsOf a) ++ drop (6 * conditionsOf a) s₁) where
-            real : (c : ℕ) → listed c qs ≡ true → c < pageOf a .conditions
-            real c e = rw (conditions-is a) (under-listed (conditionsOf a) qs under c e)
+          pub causes-none : 2 * length qs ≤ length w → FirstCause none a qs s w
+          unfolding pageOf
+          causes-none l = record { is = sym (first-behind a qs behind ok few under ∙ rw (le-leb (6 * conditionsOf a) (length s) long, le-leb (2 * length qs) (length w) l)) }
 
-            answer : (c : ℕ) → listed c qs ≡ true → intervalAt s₁ c ≡ closedAt (pageOf a) c
-            answer c e =
-                v .reads-closed c (real c e) (reached-complete (pageOf a) qs (names-inside (pageOf a) (sound-proper a ok)) real (queried e))
+  -- a refusal
+  pub refused-by : {k : ℕ} → FirstCause (some k) a qs s w → ClosedOf (some k) a qs s w s w
+  unfolding ClosedOf
+  refused-by {k} e = rw (← e .is) (refl, refl, refl)
 
-            rest : drop (6 * conditionsOf a) s₁ ≡ drop (6 * conditionsOf a) s
-            rest =
-                let e : 4 * conditionsOf a + 2 * conditionsOf a ≡ 6 * conditionsOf a = omega arith in
-                rw (← e) (sym (drop-drop (2 * conditionsOf a) (4 * conditionsOf a) s₁) ∙ ap (drop (2 * conditionsOf a)) (rw (conditions-is a) at (v .beyond)) ∙ drop-drop (2 * conditionsOf a) (4 * conditionsOf a) s)
+  -- none of the causes holds
+  module _ (e : FirstCause none a qs s w) where
+    pub solve-ready : SolveReady a qs s
+    unfolding pageOf
+    solve-ready =
+        let h = no-cause-holds (closedCauses a qs s w) (sym (e .is)) in
+        record {
+          page-sound = not-false _ (h .0);
+          under = not-false _ (h .1 .1 .0);
+          long = leb-true (6 * conditionsOf a) (length s) (not-false _ (h .1 .1 .1 .0));
+        }
 
-            answers : ClosedAnswers a qs s w s′ w′
-            answers =
-                record {
-                  reading = closedAt (pageOf a);
-                  is-closed = closed-is (pageOf a) (sound-proper a ok);
-                  written = written ∙ ap (λ (t : List ℕ). t ++ drop (2 * length qs) w) (ends-same (intervalAt s₁) (closedAt (pageOf a)) qs answer);
-                  cleared = rw (conditions-is a) (cleared ∙ ap (λ (t : List ℕ). zeros (6 * conditionsOf a) ++ t) rest);
-                }
+    pub room : 2 * length qs ≤ length w
+    room = let h = no-cause-holds (closedCauses a qs s w) (sym (e .is)) in leb-true (2 * length qs) (length w) (not-false _ (h .1 .1 .1 .1 .0))
 
-            pub accepted : ClosedOf none a qs s w s′ w′
-            unfolding ClosedOf
-            accepted = rw (ok, few, conditions-is a, under, le-leb (6 * conditionsOf a) (length s) long, le-leb (2 * length qs) (length w) room) (refl, answers)
+    module _ {s₁ s′ w′ : List ℕ} (v : Solved a qs s s₁) (written : w′ ≡ ends (held (conditionsOf a) s₁) qs ++ drop (2 * length qs) w)
+        (cleared : s′ ≡ zeros (6 * conditionsOf a) ++ drop (6 * conditionsOf a) s₁) where
+      real : (c : ℕ) → listed c qs ≡ true → c < conditionsOf a
+      real c l = under-listed (conditionsOf a) qs (solve-ready .under) c l
+
+      answer : (c : ℕ) → listed c qs ≡ true → held (conditionsOf a) s₁ c ≡ closedAt a c
+      unfolding pageOf
+      answer c l =
+          v .reads-closed c (real c l) (reached-complete (pageOf a) qs (names-inside (pageOf a) (sound-proper a (solve-ready .page-sound))) real (queried l))
+
+      answers : ClosedAnswers a qs s w s′ w′
+      unfolding pageOf
+      answers =
+          record {
+            reading = closedAt a;
+            is-closed = closed-is (pageOf a) (sound-proper a (solve-ready .page-sound));
+            written = written ∙ ap (λ (t : List ℕ). t ++ drop (2 * length qs) w) (ends-same (held (conditionsOf a) s₁) (closedAt a) qs answer);
+            cleared = cleared ∙ ap (λ (t : List ℕ). zeros (6 * conditionsOf a) ++ t) (v .beyond);
+          }
+
+      pub accepted : ClosedOf none a qs s w s′ w′
+      unfolding ClosedOf
+      accepted = rw (← e .is) (refl, answers)
+
+-- a truth value as a number
+pub byte-is : (b : Bool) → leb 1 (boolByte b) ≡ b
+byte-is true = refl
+byte-is false = refl

@@ -1,7 +1,7 @@
 -- An end of a body value reads one end of each condition that a rule names plainly, and the other of each that it negates. Assumes nothing.
-use mathlib.Core.Path.{_≡_, refl, ap, ap₂}
-use mathlib.Core.Bool.{Bool, true, false, not, _&&_, _||_, or-true}
-use mathlib.Core.List.{List, [], _∷_, _++_, map, Forall₂, Forall₂·nil, Forall₂·cons}
+use mathlib.Core.Path.{_≡_, refl, ap, ap₂, subst}
+use mathlib.Core.Bool.{Bool, true, false, _&&_, _||_, or-true}
+use mathlib.Core.List.{List, [], _∷_, _++_, append-nil, map, Forall₂, Forall₂·nil, Forall₂·cons}
 use mathlib.Core.Logic.{inl, inr}
 use Prim.Native.Nat.{ℕ, _+_, _*_, _-_, _<_, max}
 use native.Mathlib.Omega.{arith}
@@ -9,13 +9,13 @@ use lib.Dec.{eqb}
 use borrow.Author.Tests.{eq-eqb, eqb-true}
 use Rattle.semantics.specs.Area.{codeOf}
 use Rattle.fixpoint.specs.Interval.{Interval, Assign}
-use Rattle.semantics.specs.Body.{literalValue, onlyIf, bodies, bodyless, largestOf, T}
+use Rattle.semantics.specs.Body.{literalValue, onlyIf, lineBody, bodies, bodyless, largestOf, T}
 use Rattle.semantics.specs.Grade.{End, lower, upper, divided, combine, endwise, foldFrom, foldAll, weighted, negated}
-use Rattle.semantics.specs.Page.{Literal, positive, negative, conditionOf, mentions, Line, fact, rule, query, linesName, LiteralsBelow, AllInRange, Page, names, Proper}
+use Rattle.semantics.specs.Page.{Literal, positive, negative, conditionOf, mentions, Line, fact, rule, query, linesName, LiteralsBelow, InRange, AllInRange, Page, names, Proper}
 use Rattle.semantics.proofs.Soundness.{both-true}
 use Rattle.semantics.proofs.Table.{or-cases}
 use Rattle.index.specs.Readers.{among, linesRead}
-use Rattle.index.specs.Table.{endOf}
+use Rattle.value.specs.Table.{endOf, other}
 use Rattle.closed.specs.Ends.{literalCode, reads, EndLocal}
 
 left : (a b : Bool) → a ≡ true → (a || b) ≡ true
@@ -52,52 +52,52 @@ read-named g (rule d w op lits ∷ ls) a c h =
 read-named g (query r d ∷ ls) a c h = read-named g ls a c h
 
 -- one end is the same
-abbrev Level : Bool → Interval → Interval → Type 0
+abbrev Level : End → Interval → Interval → Type 0
 Level e p q = endOf e p ≡ endOf e q
 
 -- whatever is made end by end keeps that
-endwise-level : (e : Bool) (f : End → ℕ → ℕ → ℕ) (p q p′ q′ : Interval) → Level e p q → Level e p′ q′ → Level e (endwise f p p′) (endwise f q q′)
-endwise-level true f p q p′ q′ h g = ap₂ (f upper) h g
-endwise-level false f p q p′ q′ h g = ap₂ (f lower) h g
+endwise-level : (e : End) (f : End → ℕ → ℕ → ℕ) (p q p′ q′ : Interval) → Level e p q → Level e p′ q′ → Level e (endwise f p p′) (endwise f q q′)
+endwise-level upper f p q p′ q′ h g = ap₂ (f upper) h g
+endwise-level lower f p q p′ q′ h g = ap₂ (f lower) h g
 
-weighted-level : (e : Bool) (top w : ℕ) (p q : Interval) → Level e p q → Level e (weighted top w p) (weighted top w q)
+weighted-level : (e : End) (top w : ℕ) (p q : Interval) → Level e p q → Level e (weighted top w p) (weighted top w q)
 unfolding weighted
-weighted-level true top w p q h = ap (λ (x : ℕ). divided upper (x * w) top) h
-weighted-level false top w p q h = ap (λ (x : ℕ). divided lower (x * w) top) h
+weighted-level upper top w p q h = ap (λ (x : ℕ). divided upper (x * w) top) h
+weighted-level lower top w p q h = ap (λ (x : ℕ). divided lower (x * w) top) h
 
-negated-level : (e : Bool) (top : ℕ) (p q : Interval) → Level (not e) p q → Level e (negated top p) (negated top q)
+negated-level : (e : End) (top : ℕ) (p q : Interval) → Level (other e) p q → Level e (negated top p) (negated top q)
 unfolding negated
-negated-level true top p q h = ap (λ (x : ℕ). top - x) h
-negated-level false top p q h = ap (λ (x : ℕ). top - x) h
+negated-level upper top p q h = ap (λ (x : ℕ). top - x) h
+negated-level lower top p q h = ap (λ (x : ℕ). top - x) h
 
-folded-level : (e : Bool) (f : End → ℕ → ℕ → ℕ) (p q : Interval) → Level e p q → {ps qs : List Interval} → Forall₂ (Level e) ps qs
+folded-level : (e : End) (f : End → ℕ → ℕ → ℕ) (p q : Interval) → Level e p q → {ps qs : List Interval} → Forall₂ (Level e) ps qs
     → Level e (foldFrom (endwise f) p ps) (foldFrom (endwise f) q qs)
 unfolding foldFrom
 folded-level e f p q h Forall₂·nil = h
 folded-level e f p q h (Forall₂·cons {a = p′} {b = q′} r rs) = folded-level e f (endwise f p p′) (endwise f q q′) (endwise-level e f p q p′ q′ h r) rs
 
-rule-level : (e : Bool) (f : End → ℕ → ℕ → ℕ) {ps qs : List Interval} → Forall₂ (Level e) ps qs → Level e (foldAll (endwise f) ps) (foldAll (endwise f) qs)
+rule-level : (e : End) (f : End → ℕ → ℕ → ℕ) {ps qs : List Interval} → Forall₂ (Level e) ps qs → Level e (foldAll (endwise f) ps) (foldAll (endwise f) qs)
 unfolding foldAll
 rule-level e f Forall₂·nil = refl
 rule-level e f (Forall₂·cons {a = p} {b = q} r rs) = folded-level e f p q r rs
 
-largest-level : (e : Bool) (d : Interval) {ps qs : List Interval} → Forall₂ (Level e) ps qs → Level e (largestOf d ps) (largestOf d qs)
+largest-level : (e : End) (d : Interval) {ps qs : List Interval} → Forall₂ (Level e) ps qs → Level e (largestOf d ps) (largestOf d qs)
 unfolding largestOf
 largest-level e d Forall₂·nil = refl
 largest-level e d (Forall₂·cons {a = p} {b = q} r rs) = folded-level e (λ s. max) p q r rs
 
-chosen : (e t : Bool) (p q : Interval) {ps qs : List Interval} → (t ≡ true → Level e p q) → Forall₂ (Level e) ps qs
+chosen : (e : End) (t : Bool) (p q : Interval) {ps qs : List Interval} → (t ≡ true → Level e p q) → Forall₂ (Level e) ps qs
     → Forall₂ (Level e) (onlyIf t p ++ ps) (onlyIf t q ++ qs)
 chosen e true p q r rs = Forall₂·cons (r refl) rs
 chosen e false p q r rs = rs
 
-module _ (n top : ℕ) (e : Bool) (I J : Assign) where
+module _ (n top : ℕ) (e : End) (I J : Assign) where
   -- I and J are the same at what is read
   Plain : (ℕ → Bool) → Type 0
   Plain s = (b : ℕ) → b < n → s b ≡ true → Level e (I b) (J b)
 
   Negated : (ℕ → Bool) → Type 0
-  Negated s = (b : ℕ) → b < n → s b ≡ true → Level (not e) (I b) (J b)
+  Negated s = (b : ℕ) → b < n → s b ≡ true → Level (other e) (I b) (J b)
 
   literal-level : (l : Literal) → conditionOf l < n → Plain (λ b. eqb (codeOf l) (literalCode false b)) → Negated (λ b. eqb (codeOf l) (literalCode true b))
       → Level e (literalValue top I l) (literalValue top J l)
@@ -124,6 +124,20 @@ module _ (n top : ℕ) (e : Bool) (I J : Assign) where
       (λ b m f. h b m (left (eqb d c && among (literalCode false b) lits) _ (rw (t, f)))) (λ b m f. g b m (left (eqb d c && among (literalCode true b) lits) _ (rw (t, f)))))))
       (bodies-level ls (w .1) c (λ b m f. h b m (right (eqb d c && among (literalCode false b) lits) _ f)) (λ b m f. g b m (right (eqb d c && among (literalCode true b) lits) _ f)))
   bodies-level (query r d ∷ ls) w c h g = bodies-level ls (w .1) c h g
+
+-- what a line adds at I and at J, where they are the same at what it reads
+only-pair : (e : End) {ps qs : List Interval} {p : Interval} → Forall₂ (Level e) ps qs → ps ≡ p ∷ [] → (q : Interval) × (qs ≡ q ∷ []) × Level e p q
+only-pair e Forall₂·nil h = let z : _≡_ {A = ℕ} 0 1 = cc in absurd (omega arith)
+only-pair e {p = p} (Forall₂·cons {a = p′} {b = q′} r Forall₂·nil) h = (q′, refl, let z : p′ ≡ p = cc in subst (λ (x : Interval). Level e x q′) z r)
+only-pair e (Forall₂·cons r (Forall₂·cons r′ rs)) h = let z : _≡_ {A = ℕ} 0 1 = cc in absurd (omega arith)
+
+pub line-level : (n top : ℕ) (e : End) (I J : Assign) (l : Line) → InRange top n l → (c : ℕ)
+    → ((b : ℕ) → b < n → linesRead (2 * b) (l ∷ []) c ≡ true → endOf e (I b) ≡ endOf e (J b)) → ((b : ℕ) → b < n → endOf (other e) (I b) ≡ endOf (other e) (J b))
+    → {p : Interval} → lineBody top I c l ≡ p ∷ [] → (q : Interval) × (lineBody top J c l ≡ q ∷ []) × (endOf e p ≡ endOf e q)
+unfolding bodies Plain Negated
+line-level n top e I J l w c h g {p} d =
+    let f : Forall₂ (Level e) (lineBody top I c l ++ []) (lineBody top J c l ++ []) = bodies-level n top e I J (l ∷ []) (w, tt) c h (λ b m r. g b m) in
+    only-pair e (rw (append-nil, append-nil) at f) d
 
 pub page-ends : (page : Page) → Proper page → EndLocal (page .conditions) (T page) (names page) (reads page)
 unfolding T Plain Negated

@@ -1,13 +1,14 @@
--- The two ends of an interval, and which ends of which conditions an end of a body value reads. Assumes nothing.
-use mathlib.Core.Bool.{Bool, true, false, not}
+-- Which ends of which conditions an end of a body value reads, and what the ends come to. Assumes nothing.
+use mathlib.Core.Bool.{Bool, true, false}
 use mathlib.Core.Path.{_≡_}
 use Prim.Native.Nat.{ℕ, _+_, _*_, _-_, _<_}
 use Rattle.fixpoint.specs.Interval.{Interval, Assign}
 use Rattle.fixpoint.specs.AlternatingFixpoint.{highs, lows}
 use Rattle.fixpoint.specs.Sum.{sum}
+use Rattle.semantics.specs.Grade.{End, lower, upper}
 use Rattle.semantics.specs.Page.{Page}
 use Rattle.index.specs.Readers.{linesRead}
-use Rattle.index.specs.Table.{endOf}
+use Rattle.value.specs.Table.{endOf, other}
 
 -- "a literal is 2 × condition, plus 1 if negated"
 abbrev pub literalCode : Bool → ℕ → ℕ
@@ -21,15 +22,15 @@ reads page negated a c = linesRead (literalCode negated c) (page .lines) a
 -- an end of A's body value sees the same end of what A names plainly, and the other end of what A negates
 pub record EndLocal (n : ℕ) (T : Assign → ℕ → Interval) (names : ℕ → ℕ → Bool) (reads : Bool → ℕ → ℕ → Bool) : Type 0 where
   pub named : (negated : Bool) (A B : ℕ) → reads negated A B ≡ true → names A B ≡ true
-  pub local-end : (e : Bool) (I J : Assign) (A : ℕ) → A < n → ((B : ℕ) → B < n → reads false A B ≡ true → endOf e (I B) ≡ endOf e (J B))
-      → ((B : ℕ) → B < n → reads true A B ≡ true → endOf (not e) (I B) ≡ endOf (not e) (J B)) → endOf e (T I A) ≡ endOf e (T J A)
+  pub local-end : (e : End) (I J : Assign) (A : ℕ) → A < n → ((B : ℕ) → B < n → reads false A B ≡ true → endOf e (I B) ≡ endOf e (J B))
+      → ((B : ℕ) → B < n → reads true A B ≡ true → endOf (other e) (I B) ≡ endOf (other e) (J B)) → endOf e (T I A) ≡ endOf e (T J A)
 
 -- what the end e of c comes to while the other ends stay as K has them: the least high ends over the low ends of K, or the least low ends
 -- over its high ends
-abbrev pub settledEnd : Bool → (n top : ℕ) → (Assign → ℕ → Interval) → (ℕ → Bool) → Assign → ℕ → ℕ
-settledEnd true n top T free K c = highs n top T free K c .high
-settledEnd false n top T free K c = lows n top T free K c .low
+abbrev pub settledEnd : End → (n top : ℕ) → (Assign → ℕ → Interval) → (ℕ → Bool) → Assign → ℕ → ℕ
+settledEnd upper n top T free K c = highs n top T free K c .high
+settledEnd lower n top T free K c = lows n top T free K c .low
 
 -- how far the ends e are from top, all together
-unfoldable pub room : Bool → ℕ → ℕ → Assign → ℕ
+unfoldable pub room : End → ℕ → ℕ → Assign → ℕ
 room e n top I = sum n (λ c. top - endOf e (I c))

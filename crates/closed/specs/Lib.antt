@@ -1,9 +1,8 @@
--- the two ends of an interval, and what each reads
+-- the two ends of a body value, and what each reads
 pub mod Ends
--- what the steps of the two halves leave in the scratch
-pub mod Settle
+-- the scratch, and what the steps of a half leave in it
+pub mod Scratch
+-- the rounds
 pub mod Round
--- the index of a page, and what stands in step with the scratch
-pub mod Indexed
 -- the numbers of the answers
 pub mod Answer

@@ -1,38 +1,40 @@
--- `closed::solve` meets its contract. Assumes nothing.
-use Rattle.page.proofs.Head.{head-of}
+-- `solve` marks the closure of the queries and makes the rounds.
+use native.Mathlib.Omega.{arith}
 use borrow.Author.Needs.{needs}
+use Rattle.page.proofs.Head.{head-of}
+use Rattle.closed.proofs.Answering.{rounds-begin, solved}
 use Rattle.closed.proofs.solve.Statement.{statement}
 use Rattle.closed.proofs.solve.Tie as tie
 
-is-small-requires : tie.Need-is-small-requires
-is-small-requires c κs = head-of (c .before .before .before .args .a .now) (c .before .before .before .pre .page-sound) .four
+closure-of-requires : tie.Need-closure-of-requires
+closure-of-requires c κs = search needs
 
-solve-small-requires : tie.Need-solve-small-requires
-solve-small-requires c κs = let e = c .before .before .is-small .ensures (c .before .if1 .taken) in (c .before .before .before .before .before .before .pre, e .0, e .1, e .2)
+shared-slice-read-begin : tie.Need-shared-slice-read-begin
+shared-slice-read-begin c = let s = c .before .before .before .before .before .before in omega (arith, head-of (s .args .a .now) (s .pre .page-sound))
 
-solve-large-requires : tie.Need-solve-large-requires
-solve-large-requires c κs = search needs
+slice-aggregate-begin : tie.Need-slice-aggregate-begin
+slice-aggregate-begin c = search needs
+
+begin-requires : tie.Need-begin-requires
+begin-requires c κs = let s = c .before .before .before .before .before .before .before in (s .pre .long, head-of (s .args .a .now) (s .pre .page-sound) .few, c .before .before .before .closure-of .ensures .size)
+
+alternate-requires : tie.Need-alternate-requires
+alternate-requires c κs = let s = c .before .before .before .before .before .before .before .before .before .before .before in rounds-begin _ _ _ (s .pre) (c .before .before .before .before .before .before .before .closure-of .ensures) (c .before .before .before .begin .ensures)
 
 same-length : tie.Need-same-length
 same-length c = search needs
 
 returns : tie.Need-returns
-returns c = search needs
-
-same-length-2 : tie.Need-same-length-2
-same-length-2 c = search needs
-
-returns-2 : tie.Need-returns-2
-returns-2 c = search needs
+returns c = let s = c .before .before .before .before .before .before .before .before .before .before .before .before .before .before in solved _ _ _ (s .pre) (c .before .before .before .before .before .before .before .before .before .before .closure-of .ensures) (c .before .before .before .before .before .before .begin .ensures) (c .before .before .alternate .ensures)
 
 pub solve-spec : {M : Type 1} → statement M
 solve-spec =
     tie.close
     (tie.spec
-    is-small-requires
-    solve-small-requires
-    solve-large-requires
+    closure-of-requires
+    shared-slice-read-begin
+    slice-aggregate-begin
+    begin-requires
+    alternate-requires
     same-length
-    returns
-    same-length-2
-    returns-2)
+    returns)

@@ -1,50 +1,88 @@
--- `closed::write_answers` meets its contract. The loop's invariant: the queries passed are answered, and the rest is as it was. Assumes nothing.
-use Prim.Native.Nat.{_*_, _-_, _≤_}
+-- `write_answers` stores both ends of one query after the other (`Answering`).
+use mathlib.Core.Path.{refl}
 use native.Mathlib.Omega.{arith}
-use lib.ListN.{length}
 use borrow.Author.Needs.{needs}
-use Rattle.semantics.specs.RunArea.{intervalAt}
+use Prim.Native.Nat.{_-_}
+use lib.ListN.{length, length-set}
+use Rattle.closed.specs.Scratch.{held}
 use Rattle.closed.proofs.Answering.{Answering, answering-first, answering-length, answering-next, answering-last}
 use Rattle.closed.proofs.write_answers.Statement.{statement}
 use Rattle.closed.proofs.write_answers.Tie as tie
 
 abbrev Inv-loop : tie.InvT-loop
-Inv-loop run queries answers₀ i₀ answers i = (long : 2 * length queries ≤ length answers₀) × Answering (intervalAt run) queries answers₀ long answers i
+Inv-loop scratch n queries answers₀ base i₀ answers i = Answering (held n scratch) queries answers₀ answers i
 
 abbrev μ-loop : tie.MeasureT-loop
-μ-loop run queries answers₀ i₀ answers i = length queries - i
+μ-loop scratch n queries answers₀ base i₀ answers i = length queries - i
+
+mul-base : tie.Need-mul-base Inv-loop μ-loop
+mul-base c = omega (arith, c .pre .2)
 
 loop-holds : tie.Need-loop-holds Inv-loop μ-loop
-loop-holds c = (c .before .before .before .pre .1, answering-first _ _ _ _)
+loop-holds c = answering-first _ _ _ (c .pre .3)
 
-mul-write-answer : tie.Need-mul-write-answer Inv-loop μ-loop
-mul-write-answer c = search needs
+mul-at : tie.Need-mul-at Inv-loop μ-loop
+mul-at c = let s = c .before .before in let i = c .before .loop in omega (arith, answering-length _ _ _ (i .inv), s .pre .3, s .good)
 
-shared-slice-read-write-answer : tie.Need-shared-slice-read-write-answer Inv-loop μ-loop
-shared-slice-read-write-answer c = search needs
+shared-slice-read-at : tie.Need-shared-slice-read-at Inv-loop μ-loop
+shared-slice-read-at c = omega arith
 
-write-answer-requires : tie.Need-write-answer-requires Inv-loop μ-loop
-write-answer-requires c κs =
-    let l = c .before .before .before .loop in
-    let z = c .before .before .before .before .before .before .before in
-    (z .pre .0 (l .i) (omega arith), omega (arith, z .pre .1, answering-length _ _ _ (l .inv .0) (l .inv .1)))
+cast-at : tie.Need-cast-at Inv-loop μ-loop
+cast-at c = let s = c .before .before .before in let i = c .before .before .loop in omega (arith, s .pre .0 (i .i) (omega arith), s .pre .1, s .pre .2, s .pre .3, s .good)
+
+mul-at-2 : tie.Need-mul-at-2 Inv-loop μ-loop
+mul-at-2 c = let s = c .before .before .before in let i = c .before .before .loop in omega (arith, s .pre .0 (i .i) (omega arith), s .pre .1, s .pre .2, s .pre .3, s .good)
+
+mul-answers : tie.Need-mul-answers Inv-loop μ-loop
+mul-answers c = let s = c .before .before .before in let i = c .before .before .loop in omega (arith, s .pre .0 (i .i) (omega arith), s .pre .1, s .pre .2, s .pre .3, s .good)
+
+shared-slice-read-answers : tie.Need-shared-slice-read-answers Inv-loop μ-loop
+shared-slice-read-answers c = let s = c .before .before .before .before in let i = c .before .before .before .loop in omega (arith, s .pre .0 (i .i) (omega arith), s .pre .1, s .pre .2, s .pre .3, s .good)
+
+mul-answers-2 : tie.Need-mul-answers-2 Inv-loop μ-loop
+mul-answers-2 c = let s = c .before .before .before .before in let i = c .before .before .before .loop in omega (arith, answering-length _ _ _ (i .inv), s .pre .3, s .good)
+
+mul-answers-3 : tie.Need-mul-answers-3 Inv-loop μ-loop
+mul-answers-3 c = let s = c .before .before .before .before in let i = c .before .before .before .loop in omega (arith, answering-length _ _ _ (i .inv), s .pre .3, s .good)
+
+slice-write-answers : tie.Need-slice-write-answers Inv-loop μ-loop
+slice-write-answers c = let s = c .before .before .before .before in let i = c .before .before .before .loop in omega (arith, answering-length _ _ _ (i .inv), s .pre .3, s .good)
+
+add-answers : tie.Need-add-answers Inv-loop μ-loop
+add-answers c = let s = c .before .before .before .before in let i = c .before .before .before .loop in omega (arith, s .pre .0 (i .i) (omega arith), s .pre .1, s .pre .2, s .pre .3, s .good)
+
+mul-answers-4 : tie.Need-mul-answers-4 Inv-loop μ-loop
+mul-answers-4 c = let s = c .before .before .before .before in let i = c .before .before .before .loop in omega (arith, s .pre .0 (i .i) (omega arith), s .pre .1, s .pre .2, s .pre .3, s .good)
+
+shared-slice-read-answers-2 : tie.Need-shared-slice-read-answers-2 Inv-loop μ-loop
+shared-slice-read-answers-2 c = let s = c .before .before .before .before .before in let i = c .before .before .before .before .loop in omega (arith, s .pre .0 (i .i) (omega arith), s .pre .1, s .pre .2, s .pre .3, s .good)
+
+mul-answers-5 : tie.Need-mul-answers-5 Inv-loop μ-loop
+mul-answers-5 c = let s = c .before .before .before .before .before in let i = c .before .before .before .before .loop in omega (arith, answering-length _ _ _ (i .inv), s .pre .3, s .good)
+
+add-answers-2 : tie.Need-add-answers-2 Inv-loop μ-loop
+add-answers-2 c = let s = c .before .before .before .before .before in let i = c .before .before .before .before .loop in omega (arith, answering-length _ _ _ (i .inv), s .pre .3, s .good)
+
+mul-answers-6 : tie.Need-mul-answers-6 Inv-loop μ-loop
+mul-answers-6 c = let s = c .before .before .before .before .before in let i = c .before .before .before .before .loop in omega (arith, answering-length _ _ _ (i .inv), s .pre .3, s .good)
+
+slice-write-answers-2 : tie.Need-slice-write-answers-2 Inv-loop μ-loop
+slice-write-answers-2 c = let s = c .before .before .before .before .before in let i = c .before .before .before .before .loop in rw length-set (omega (arith, answering-length _ _ _ (i .inv), s .pre .3))
 
 add-i : tie.Need-add-i Inv-loop μ-loop
-add-i c = search needs
+add-i c = let s = c .before .before .before .before .before in let i = c .before .before .before .before .loop in omega (arith, answering-length _ _ _ (i .inv), s .pre .3, s .good)
 
 loop-less : tie.Need-loop-less Inv-loop μ-loop
-loop-less c = search needs
+loop-less c = omega arith
 
 loop-again : tie.Need-loop-again Inv-loop μ-loop
-loop-again c =
-    let l = c .before .before .before .before .before .before .loop in
-    (l .inv .0, answering-next _ _ _ (l .inv .0) (l .inv .1) (omega arith) (c .before .before .write-answer .ensures))
+loop-again c = answering-next _ _ _ (c .before .before .before .before .loop .inv) (omega arith) refl
 
 same-length : tie.Need-same-length Inv-loop μ-loop
-same-length c = answering-length _ _ _ (c .before .loop .inv .0) (c .before .loop .inv .1)
+same-length c = answering-length _ _ _ (c .before .loop .inv)
 
 returns : tie.Need-returns Inv-loop μ-loop
-returns c = answering-last _ _ _ (c .before .loop .inv .0) (c .before .loop .inv .1) (c .loop-test .left)
+returns c = answering-last _ _ _ (c .before .loop .inv) (omega arith)
 
 pub write-answers-spec : {M : Type 1} → statement M
 write-answers-spec =
@@ -52,10 +90,24 @@ write-answers-spec =
     (tie.spec
     Inv-loop
     μ-loop
+    mul-base
     loop-holds
-    mul-write-answer
-    shared-slice-read-write-answer
-    write-answer-requires
+    mul-at
+    shared-slice-read-at
+    cast-at
+    mul-at-2
+    mul-answers
+    shared-slice-read-answers
+    mul-answers-2
+    mul-answers-3
+    slice-write-answers
+    add-answers
+    mul-answers-4
+    shared-slice-read-answers-2
+    mul-answers-5
+    add-answers-2
+    mul-answers-6
+    slice-write-answers-2
     add-i
     loop-less
     loop-again

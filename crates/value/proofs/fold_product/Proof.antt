@@ -38,7 +38,7 @@ mul-divided : tie.Need-mul-divided Inv-loop μ-loop
 mul-divided c = let s = c .before .before .before .before .before .before in let i = c .before .before .before .loop in record { fits = small-product (omega (arith, i .inv .1, s .pre .small)) (omega (arith, s .pre .grades (i .j) (omega arith), s .pre .small)) }
 
 divided-requires : tie.Need-divided-requires Inv-loop μ-loop
-divided-requires c κs = c .before .before .before .before .before .before .pre .some
+divided-requires c κs = omega (arith, c .before .before .before .before .before .before .pre .some)
 
 add-j : tie.Need-add-j Inv-loop μ-loop
 add-j c = omega arith
