@@ -141,4 +141,3 @@ module _ (words : List ℕ) where
   any-passed from l none v m =
       let e : (from / 64 + (8 + v - from / 64) % 8) % 8 ≡ v = omega arith in
       ap (λ (i : ℕ). getD words i 0) (sym e) ∙ none ((8 + v - from / 64) % 8) (omega arith)
-
