@@ -55,7 +55,7 @@ extern "C" {
  * Read a page: the text becomes a page area. Returns the used length (4 or more), or minus 1, 2, 5, 3, 4 or 6.
  * On refusal *line becomes the line's number from 1 for 3, 4 and 5, and 0 for 1, 2 and 6; a page that is read leaves 0 there.
  * Writes the used length of area, and nothing of it on refusal.
- * Stack: 24,769 bytes.
+ * Stack: 240 bytes.
  */
 int32_t simjorad_read(const uint8_t *text, size_t text_length, uint16_t *area, size_t area_length, uint32_t *line);
 

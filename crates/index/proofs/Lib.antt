@@ -11,3 +11,5 @@ pub mod Scans
 pub mod Lent
 -- an index that may be missing
 pub mod Parts
+-- the groups in the items
+pub mod Grouped

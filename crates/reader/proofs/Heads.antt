@@ -1,6 +1,6 @@
 -- The first line, by what the parser has read of it. Assumes nothing.
 use mathlib.Core.Path.{_≡_, refl, sym, _∙_, ap}
-use mathlib.Core.Bool.{true, false, false≢true}
+use mathlib.Core.Bool.{false}
 use mathlib.Core.List.{List, [], _∷_}
 use mathlib.Core.Logic.{_⊎_, inl, inr, ⊎-elim}
 use Prim.Native.Nat.{ℕ, suc, _≤_}
@@ -9,14 +9,10 @@ use lib.ListN.{length, getD, drop}
 use borrow.Author.Tests.{ne-eqb}
 use Rattle.semantics.specs.Text.{field, isNumber, valueOf, isLetter, headForm, isHead}
 use Rattle.semantics.proofs.TestLists.{fails}
-use Rattle.reader.specs.declared.check.Head.{Head}
-use Rattle.reader.specs.Cursor.{fieldsAt, fieldAt, letterThen}
-use Rattle.reader.specs.Checks.{HeadAt}
-use Rattle.reader.proofs.Tokens.{NumberThen, NumberLast}
-use Rattle.reader.proofs.Letters.{LetterThen, letter-absent, letter-or}
-
-pub headless : (s : List ℕ) {h : Head} → h .form ≡ false → isHead (fieldsAt s) ≡ false → HeadAt s h
-headless s e n = record { form = e ∙ sym n; says = λ t. absurd (false≢true (sym e ∙ t)) }
+use Rattle.fields.specs.Cursor.{fieldsAt, fieldAt, letterThen}
+use Rattle.reader.specs.Checks.{HeadSays}
+use Rattle.fields.proofs.Tokens.{NumberThen, NumberLast}
+use Rattle.fields.proofs.Letters.{LetterThen, letter-absent, letter-or}
 
 no-head-letter : (fs : List (List ℕ)) → (letterThen fs ≡ 71 → ⊥) → isHead fs ≡ false
 unfolding isHead
@@ -59,19 +55,14 @@ module _ (s : List ℕ) (k : LetterThen s 0 71) where
             fails (headForm ((71 ∷ []) ∷ fieldAt s 2 ∷ fieldsAt (drop a s))) 1
             (ne-eqb (suc (suc (length (fieldsAt (drop a s))))) 3 (λ z. omega arith))
 
-    pub a-head : {w e : ℕ} → NumberLast s a w e → HeadAt s (record { form = true; top = v; conditions = w; next = e })
+    pub a-head : {w e : ℕ} → NumberLast s a w e → HeadSays s v w e
     unfolding isHead
     a-head l =
         let g : fieldsAt s ≡ (71 ∷ []) ∷ fieldAt s 2 ∷ fieldAt s a ∷ [] =
         top-fields ∙ ap (λ (fs : List (List ℕ)). (71 ∷ []) ∷ fieldAt s 2 ∷ fs) (l .fields) in
         record {
-          form = sym (ap isHead g ∙ rw (t .number, l .number));
-          says = λ z.
-              record {
-                top = sym (ap (λ (fs : List (List ℕ)). valueOf (field fs 1)) g ∙ t .value);
-                conditions = sym (ap (λ (fs : List (List ℕ)). valueOf (field fs 2)) g ∙ l .value);
-                lines = k .lines ∙ t .lines ∙ l .lines;
-                ahead = omega (arith, t .ahead, l .ahead);
-                inside = l .inside;
-              };
+          form = ap isHead g ∙ rw (t .number, l .number);
+          top = sym (ap (λ (fs : List (List ℕ)). valueOf (field fs 1)) g ∙ t .value);
+          conditions = sym (ap (λ (fs : List (List ℕ)). valueOf (field fs 2)) g ∙ l .value);
+          lines = k .lines ∙ t .lines ∙ l .lines;
         }

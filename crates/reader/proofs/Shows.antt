@@ -3,15 +3,15 @@ use mathlib.Core.Path.{_≡_, refl, sym, _∙_, ap}
 use mathlib.Core.List.{List, [], _∷_, _++_, append-assoc, append-nil}
 use Prim.Native.Nat.{ℕ, zero, suc, _+_, _-_, _≤_, _<_}
 use native.Mathlib.Omega.{arith}
-use native.Mathlib.Numerals.{add-one}
 use native.Mathlib.Nat.{sub-self}
-use lib.ListN.{length, getD, take, drop, length-drop, drop-of-length-le, List·getD-eq-default}
+use lib.ListN.{length, getD, take, drop, length-drop, drop-of-length-le}
 use lib.Seq.{take-suc, getD-drop}
 use Rattle.semantics.specs.Text.{textLines}
 use Rattle.semantics.specs.ReadPage.{lineOf, startFrom, startOf}
-use Rattle.reader.specs.Cursor.{linesAfter}
+use Rattle.fields.specs.Cursor.{linesAfter}
 use Rattle.reader.specs.Shown.{LineEnd, NextLine, LineAt}
-use Rattle.reader.proofs.Places.{byte-here, byte-past, line-here, newline-front, newline-lines, other-front, other-lines, other-start, newline-start, end-start, first-start}
+use Rattle.fields.proofs.Places.{byte-here}
+use Rattle.reader.proofs.LinePlaces.{byte-past, line-here, newline-front, newline-lines, other-front, other-lines, other-start, newline-start, end-start, first-start}
 
 -- The line at a place has been followed as far as the place i.
 pub record Following (s : List ℕ) (at i : ℕ) : Type 0 where

@@ -1,103 +1,101 @@
 -- A text as a whole: the refusals of the text, of its first line and of the others. Assumes nothing.
-use mathlib.Core.Path.{_≡_, sym, _∙_, ap, subst}
-use mathlib.Core.Bool.{Bool, true, false}
-use mathlib.Core.List.{List}
+use mathlib.Core.Path.{_≡_, refl, sym, _∙_, subst}
+use mathlib.Core.Bool.{Bool, true, false, not}
+use mathlib.Core.List.{List, [], _∷_}
 use mathlib.Core.Option.{some}
 use Prim.Native.Nat.{ℕ, _-_, _≤_, _<_}
 use native.Mathlib.Omega.{arith}
-use lib.Dec.{leb}
 use lib.ListN.{length, getD, drop}
 use borrow.Author.Tests.{eq-eqb, ne-eqb, lt-ltb, le-ltb, le-leb, lt-leb, leb-true}
 use Rattle.semantics.specs.Area.{every}
 use Rattle.semantics.specs.Text.{textLines, headRanges, topIn, conditionsIn}
-use Rattle.semantics.specs.ReadPage.{badLine, badLineOf, textRefusal}
+use Rattle.semantics.specs.Call.{cause, firstOf}
+use Rattle.semantics.specs.ReadPage.{toldAt, orElse, badLine, badLineOf, textRefusal}
 use Rattle.semantics.proofs.TestLists.{passes}
 use Rattle.reader.specs.declared.check.Head.{Head}
+use Rattle.reader.specs.declared.check.Head.the-variants as head-as
 use Rattle.reader.specs.declared.check.Tally.{Tally}
 use Rattle.reader.specs.declared.check.Tally.the-variants.{Good, Bad}
 use Rattle.reader.specs.declared.check.Checked.{Checked}
 use Rattle.reader.specs.declared.check.Checked.the-variants.{Page, Refused}
-use Rattle.reader.specs.Cursor.{Within, fieldsAt, linesAfter}
-use Rattle.reader.specs.Checks.{LinesFit, TextFits, HeadAt, AllGood, Tallied, CheckedAs}
-use Rattle.reader.proofs.Places.{byte-here}
-use Rattle.reader.proofs.Forms.{and-true}
+use Rattle.fields.specs.Cursor.{Within, fieldsAt, linesAfter}
+use Rattle.fields.proofs.Places.{byte-here}
+use Rattle.reader.specs.Checks.{faultOf, HeadSays, HeadAt, Tallied, CheckedAs}
 
--- What `head_in_range` answers.
+-- What `head_fault` answers.
 module _ (top n : ℕ) where
-  pub top-least : top < 1 → false ≡ every (headRanges top n)
+  pub top-least : top < 1 → 4 ≡ faultOf (every (headRanges top n))
   top-least h = rw (lt-leb 1 top h)
 
-  pub top-most : 1 ≤ top → 200 < top → false ≡ every (headRanges top n)
+  pub top-most : 1 ≤ top → 200 < top → 4 ≡ faultOf (every (headRanges top n))
   top-most l h = rw (le-leb 1 top l, lt-leb top 200 h)
 
   module _ (l : 1 ≤ top) (m : top ≤ 200) where
-    pub conditions-least : n < 1 → false ≡ every (headRanges top n)
+    pub conditions-least : n < 1 → 4 ≡ faultOf (every (headRanges top n))
     conditions-least h = rw (le-leb 1 top l, le-leb top 200 m, lt-leb 1 n h)
 
-    pub conditions-most : 1 ≤ n → leb n 512 ≡ every (headRanges top n)
-    conditions-most h = rw (le-leb 1 top l, le-leb top 200 m, le-leb 1 n h, and-true (leb n 512))
+    module _ (h : 1 ≤ n) where
+      pub conditions-most : 512 < n → 4 ≡ faultOf (every (headRanges top n))
+      conditions-most k = rw (le-leb 1 top l, le-leb top 200 m, le-leb 1 n h, lt-leb n 512 k)
 
--- The lines of a text, by its first line h.
-module _ (s : List ℕ) {h : Head} (w : HeadAt s h) where
-  pub no-head : h .form ≡ false → badLineOf (textLines s) ≡ some (record { number = 3; line = 1 })
+      pub head-good : n ≤ 512 → 0 ≡ faultOf (every (headRanges top n))
+      head-good k = rw (le-leb 1 top l, le-leb top 200 m, le-leb 1 n h, le-leb n 512 k)
+
+-- what is read of the first line, by the cases of the answer
+module _ (s : List ℕ) {r : Head} (w : HeadAt s r) where
+  pub head-told : {t n next : ℕ} → r ≡ head-as.Good t n next → HeadSays s t n next
+  head-told e = subst (HeadAt s) e w
+
+  pub no-head : r ≡ head-as.Form → badLineOf (textLines s) ≡ some (record { number = 3; line = 1 })
   unfolding badLineOf fieldsAt
-  no-head e = rw (sym (w .form) ∙ e)
+  no-head e = rw (subst (HeadAt s) e w)
 
-  module _ (e : h .form ≡ true) where
-    tops : h .top ≡ topIn (textLines s)
-    unfolding fieldsAt
-    tops = w .says e .top
+-- The lines of a text, by its first line, and the refusal f of its fields.
+module _ (s : List ℕ) {t n next : ℕ} (w : HeadSays s t n next) {f : ℕ} (r : f ≡ faultOf (every (headRanges t n))) where
+  tops : t ≡ topIn (textLines s)
+  unfolding fieldsAt
+  tops = w .top
 
-    counts : h .conditions ≡ conditionsIn (textLines s)
-    unfolding fieldsAt
-    counts = w .says e .conditions
+  counts : n ≡ conditionsIn (textLines s)
+  unfolding fieldsAt
+  counts = w .conditions
 
-    rest : drop 1 (textLines s) ≡ textLines (drop (h .next) s)
-    unfolding linesAfter
-    rest = w .says e .lines
+  rest : drop 1 (textLines s) ≡ textLines (drop next s)
+  unfolding linesAfter
+  rest = w .lines
 
-    pub lines-fit : Within s 0 → (buffer : List ℕ) → TextFits s buffer → LinesFit s (h .next) buffer
-    lines-fit p buffer f = record { ended = p .ended; least = w .says e .ahead; inside = w .says e .inside; fits = f }
+  pub far-head : (f ≡ 0 → ⊥) → badLineOf (textLines s) ≡ some (record { number = f; line = 1 })
+  unfolding badLineOf fieldsAt
+  far-head m = rw (w .form, ← tops, ← counts) (go (every (headRanges t n)) r)
+    where
+      go : (b : Bool) → f ≡ faultOf b
+          → orElse (toldAt 1 (firstOf (cause (not b) 4 ∷ []))) (badLine t n 2 (drop 1 (textLines s))) ≡ some (record { number = f; line = 1 })
+      go true e = absurd (m e)
+      go false e = rw e
 
-    module _ {t : Bool} (r : t ≡ every (headRanges (h .top) (h .conditions))) where
-      ranged : every (headRanges (topIn (textLines s)) (conditionsIn (textLines s))) ≡ t
-      ranged = sym (r ∙ rw (tops, counts))
+  module _ (m : f ≡ 0) where
+    in-range : every (headRanges t n) ≡ true
+    in-range = go (every (headRanges t n)) r
+      where
+        go : (b : Bool) → f ≡ faultOf b → b ≡ true
+        go true e = refl
+        go false e = absurd (omega arith)
 
-      pub far-head : t ≡ false → badLineOf (textLines s) ≡ some (record { number = 4; line = 1 })
-      unfolding badLineOf fieldsAt
-      far-head g = rw (sym (w .form) ∙ e, ranged, g)
+    pub few-conditions : n ≤ 512
+    few-conditions = leb-true n 512 (passes (headRanges t n) 3 in-range)
 
-      low-top : t ≡ true → h .top ≤ 200
-      low-top g = leb-true (h .top) 200 (passes (headRanges (h .top) (h .conditions)) 1 (sym r ∙ g))
+    good-head : badLineOf (textLines s) ≡ badLine t n 2 (textLines (drop next s))
+    unfolding badLineOf fieldsAt
+    good-head = rw (w .form, ← tops, ← counts, in-range) (rw rest)
 
-      pub few-conditions : t ≡ true → h .conditions ≤ 512
-      few-conditions g = leb-true (h .conditions) 512 (passes (headRanges (h .top) (h .conditions)) 3 (sym r ∙ g))
+    module _ {y : Tally} (q : Tallied s next t n y) where
+      pub accepted : {k u : ℕ} → y ≡ Good k u → CheckedAs (badLineOf (textLines s)) s (Page t n k u next)
+      accepted d =
+          let a = subst (Tallied s next t n) d q in
+          (good-head ∙ a .good, record { top = tops; conditions = counts; lines = rest; all = a })
 
-      good-head : t ≡ true → badLineOf (textLines s) ≡ badLine (h .top) (h .conditions) 2 (textLines (drop (h .next) s))
-      unfolding badLineOf fieldsAt
-      good-head g = rw (sym (w .form) ∙ e, ranged, g) (rw (tops, counts, rest))
-
-      module _ (g : t ≡ true) (buffer : List ℕ) {y : Tally} (q : Tallied s (h .next) (h .top) (h .conditions) buffer y) where
-        pub accepted : {k u : ℕ} → y ≡ Good k u → CheckedAs (badLineOf (textLines s)) s buffer (Page (h .top) (h .conditions) k u)
-        accepted {k} {u} d =
-            let a : AllGood s (h .next) (h .top) (h .conditions) buffer k u = subst (Tallied s (h .next) (h .top) (h .conditions) buffer) d q in (
-              good-head g ∙ a .good,
-              record {
-                top = tops;
-                conditions = counts;
-                count = a .count ∙ ap length (sym rest);
-                used = a .used ∙ rw rest;
-                low = low-top g;
-                small = few-conditions g;
-                few = a .few;
-                short = a .short;
-                room = a .room;
-                filled = a .filled ∙ rw rest;
-              },
-            )
-
-        pub refused : {number line : ℕ} → y ≡ Bad number line → CheckedAs (badLineOf (textLines s)) s buffer (Refused number line)
-        refused d = good-head g ∙ subst (Tallied s (h .next) (h .top) (h .conditions) buffer) d q
+      pub refused : {number line : ℕ} → y ≡ Bad number line → CheckedAs (badLineOf (textLines s)) s (Refused number line)
+      refused d = good-head ∙ subst (Tallied s next t n) d q
 
 -- The text before its lines.
 module _ (s : List ℕ) where
@@ -124,5 +122,5 @@ module _ (s : List ℕ) where
           let l : length s - 1 < length s = omega arith in
           record { inside = omega arith; ended = sym (byte-here s (length s - 1) l) ∙ sym b ∙ m }
 
-      pub checked : x ≡ 10 → (buffer : List ℕ) (r : Checked) → CheckedAs (badLineOf (textLines s)) s buffer r → CheckedAs (textRefusal s) s buffer r
-      checked m buffer r q = rw (ended m) q
+      pub checked : x ≡ 10 → (r : Checked) → CheckedAs (badLineOf (textLines s)) s r → CheckedAs (textRefusal s) s r
+      checked m r q = rw (ended m) q

@@ -1,77 +1,102 @@
--- What the parser of a text hands back, and what it puts into a buffer. Assumes nothing.
+-- What the two passes over a text hand back and write. Assumes nothing.
 use mathlib.Core.Path.{_≡_}
-use mathlib.Core.Bool.{true}
+use mathlib.Core.Bool.{Bool, true, false, cond, _&&_}
 use mathlib.Core.List.{List}
-use mathlib.Core.Logic.{_⊎_}
 use mathlib.Core.Option.{Option, none, some}
-use Prim.Native.Nat.{ℕ, _+_, _-_, _≤_}
-use lib.ListN.{length, getD, take, drop}
-use Rattle.semantics.specs.Area.{lineCodes}
-use Rattle.semantics.specs.Text.{textLines, field, valueOf, isHead, topIn, conditionsIn, linesIn}
-use Rattle.semantics.specs.ReadPage.{Refusal, badLine}
+use Prim.Native.Nat.{ℕ, _+_, _*_, _≤_}
+use lib.Dec.{eqb, ltb, leb}
+use lib.ListN.{length, getD, drop}
+use Rattle.semantics.specs.Area.{allUnder, lineCode, lineCodes}
+use Rattle.semantics.specs.Call.{firstOf}
+use Rattle.semantics.specs.Text.{textLines, field, valueOf, isHead, lineIn, topIn, conditionsIn, linesIn}
+use Rattle.semantics.specs.ReadPage.{Refusal, lineCauses, badLine}
+use Rattle.fields.specs.Cursor.{Within, fieldsAt, linesAfter}
+use Rattle.reader.specs.declared.check.Line.{Line}
+use Rattle.reader.specs.declared.check.Line.the-variants as line-as
 use Rattle.reader.specs.declared.check.Head.{Head}
+use Rattle.reader.specs.declared.check.Head.the-variants as head-as
 use Rattle.reader.specs.declared.check.Tally.{Tally}
 use Rattle.reader.specs.declared.check.Tally.the-variants.{Good, Bad}
 use Rattle.reader.specs.declared.check.Checked.{Checked}
 use Rattle.reader.specs.declared.check.Checked.the-variants.{Page as aPage, Refused}
-use Rattle.reader.specs.Cursor.{fieldsAt, linesAfter}
+use Rattle.lines.specs.Lines.{Ends}
 
--- a buffer in which the entries of every text of this length fit: an entry has no more numbers than its line has bytes, and at most 12;
--- there are at most 1,024
-abbrev pub TextFits : List ℕ → List ℕ → Type 0
-TextFits s buffer = (length s + 12 ≤ length buffer) ⊎ (12292 ≤ length buffer)
+-- The ranges of a line, read off its entry e: the fields behind the condition of a fact, of a rule, and all fields.
+unfoldable pub factRange : ℕ → ℕ → ℕ → Bool
+factRange top l h = leb l top && (leb h top && leb l h)
 
--- the same, where line 2 begins at the place `from`
-pub record LinesFit (s : List ℕ) (from : ℕ) (buffer : List ℕ) : Type 0 where
-  pub ended : getD s (length s - 1) 10 ≡ 10
-  pub least : 4 ≤ from
-  pub inside : from ≤ length s
-  pub fits : TextFits s buffer
+unfoldable pub ruleRange : ℕ → ℕ → List ℕ → Bool
+ruleRange top limit e = leb 1 (getD e 2 0) && (leb (getD e 2 0) top && allUnder limit (drop 4 e))
 
--- what the first line says
-pub record HeadSays (s : List ℕ) (h : Head) : Type 0 where
-  pub top : h .top ≡ valueOf (field (fieldsAt s) 1)
-  pub conditions : h .conditions ≡ valueOf (field (fieldsAt s) 2)
-  pub lines : linesAfter s ≡ textLines (drop (h .next) s)
-  pub ahead : 4 ≤ h .next
-  pub inside : h .next ≤ length s
+unfoldable pub entryRange : ℕ → ℕ → List ℕ → Bool
+entryRange top n e =
+    ltb (getD e 0 0) n
+    && cond (eqb (getD e 1 0) 0) (factRange top (getD e 2 0) (getD e 3 0)) (cond (leb (getD e 1 0) 5) (ruleRange top (2 * n) e) true)
 
-pub record HeadAt (s : List ℕ) (h : Head) : Type 0 where
-  pub form : h .form ≡ isHead (fieldsAt s)
-  pub says : h .form ≡ true → HeadSays s h
+-- the number of the refusal where a test fails, or 0
+abbrev pub faultOf : Bool → ℕ
+faultOf true = 0
+faultOf false = 4
+
+-- the refusal of a line that is not line 1,026
+abbrev pub lineRefusal : ℕ → ℕ → List (List ℕ) → Option ℕ
+lineRefusal top n fs = firstOf (drop 1 (lineCauses top n 0 fs))
+
+-- a good line: its entry has so many numbers, and the next line begins at the place `next`
+pub record LineGood (s : List ℕ) (at top n next size : ℕ) : Type 0 where
+  pub good : lineRefusal top n (fieldsAt (drop at s)) ≡ none
+  pub entry : size ≡ length (lineCode (lineIn (fieldsAt (drop at s))))
+  pub few : size ≤ 12
+  pub ends : Ends s at next
+
+abbrev pub LineAs : List ℕ → ℕ → ℕ → ℕ → Line → Type 0
+LineAs s at top n (line-as.Good next size) = LineGood s at top n next size
+LineAs s at top n (line-as.Bad number) = lineRefusal top n (fieldsAt (drop at s)) ≡ some number
+
+-- the first line has its form, says top and C, and the next line begins at the place `next`
+pub record HeadSays (s : List ℕ) (t n next : ℕ) : Type 0 where
+  pub form : isHead (fieldsAt s) ≡ true
+  pub top : t ≡ valueOf (field (fieldsAt s) 1)
+  pub conditions : n ≡ valueOf (field (fieldsAt s) 2)
+  pub lines : linesAfter s ≡ textLines (drop next s)
+
+abbrev pub HeadAt : List ℕ → Head → Type 0
+HeadAt s (head-as.Good t n next) = HeadSays s t n next
+HeadAt s head-as.Form = isHead (fieldsAt s) ≡ false
 
 -- the entries of the lines from a place on
 abbrev pub entriesOf : List ℕ → ℕ → List ℕ
 entriesOf s from = lineCodes (linesIn (textLines (drop from s)))
 
--- the lines after the first, from a place on: none is bad, k of them, used length u, and their entries in the buffer from 4 on
-pub record AllGood (s : List ℕ) (from top n : ℕ) (buffer : List ℕ) (k u : ℕ) : Type 0 where
+-- the lines after the first, from a place on: none is bad, k of them, used length u
+pub record AllGood (s : List ℕ) (from top n k u : ℕ) : Type 0 where
   pub good : badLine top n 2 (textLines (drop from s)) ≡ none
   pub count : k ≡ length (textLines (drop from s))
   pub used : u ≡ 4 + length (entriesOf s from)
   pub few : k ≤ 1024
   pub short : u ≤ 12292
-  pub room : u ≤ length buffer
-  pub filled : drop 4 (take u buffer) ≡ entriesOf s from
 
-abbrev pub Tallied : List ℕ → ℕ → ℕ → ℕ → List ℕ → Tally → Type 0
-Tallied s from top n buffer (Good k u) = AllGood s from top n buffer k u
-Tallied s from top n buffer (Bad number line) = badLine top n 2 (textLines (drop from s)) ≡ some (record { number = number; line = line })
+abbrev pub Tallied : List ℕ → ℕ → ℕ → ℕ → Tally → Type 0
+Tallied s from top n (Good k u) = AllGood s from top n k u
+Tallied s from top n (Bad number line) = badLine top n 2 (textLines (drop from s)) ≡ some (record { number = number; line = line })
 
--- an accepted text: its top and C, k lines after the first, the used length u, and the entries in the buffer from 4 on
-pub record Accepted (s buffer : List ℕ) (t n k u : ℕ) : Type 0 where
+-- an accepted text: its top and C, k lines after the first, the used length u, and the place where line 2 begins
+pub record Accepted (s : List ℕ) (t n k u from : ℕ) : Type 0 where
   pub top : t ≡ topIn (textLines s)
   pub conditions : n ≡ conditionsIn (textLines s)
-  pub count : k ≡ length (drop 1 (textLines s))
-  pub used : u ≡ 4 + length (lineCodes (linesIn (drop 1 (textLines s))))
-  pub low : t ≤ 200
-  pub small : n ≤ 512
-  pub few : k ≤ 1024
-  pub short : u ≤ 12292
-  pub room : u ≤ length buffer
-  pub filled : drop 4 (take u buffer) ≡ lineCodes (linesIn (drop 1 (textLines s)))
+  pub lines : drop 1 (textLines s) ≡ textLines (drop from s)
+  pub all : AllGood s from t n k u
 
 -- the answer for a text whose refusal is o
-abbrev pub CheckedAs : Option Refusal → List ℕ → List ℕ → Checked → Type 0
-CheckedAs o s buffer (aPage t n k u) = (o ≡ none) × Accepted s buffer t n k u
-CheckedAs o s buffer (Refused number line) = o ≡ some (record { number = number; line = line })
+abbrev pub CheckedAs : Option Refusal → List ℕ → Checked → Type 0
+CheckedAs o s (aPage t n k u from) = (o ≡ none) × Accepted s t n k u from
+CheckedAs o s (Refused number line) = o ≡ some (record { number = number; line = line })
+
+-- none of the lines from a place on is bad, where the first of them has the number k, and the area has room for their entries
+pub record LinesFit (s : List ℕ) (from : ℕ) (area : List ℕ) (end : ℕ) : Type 0 where
+  pub top : ℕ
+  pub n : ℕ
+  pub k : ℕ
+  pub good : badLine top n k (textLines (drop from s)) ≡ none
+  pub text : Within s 0
+  pub room : end + length (entriesOf s from) ≤ length area

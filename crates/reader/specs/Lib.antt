@@ -1,6 +1,3 @@
-pub mod Cursor
-pub mod Pairs
-pub mod Lines
 pub mod Checks
 pub mod Shown
 pub mod Answers

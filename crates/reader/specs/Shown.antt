@@ -5,7 +5,7 @@ use Prim.Native.Nat.{ℕ, suc, _+_, _-_, _≤_}
 use lib.ListN.{length, getD, take, drop}
 use Rattle.semantics.specs.Text.{textLines}
 use Rattle.semantics.specs.ReadPage.{lineOf, startFrom, startOf}
-use Rattle.reader.specs.Cursor.{linesAfter}
+use Rattle.fields.specs.Cursor.{linesAfter}
 
 -- the line at a place goes up to the place e, and the lines after it are those behind byte 10
 pub record LineEnd (s : List ℕ) (at e : ℕ) : Type 0 where

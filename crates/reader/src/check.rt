@@ -1,34 +1,109 @@
-// The lines of a text: each is parsed and checked, and its entry is put into a buffer.
+// The first pass over a text: each line is parsed and its fields are checked, and the used length is summed.
 ghost use mathlib.Core.Path.{_≡_};
-ghost use mathlib.Core.Bool.{false};
 ghost use Prim.Native.Nat.{_≤_};
-ghost use Rattle.semantics.specs.Area.{every};
+ghost use lib.ListN.{length, drop};
+ghost use Rattle.semantics.specs.Area.{every, allUnder};
 ghost use Rattle.semantics.specs.Text.{textLines, headRanges};
 ghost use Rattle.semantics.specs.ReadPage.{badLineOf, textRefusal};
-ghost use Rattle.reader.specs.Cursor.{Within};
-ghost use Rattle.reader.specs.Checks.{TextFits, LinesFit, HeadAt, Tallied, CheckedAs};
-use crate::field::Field;
-use crate::field::number_before;
-use crate::line::Entry;
-use crate::line::parse_line;
+ghost use Rattle.fields.specs.Cursor.{Within};
+ghost use Rattle.reader.specs.Checks.{faultOf, factRange, ruleRange, entryRange, LineAs, HeadAt, Tallied, CheckedAs};
+use fields::Field;
+use fields::number_before;
+use lines::Entry;
+use lines::parse_line;
 
-// The first line, `G,top,C`, and the place behind it.
-pub struct Head {
-    pub form: bool,
-    pub top: u32,
-    pub conditions: u32,
-    pub next: usize,
+// The refusal for the first field of a fact that is out of range, behind its condition; 0 where there is none.
+fn fact_fault(low: u16, high: u16, top: u16) -> u16
+    ensures { λ r. ⌜ r ≡ faultOf (factRange top low high) ⌝ }
+{
+    if top < low {
+        return 4;
+    }
+    if top < high {
+        return 4;
+    }
+    if high < low {
+        return 4;
+    }
+    0
 }
 
-fn no_head() -> Head
-    ensures { λ r. ⌜ r .form ≡ false ⌝ }
+// The refusal for the first literal of a rule whose condition is out of range, by the rule's entry; 0 where there is none.
+fn literals_fault(entry: &[u16], limit: u16) -> u16
+    requires { ⌜ 4 ≤ length (now entry) ⌝ }
+    ensures { λ r. ⌜ r ≡ faultOf (allUnder limit (drop 4 (now (entry .entry)))) ⌝ }
 {
-    Head {
-        form: false,
-        top: 0,
-        conditions: 0,
-        next: 0,
+    let mut i: usize = 4;
+    while i < entry.len() {
+        if limit <= entry[i] {
+            return 4;
+        }
+        i += 1;
     }
+    0
+}
+
+// The refusal for the first field of a rule that is out of range, behind its condition; 0 where there is none.
+fn rule_fault(entry: &[u16], top: u16, limit: u16) -> u16
+    requires { ⌜ 4 ≤ length (now entry) ⌝ }
+    ensures { λ r. ⌜ r ≡ faultOf (ruleRange top limit (now (entry .entry))) ⌝ }
+{
+    let weight = entry[2];
+    if weight < 1 {
+        return 4;
+    }
+    if top < weight {
+        return 4;
+    }
+    literals_fault(entry, limit)
+}
+
+// The refusal for the first field of a line that is out of range, by the line's entry; 0 where there is none.
+fn range_fault(entry: &[u16], top: u16, conditions: u16) -> u16
+    requires { ⌜ (4 ≤ length (now entry)) × (conditions ≤ 512) ⌝ }
+    ensures { λ r. ⌜ r ≡ faultOf (entryRange top conditions (now (entry .entry))) ⌝ }
+{
+    if conditions <= entry[0] {
+        return 4;
+    }
+    let kind = entry[1];
+    match kind {
+        0 => fact_fault(entry[2], entry[3], top),
+        1..=5 => rule_fault(entry, top, 2 * conditions),
+        _ => 0,
+    }
+}
+
+// What a line comes to: the place of the next line and the numbers of its entry, or the number of its refusal.
+pub enum Line {
+    Good { next: usize, size: usize },
+    Bad(u16),
+}
+
+// The line at a place, and its refusal: its form first, then its fields in their order. The longest entry has 12 numbers.
+fn check_line(bytes: &[u8], at: usize, top: u16, conditions: u16) -> Line
+    requires { ⌜ Within (now bytes) at × (conditions ≤ 512) ⌝ }
+    ensures { λ r. ⌜ LineAs (now (bytes .entry)) at top conditions r ⌝ }
+{
+    let mut entry = [0u16; 12];
+    let Entry::Good { next, end } = parse_line(bytes, at, &mut entry, 0) else {
+        return Line::Bad(3);
+    };
+    let fault = range_fault(&entry[..end], top, conditions);
+    if fault != 0 {
+        return Line::Bad(fault);
+    }
+    Line::Good { next, size: end }
+}
+
+// What is read of the first line, `G,top,C`: top, C and the place of the next line, or that the line has no form.
+pub enum Head {
+    Good {
+        top: u16,
+        conditions: u16,
+        next: usize,
+    },
+    Form,
 }
 
 fn parse_head(bytes: &[u8]) -> Head
@@ -36,21 +111,20 @@ fn parse_head(bytes: &[u8]) -> Head
     ensures { λ r. ⌜ HeadAt (now (bytes .entry)) r ⌝ }
 {
     if bytes[0] != b'G' {
-        return no_head();
+        return Head::Form;
     }
     if bytes[1] != b',' {
-        return no_head();
+        return Head::Form;
     }
     let Field::Number(top, a) = number_before(bytes, 2, b',') else {
-        return no_head();
+        return Head::Form;
     };
     let Field::Number(conditions, next) = number_before(bytes, a, b'\n') else {
-        return no_head();
+        return Head::Form;
     };
-    Head {
-        form: true,
-        top,
-        conditions,
+    Head::Good {
+        top: top as u16,
+        conditions: conditions as u16,
         next,
     }
 }
@@ -61,10 +135,10 @@ pub enum Tally {
     Bad { number: u16, line: usize },
 }
 
-// The lines from a place on, which is where line 2 begins. Their entries are put behind the four numbers of the head.
-fn read_lines(bytes: &[u8], from: usize, top: u32, conditions: u32, buffer: &mut [u16]) -> Tally
-    requires { ⌜ LinesFit (now bytes) from (now buffer) × (conditions ≤ 512) ⌝ }
-    ensures { λ r. ⌜ Tallied (now (bytes .entry)) from top conditions (now (buffer .exit)) r ⌝ }
+// The lines from a place on, which is where line 2 begins.
+fn check_lines(bytes: &[u8], from: usize, top: u16, conditions: u16) -> Tally
+    requires { ⌜ Within (now bytes) 0 × (conditions ≤ 512) ⌝ }
+    ensures { λ r. ⌜ Tallied (now (bytes .entry)) from top conditions r ⌝ }
 {
     let mut at = from;
     let mut line: usize = 2;
@@ -73,17 +147,14 @@ fn read_lines(bytes: &[u8], from: usize, top: u32, conditions: u32, buffer: &mut
         if line == 1026 {
             return Tally::Bad { number: 5, line };
         }
-        let entry = parse_line(bytes, at, top, conditions, buffer, used);
-        match entry {
-            Entry::Good { next, end } => {
+        let checked = check_line(bytes, at, top, conditions);
+        match checked {
+            Line::Good { next, size } => {
                 at = next;
-                used = end;
+                used += size;
             }
-            Entry::Form => {
-                return Tally::Bad { number: 3, line };
-            }
-            Entry::Range => {
-                return Tally::Bad { number: 4, line };
+            Line::Bad(number) => {
+                return Tally::Bad { number, line };
             }
         }
         line += 1;
@@ -94,29 +165,33 @@ fn read_lines(bytes: &[u8], from: usize, top: u32, conditions: u32, buffer: &mut
     }
 }
 
-// Top and C of the first line are in range.
-fn head_in_range(top: u32, conditions: u32) -> bool
-    ensures { λ r. ⌜ r ≡ every (headRanges top conditions) ⌝ }
+// The refusal for the first field of the first line that is out of range; 0 where there is none.
+fn head_fault(top: u16, conditions: u16) -> u16
+    ensures { λ r. ⌜ r ≡ faultOf (every (headRanges top conditions)) ⌝ }
 {
     if top < 1 {
-        return false;
+        return 4;
     }
     if 200 < top {
-        return false;
+        return 4;
     }
     if conditions < 1 {
-        return false;
+        return 4;
     }
-    conditions <= 512
+    if 512 < conditions {
+        return 4;
+    }
+    0
 }
 
-// What a text comes to: the numbers of its page, or a refusal.
+// What a text comes to: the numbers of its page and the place of its second line, or a refusal.
 pub enum Checked {
     Page {
-        top: u32,
-        conditions: u32,
+        top: u16,
+        conditions: u16,
         count: usize,
         used: usize,
+        from: usize,
     },
     Refused {
         number: u16,
@@ -125,36 +200,41 @@ pub enum Checked {
 }
 
 // The lines of a text.
-fn check_all(bytes: &[u8], buffer: &mut [u16]) -> Checked
-    requires { ⌜ Within (now bytes) 0 × TextFits (now bytes) (now buffer) ⌝ }
-    ensures { λ r. ⌜ CheckedAs (badLineOf (textLines (now (bytes .entry)))) (now (bytes .entry)) (now (buffer .exit)) r ⌝ }
+fn check_all(bytes: &[u8]) -> Checked
+    requires { ⌜ Within (now bytes) 0 ⌝ }
+    ensures { λ r. ⌜ CheckedAs (badLineOf (textLines (now (bytes .entry)))) (now (bytes .entry)) r ⌝ }
 {
-    let head = parse_head(bytes);
-    if !head.form {
+    let Head::Good {
+        top,
+        conditions,
+        next,
+    } = parse_head(bytes)
+    else {
         return Checked::Refused { number: 3, line: 1 };
+    };
+    let fault = head_fault(top, conditions);
+    if fault != 0 {
+        return Checked::Refused {
+            number: fault,
+            line: 1,
+        };
     }
-    let top = head.top;
-    let conditions = head.conditions;
-    if !head_in_range(top, conditions) {
-        return Checked::Refused { number: 4, line: 1 };
-    }
-    let from = head.next;
-    let tally = read_lines(bytes, from, top, conditions, buffer);
+    let tally = check_lines(bytes, next, top, conditions);
     match tally {
         Tally::Good { count, used } => Checked::Page {
             top,
             conditions,
             count,
             used,
+            from: next,
         },
         Tally::Bad { number, line } => Checked::Refused { number, line },
     }
 }
 
 // The text as a whole.
-pub fn check_page(bytes: &[u8], buffer: &mut [u16]) -> Checked
-    requires { ⌜ TextFits (now bytes) (now buffer) ⌝ }
-    ensures { λ r. ⌜ CheckedAs (textRefusal (now (bytes .entry))) (now (bytes .entry)) (now (buffer .exit)) r ⌝ }
+pub fn check_page(bytes: &[u8]) -> Checked
+    ensures { λ r. ⌜ CheckedAs (textRefusal (now (bytes .entry))) (now (bytes .entry)) r ⌝ }
 {
     let n = bytes.len();
     if 65535 < n {
@@ -166,5 +246,5 @@ pub fn check_page(bytes: &[u8], buffer: &mut [u16]) -> Checked
     if bytes[n - 1] != b'\n' {
         return Checked::Refused { number: 2, line: 0 };
     }
-    check_all(bytes, buffer)
+    check_all(bytes)
 }

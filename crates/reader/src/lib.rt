@@ -1,23 +1,18 @@
 // Read a page, from its text to a page area, and show a line of it.
 mod check;
-mod field;
-mod line;
 mod show;
 mod write;
 
 ghost use mathlib.Core.Path.{_≡_};
-ghost use Prim.Native.Nat.{_≤_};
-ghost use lib.ListN.{length};
 ghost use Rattle.semantics.specs.ReadPage.{readOf, lineOf};
 ghost use Rattle.reader.specs.Answers.{answerOf};
-ghost use Rattle.reader.specs.Checks.{TextFits};
 ghost use Rattle.reader.specs.Shown.{LineAt};
 use crate::check::Checked;
 use crate::check::check_page;
 use crate::show::line_end;
 use crate::show::next_line;
-use crate::write::put_all;
-use crate::write::put_four;
+use crate::write::write_lines;
+use lines::put_four;
 
 // The used length of a page that is read, or the number and the line of a refusal.
 pub enum ReadAnswer {
@@ -25,13 +20,12 @@ pub enum ReadAnswer {
     Refused { number: u16, line: usize },
 }
 
-// Read a page by way of a buffer: the area is written when no refusal can follow.
-fn read_with(bytes: &[u8], area: &mut [u16], buffer: &mut [u16]) -> ReadAnswer
-    requires { ⌜ TextFits (now bytes) (now buffer) ⌝ }
+// Read a page, in two passes: the area is written when no refusal can follow.
+pub fn read_page(bytes: &[u8], area: &mut [u16]) -> ReadAnswer
     ensures answer { λ r. ⌜ answerOf r ≡ readOf (now (bytes .entry)) (now (area .entry)) .answer ⌝ }
     ensures area { λ _. ⌜ now (area .exit) ≡ readOf (now (bytes .entry)) (now (area .entry)) .area ⌝ }
 {
-    let checked = check_page(bytes, buffer);
+    let checked = check_page(bytes);
     match checked {
         Checked::Refused { number, line } => ReadAnswer::Refused { number, line },
         Checked::Page {
@@ -39,65 +33,16 @@ fn read_with(bytes: &[u8], area: &mut [u16], buffer: &mut [u16]) -> ReadAnswer
             conditions,
             count,
             used,
+            from,
         } => {
             if area.len() < used {
                 return ReadAnswer::Refused { number: 6, line: 0 };
             }
-            put_four(
-                area,
-                0,
-                top as u16,
-                conditions as u16,
-                count as u16,
-                used as u16,
-            );
-            put_all(area, 4, &buffer[4..used]);
+            put_four(area, 0, top, conditions, count as u16, used as u16);
+            write_lines(bytes, from, area);
             ReadAnswer::Read(used)
         }
     }
-}
-
-// A short text: an entry has no more numbers than its line has bytes, so a small buffer is long enough.
-fn read_short(bytes: &[u8], area: &mut [u16]) -> ReadAnswer
-    requires { ⌜ length (now bytes) ≤ 1012 ⌝ }
-    ensures answer { λ r. ⌜ answerOf r ≡ readOf (now (bytes .entry)) (now (area .entry)) .answer ⌝ }
-    ensures area { λ _. ⌜ now (area .exit) ≡ readOf (now (bytes .entry)) (now (area .entry)) .area ⌝ }
-{
-    let mut buffer = [0u16; 1024];
-    read_with(bytes, area, &mut buffer)
-}
-
-// A text of middle length, likewise. The fill is not 0, so that it is a loop of stores and no call, which would be slower.
-fn read_middle(bytes: &[u8], area: &mut [u16]) -> ReadAnswer
-    requires { ⌜ length (now bytes) ≤ 6132 ⌝ }
-    ensures answer { λ r. ⌜ answerOf r ≡ readOf (now (bytes .entry)) (now (area .entry)) .answer ⌝ }
-    ensures area { λ _. ⌜ now (area .exit) ≡ readOf (now (bytes .entry)) (now (area .entry)) .area ⌝ }
-{
-    let mut buffer = [1u16; 6144];
-    read_with(bytes, area, &mut buffer)
-}
-
-// Any text: a page has at most 12,292 numbers.
-fn read_long(bytes: &[u8], area: &mut [u16]) -> ReadAnswer
-    ensures answer { λ r. ⌜ answerOf r ≡ readOf (now (bytes .entry)) (now (area .entry)) .answer ⌝ }
-    ensures area { λ _. ⌜ now (area .exit) ≡ readOf (now (bytes .entry)) (now (area .entry)) .area ⌝ }
-{
-    let mut buffer = [1u16; 12292];
-    read_with(bytes, area, &mut buffer)
-}
-
-// Read a page. A refusal leaves the area as it is.
-pub fn read_page(bytes: &[u8], area: &mut [u16]) -> ReadAnswer
-    ensures answer { λ r. ⌜ answerOf r ≡ readOf (now (bytes .entry)) (now (area .entry)) .answer ⌝ }
-    ensures area { λ _. ⌜ now (area .exit) ≡ readOf (now (bytes .entry)) (now (area .entry)) .area ⌝ }
-{
-    if bytes.len() <= 1012 {
-        return read_short(bytes, area);
-    }
-    if bytes.len() <= 6132 {
-        return read_middle(bytes, area);
-    }
-    read_long(bytes, area)
 }
 
 // Where a line stands: from `start` up to `end`.

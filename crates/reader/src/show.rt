@@ -1,8 +1,6 @@
 // Where a line ends, and where the next begins.
-ghost use mathlib.Core.Path.{_≡_};
 ghost use Prim.Native.Nat.{_≤_};
-ghost use lib.ListN.{length, drop};
-ghost use Rattle.reader.specs.Cursor.{linesAfter};
+ghost use lib.ListN.{length};
 ghost use Rattle.reader.specs.Shown.{LineEnd, NextLine};
 
 // The place of the byte 10 that ends the line at a place, or the end of the text.

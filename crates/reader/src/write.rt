@@ -1,39 +1,22 @@
-// Runs of stores.
+// The second pass over a text that is accepted: the entry of each line is written to the page area.
 ghost use mathlib.Core.Path.{_≡_};
-ghost use mathlib.Core.List.{[], _∷_};
-ghost use Prim.Native.Nat.{_≤_, _+_};
-ghost use lib.ListN.{length};
 ghost use lib.Seq.{sets};
+ghost use Rattle.reader.specs.Checks.{LinesFit, entriesOf};
+use lines::Entry;
+use lines::parse_line;
 
-// Four numbers from a place on.
-pub fn put_four(area: &mut [u16], at: usize, a: u16, b: u16, c: u16, d: u16)
-    requires { ⌜ at + 4 ≤ length (now area) ⌝ }
-    ensures { λ _. ⌜ now (area .exit) ≡ sets (now (area .entry)) at (a ∷ b ∷ c ∷ d ∷ []) ⌝ }
+// The entries of the lines from a place on, behind the four numbers of the head. Each line has a form, so the loop goes to the end.
+pub fn write_lines(bytes: &[u8], from: usize, area: &mut [u16])
+    requires { ⌜ LinesFit (now bytes) from (now area) 4 ⌝ }
+    ensures { λ _. ⌜ now (area .exit) ≡ sets (now (area .entry)) 4 (entriesOf (now (bytes .entry)) from) ⌝ }
 {
-    area[at] = a;
-    area[at + 1] = b;
-    area[at + 2] = c;
-    area[at + 3] = d;
-}
-
-// Three numbers from a place on.
-pub fn put_three(area: &mut [u16], at: usize, a: u16, b: u16, c: u16)
-    requires { ⌜ at + 3 ≤ length (now area) ⌝ }
-    ensures { λ _. ⌜ now (area .exit) ≡ sets (now (area .entry)) at (a ∷ b ∷ c ∷ []) ⌝ }
-{
-    area[at] = a;
-    area[at + 1] = b;
-    area[at + 2] = c;
-}
-
-// Numbers from a place on.
-pub fn put_all(area: &mut [u16], at: usize, numbers: &[u16])
-    requires { ⌜ at + length (now numbers) ≤ length (now area) ⌝ }
-    ensures { λ _. ⌜ now (area .exit) ≡ sets (now (area .entry)) at (now (numbers .entry)) ⌝ }
-{
-    let mut i: usize = 0;
-    while i < numbers.len() {
-        area[at + i] = numbers[i];
-        i += 1;
+    let mut at = from;
+    let mut used: usize = 4;
+    while at < bytes.len() {
+        let Entry::Good { next, end } = parse_line(bytes, at, area, used) else {
+            return;
+        };
+        at = next;
+        used = end;
     }
 }

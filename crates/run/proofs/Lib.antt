@@ -1,3 +1,8 @@
+-- the largest ends over lines seen
+pub mod Gathering
+-- answers, cause by cause
 pub mod Answering
+-- an evaluation and what is beside the area
+pub mod Stepping
+-- a drive, evaluation by evaluation
 pub mod Driving
-pub mod Indexing

@@ -1,19 +1,65 @@
-mod ends;
-mod indexed;
+// The operations Evaluate, Drive and Value.
+mod body;
 
 ghost use mathlib.Core.Path.{_≡_};
 ghost use mathlib.Core.Bool.{true};
-ghost use Prim.Native.Nat.{ℕ};
-ghost use Rattle.semantics.specs.Area.{sound, pageOf};
-ghost use Rattle.semantics.specs.Operation.{evaluateOf, valueOf, driveOf};
-ghost use Rattle.semantics.specs.RunArea.{runSound};
+ghost use Prim.Native.Nat.{_≤_, _<_, _+_, _*_};
+ghost use lib.ListN.{length};
+ghost use Rattle.semantics.specs.Area.{sound, pageOf, topOf, conditionsOf};
+ghost use Rattle.semantics.specs.Operation.{evaluateOf, driveOf, valueOf, driveWorkspace, indexLength};
+ghost use Rattle.semantics.specs.RunArea.{markAt, runSound};
+ghost use Rattle.index.specs.Parts.{MaybeLines, MaybeUsers};
+ghost use Rattle.worklist.specs.Evaluation.{Evaluated};
+ghost use Rattle.worklist.specs.Waiting.{WordsMatch};
 ghost use Rattle.run.specs.Answers.{Answered, evaluateAnswerOf, valueAnswerOf, driveAnswerOf};
+ghost use Rattle.run.specs.Beside.{Beside, Changed, EvaluatedBeside};
 
-// What an evaluation answers: the number of a refusal, or whether it changed the condition.
+// The condition c holds [low; high] and waits no longer, and its dependants wait. The table and the set follow.
+fn change(a: &[u16], users: &[u16], run: &mut [u16], words: &mut [u64], values: &mut [u8], c: u16, low: u16, high: u16)
+    requires { ⌜ (sound (now a) ≡ true) × MaybeUsers (now a) (now users) × (c < conditionsOf (now a)) × (low ≤ topOf (now a)) × (high ≤ topOf (now a)) × (3 * conditionsOf (now a) ≤ length (now run)) × (2 * conditionsOf (now a) ≤ length (now values)) × (length (now words) ≡ 8) ⌝ }
+    ensures { λ _. ⌜ Changed (now (a .entry)) c low high (now (run .entry)) (now (words .entry)) (now (values .entry)) (now (run .exit)) (now (words .exit)) (now (values .exit)) ⌝ }
+{
+    let top = a[0];
+    worklist::store_cell(run, c, low, high, 1);
+    ends::store(values, c, low, top - high);
+    worklist::wake_dependants(a, users, run, words, c);
+}
+
+// An evaluation of c, which waits. With an index `lines` and `users` are its parts; without one both are empty and the page is scanned.
+fn step(a: &[u16], lines: &[u16], users: &[u16], run: &mut [u16], words: &mut [u64], values: &mut [u8], c: u16) -> bool
+    requires { ⌜ (sound (now a) ≡ true) × (runSound (pageOf (now a)) (now run) ≡ true) × (c < conditionsOf (now a)) × (markAt (now run) c ≡ 2) × MaybeLines (now a) (now lines) × MaybeUsers (now a) (now users) × Beside (now a) (now run) (now words) (now values) ⌝ }
+    ensures { λ r. ⌜ EvaluatedBeside (now (a .entry)) c (now (run .entry)) (now (words .entry)) (now (run .exit)) (now (words .exit)) (now (values .exit)) r ⌝ }
+{
+    let ends = body::body(a, lines, values, c);
+    let low = ends.low;
+    let high = ends.high;
+    bits::remove(words, c);
+    let at = 3 * c as usize;
+    if worklist::differs(run[at], run[at + 1], low, high) {
+        change(a, users, run, words, values, c, low, high);
+        return true;
+    }
+    run[at + 2] = 1;
+    false
+}
+
+// What an evaluation answers: the number of a refusal, or whether the interval changed.
 pub enum EvaluateAnswer {
     Refused(u8),
     Unchanged,
     Changed,
+}
+
+// An evaluation that nothing refuses. The set of those that wait is not asked for, so it is left empty.
+fn evaluate_waiting(page: &[u16], run: &mut [u16], c: u16) -> bool
+    requires { ⌜ (sound (now page) ≡ true) × (runSound (pageOf (now page)) (now run) ≡ true) × (c < conditionsOf (now page)) × (markAt (now run) c ≡ 2) ⌝ }
+    ensures { λ r. ⌜ Evaluated (pageOf (now (page .entry))) c (now (run .entry)) (now (run .exit)) r ⌝ }
+{
+    let mut words = [0u64; 8];
+    let mut values = [0u8; 1024];
+    ends::fill(run, page[1], page[0], &mut values);
+    let none = &page[0..0];
+    step(page, none, none, run, &mut words, &mut values, c)
 }
 
 // Evaluate: 10 page area not sound, 14 run area too short or not sound, 15 condition C or more, 16 it is not waiting.
@@ -34,13 +80,13 @@ pub fn evaluate(page: &[u16], run: &mut [u16], condition: u32) -> EvaluateAnswer
     if run[3 * c as usize + 2] != 2 {
         return EvaluateAnswer::Refused(16);
     }
-    if worklist::step(page, run, c) {
+    if evaluate_waiting(page, run, c) {
         return EvaluateAnswer::Changed;
     }
     EvaluateAnswer::Unchanged
 }
 
-// What value answers: the number of a refusal, or the interval held and whether the whole run is at rest.
+// What a value call answers: the number of a refusal, or the interval held and whether the whole run is at rest.
 pub enum ValueAnswer {
     Refused(u8),
     Held { low: u16, high: u16, rest: bool },
@@ -78,29 +124,50 @@ pub enum DriveAnswer {
     Spent(u32),
 }
 
-// Drive over the areas alone: each search reads the marks and each evaluation reads the page.
-fn drive_scanning(page: &[u16], run: &mut [u16], allowance: u32) -> DriveAnswer
-    requires { ⌜ sound (now page) ≡ true ⌝ }
-    requires { ⌜ runSound (pageOf (now page)) (now run) ≡ true ⌝ }
-    ensures { λ r. ⌜ Answered (driveOf (now (page .entry)) (now (run .entry)) allowance) (driveAnswerOf r) (now (run .exit)) ⌝ }
+// The evaluations, lowest waiting condition first.
+fn drive_steps(a: &[u16], lines: &[u16], users: &[u16], run: &mut [u16], words: &mut [u64], values: &mut [u8], allowance: u32) -> DriveAnswer
+    requires { ⌜ (sound (now a) ≡ true) × (runSound (pageOf (now a)) (now run) ≡ true) × MaybeLines (now a) (now lines) × MaybeUsers (now a) (now users) × Beside (now a) (now run) (now words) (now values) × WordsMatch (conditionsOf (now a)) (now run) (now words) ⌝ }
+    ensures { λ r. ⌜ Answered (driveOf (now (a .entry)) (now (run .entry)) allowance) (driveAnswerOf r) (now (run .exit)) ⌝ }
 {
-    let n = page[1];
     let mut taken: u32 = 0;
     loop {
-        let c = worklist::lowest_waiting(run, n);
-        if n <= c {
+        let c = bits::lowest_in(words);
+        if 512 <= c {
             return DriveAnswer::Rest(taken);
         }
         if allowance <= taken {
             return DriveAnswer::Spent(taken);
         }
-        worklist::step(page, run, c);
+        step(a, lines, users, run, words, values, c);
         taken += 1;
     }
 }
 
+// A drive that nothing refuses: the table and the set are made of the run area, then the evaluations are taken.
+fn drive_over(a: &[u16], lines: &[u16], users: &[u16], run: &mut [u16], allowance: u32) -> DriveAnswer
+    requires { ⌜ (sound (now a) ≡ true) × (runSound (pageOf (now a)) (now run) ≡ true) × MaybeLines (now a) (now lines) × MaybeUsers (now a) (now users) ⌝ }
+    ensures { λ r. ⌜ Answered (driveOf (now (a .entry)) (now (run .entry)) allowance) (driveAnswerOf r) (now (run .exit)) ⌝ }
+{
+    let mut words = [0u64; 8];
+    let mut values = [0u8; 1024];
+    ends::fill(run, a[1], a[0], &mut values);
+    worklist::fill_words(run, a[1], &mut words);
+    drive_steps(a, lines, users, run, &mut words, &mut values, allowance)
+}
+
+// The same with an index, which is built in the workspace.
+fn drive_built(page: &[u16], run: &mut [u16], workspace: &mut [u16], allowance: u32) -> DriveAnswer
+    requires { ⌜ (sound (now page) ≡ true) × (runSound (pageOf (now page)) (now run) ≡ true) × (length (now workspace) ≡ indexLength (now page)) ⌝ }
+    ensures { λ r. ⌜ Answered (driveOf (now (page .entry)) (now (run .entry)) allowance) (driveAnswerOf r) (now (run .exit)) ⌝ }
+{
+    index::build(page, workspace);
+    let k = index::lines_length(page);
+    let lines = &workspace[0..k];
+    let users = &workspace[k..];
+    drive_over(page, lines, users, run, allowance)
+}
+
 // Drive: 10 page area not sound, 14 run area too short or not sound. The areas are tested once; an evaluation keeps the run area sound.
-// An index is built for four evaluations or more, and none for a run at rest.
 pub fn drive(page: &[u16], run: &mut [u16], allowance: u32) -> DriveAnswer
     ensures { λ r. ⌜ Answered (driveOf (now (page .entry)) (now (run .entry)) allowance) (driveAnswerOf r) (now (run .exit)) ⌝ }
 {
@@ -110,12 +177,27 @@ pub fn drive(page: &[u16], run: &mut [u16], allowance: u32) -> DriveAnswer
     if !worklist::run_sound(page, run) {
         return DriveAnswer::Refused(14);
     }
-    if allowance < 4 {
-        return drive_scanning(page, run, allowance);
+    let none = &page[0..0];
+    drive_over(page, none, none, run, allowance)
+}
+
+// Drive, with an index in a workspace that the caller lends. A workspace that is too short is not touched, and the page is scanned.
+pub fn drive_indexed(page: &[u16], run: &mut [u16], workspace: &mut [u16], allowance: u32) -> DriveAnswer
+    ensures answer { λ r. ⌜ Answered (driveOf (now (page .entry)) (now (run .entry)) allowance) (driveAnswerOf r) (now (run .exit)) ⌝ }
+    ensures workspace { λ _. ⌜ now (workspace .exit) ≡ driveWorkspace (now (page .entry)) (now (run .entry)) (now (workspace .entry)) ⌝ }
+{
+    if !page::page_sound(page) {
+        return DriveAnswer::Refused(10);
     }
-    let n = page[1];
-    if n <= worklist::lowest_waiting(run, n) {
-        return DriveAnswer::Rest(0);
+    if !worklist::run_sound(page, run) {
+        return DriveAnswer::Refused(14);
     }
-    indexed::drive_indexed(page, run, allowance)
+    let m = index::index_length(page);
+    if workspace.len() < m {
+        let none = &page[0..0];
+        return drive_over(page, none, none, run, allowance);
+    }
+    let answer = drive_built(page, run, &mut workspace[..m], allowance);
+    index::erase(workspace, m);
+    answer
 }

@@ -36,6 +36,8 @@ pub mod Demand
 pub mod Steps
 -- the operations, cause by cause
 pub mod Operations
+-- workspaces
+pub mod Workspaces
 pub mod Drives
 -- no interval widens
 pub mod Narrowing

@@ -97,3 +97,16 @@ module _ (e : End) (a : List ℕ) (ok : sound a ≡ true) (I : Assign) (c : ℕ)
 
   pub body-has : (j : ℕ) → j < countOf a → (p : Interval) → lineBody (topOf a) I c (line j) ≡ p ∷ [] → endOf e p ≤ endOf e (T (pageOf a) I c)
   body-has j l p h = omega (arith, body-from, from-has (countOf a) 0 (omega arith) (record { low = 0; high = 0 }) j (omega arith) l p h)
+
+-- a condition without F and R lines has `bodyless`
+module _ (a : List ℕ) (ok : sound a ≡ true) (I : Assign) (c : ℕ) (none : (j : ℕ) → j < countOf a → lineBody (topOf a) I c (lineAt (drop (placeOf a j) a)) ≡ []) where
+  none-from : (m k : ℕ) → countOf a - k ≡ m → bodies (topOf a) I c (linesLeft a (placeOf a k) k) ≡ []
+  unfolding bodies
+  none-from zero k d = rw (lines-none a (placeOf a k) k (omega arith))
+  none-from (suc m) k d = rw (lines-from a ok k (omega arith), none k (omega arith)) (none-from m (suc k) (omega arith))
+
+  pub body-none : T (pageOf a) I c ≡ bodyless (pageOf a) c
+  unfolding T pageOf placeOf largestOf
+  body-none =
+      ap (λ (ls : List Line). largestOf (bodyless (pageOf a) c) (bodies (topOf a) I c ls)) (sym (lines-first a))
+      ∙ ap (largestOf (bodyless (pageOf a) c)) (none-from (countOf a) 0 (omega arith))

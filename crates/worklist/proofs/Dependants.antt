@@ -5,7 +5,6 @@ use mathlib.Core.Bool.{Bool, true, false, cond, _&&_, _||_, and-false, or-true, 
 use mathlib.Core.List.{List, [], _∷_}
 use Prim.Native.Nat.{ℕ, zero, suc, _+_, _*_, _-_, _≤_, _<_}
 use native.Mathlib.Decide.{ℕ-discrete}
-use native.Mathlib.Nat.{add-zero, le-refl}
 use native.Mathlib.Omega.{arith}
 use lib.Dec.{eqb, leb}
 use lib.ListN.{length, getD}
@@ -18,6 +17,7 @@ use Rattle.semantics.proofs.Table.{or-cases}
 use Rattle.worklist.specs.Cells.{DependantsMarked}
 use Rattle.page.proofs.Head.{head-of, conditions-is}
 use Rattle.index.specs.Groups.{HeadsByLiteral}
+use Rattle.index.proofs.Grouped.{group-order, group-within}
 use Rattle.index.specs.Readers.{among, linesRead}
 use Rattle.worklist.specs.Waiting.{WordsMatch}
 use Rattle.worklist.proofs.Matching.{lt-or-le}
@@ -90,17 +90,6 @@ module _ (a start heads : List ℕ) (e : sound a ≡ true) (g : HeadsByLiteral a
   abbrev startOf : ℕ → ℕ
   startOf t = getD start t 0
 
-  later : (t k : ℕ) → t + k ≤ 2 * n → startOf t ≤ startOf (t + k)
-  later t zero l = rw (add-zero t) (le-refl (startOf t))
-  later t (suc k) l =
-      let q : t + suc k ≡ t + k + 1 = omega arith in
-      rw q (omega (arith, later t k (omega arith), g .ordered (t + k) (omega arith)))
-
-  ends : (t : ℕ) → t ≤ 2 * n → startOf t ≤ length heads
-  ends t l =
-      let q : t + (2 * n - t) ≡ 2 * n = omega arith in
-      omega (arith, later t (2 * n - t) (omega arith), ap startOf q, g .within)
-
   reads-below : (code h : ℕ) → linesRead code (pageOf a .lines) h ≡ true → h < n
   reads-below code h q = rw (sym (conditions-is a)) (read-below (pageOf a .top) (pageOf a .conditions) (pageOf a .lines) (sound-proper a e .ranged) code h q)
 
@@ -108,8 +97,8 @@ module _ (a start heads : List ℕ) (e : sound a ≡ true) (g : HeadsByLiteral a
   part-in : {run : List ℕ} (t k : ℕ) → t + k ≤ 2 * n → 3 * n ≤ length run → HeadsBelow n heads (startOf t) (startOf (t + k)) → HeadsIn heads (startOf t) (startOf (t + k)) run
   part-in t k l long b =
       record {
-        ordered = later t k l;
-        within = ends (t + k) l;
+        ordered = group-order g k t l;
+        within = group-within g (t + k) l;
         few = λ j u v. omega (arith, b j u v, head-of a e .few);
         long = λ j u v. omega (arith, b j u v);
       }

@@ -1,24 +1,34 @@
 -- `check_all` meets its contract, by the laws of `Texts`. Assumes nothing.
 use borrow.Author.Needs.{needs}
-use borrow.Author.Tests.{not-true, not-false}
-use Rattle.reader.proofs.Texts.{no-head, far-head, lines-fit, few-conditions, accepted, refused}
+use Rattle.reader.specs.Checks.{HeadSays}
+use Rattle.reader.proofs.Texts.{head-told, no-head, far-head, few-conditions, accepted, refused}
 use Rattle.reader.proofs.check.check_all.Statement.{statement}
 use Rattle.reader.proofs.check.check_all.Tie as tie
+
+-- the first line has its form
+the-head : (c : tie.After-known-told) → HeadSays (c .before .before .before .before .before .args .bytes .now) (c .before .top .given .0 .0) (c .before .top .given .0 .1 .0) (c .before .top .given .0 .1 .1 .0)
+the-head c = head-told (c .before .before .before .before .before .args .bytes .now) (c .before .before .before .parse-head .ensures) (c .before .top .given .1)
 
 parse-head-requires : tie.Need-parse-head-requires
 parse-head-requires c κs = search needs
 
-returns : tie.Need-returns
-returns c = no-head (c .before .before .before .before .before .args .bytes .now) (c .before .before .parse-head .ensures) (not-true _ (c .if1 .taken))
+enum-known-top : tie.Need-enum-known-top
+enum-known-top c = search needs
 
-head-in-range-requires : tie.Need-head-in-range-requires
-head-in-range-requires c κs = search needs
+enum-told : tie.Need-enum-told
+enum-told c = search needs
+
+returns : tie.Need-returns
+returns c = no-head (c .before .before .before .before .args .bytes .now) (c .before .before .parse-head .ensures) (c .enum-told .given .1)
+
+head-fault-requires : tie.Need-head-fault-requires
+head-fault-requires c κs = search needs
 
 returns-2 : tie.Need-returns-2
-returns-2 c = far-head (c .before .before .before .before .before .before .before .args .bytes .now) (c .before .before .before .before .parse-head .ensures) (not-false _ (c .before .before .if1 .left)) (c .before .head-in-range .ensures) (not-true _ (c .if2 .taken))
+returns-2 c = far-head (c .before .before .before .before .before .before .before .args .bytes .now) (the-head (c .before .before)) (c .before .head-fault .ensures) (c .if1 .taken)
 
-read-lines-requires : tie.Need-read-lines-requires
-read-lines-requires c κs = (lines-fit (c .before .before .before .before .before .before .before .before .args .bytes .now) (c .before .before .before .before .before .parse-head .ensures) (not-false _ (c .before .before .before .if1 .left)) (c .before .before .before .before .before .before .before .before .pre .0) (c .before .before .before .before .before .before .before .before .args .buffer .now) (c .before .before .before .before .before .before .before .before .pre .1), few-conditions (c .before .before .before .before .before .before .before .before .args .bytes .now) (c .before .before .before .before .before .parse-head .ensures) (not-false _ (c .before .before .before .if1 .left)) (c .before .before .head-in-range .ensures) (not-false _ (c .before .if2 .left)))
+check-lines-requires : tie.Need-check-lines-requires
+check-lines-requires c κs = (c .before .before .before .before .before .before .before .pre, few-conditions (c .before .before .before .before .before .before .before .args .bytes .now) (the-head (c .before .before)) (c .before .head-fault .ensures) (c .if1 .left))
 
 enum-known-tally : tie.Need-enum-known-tally
 enum-known-tally c = search needs
@@ -26,30 +36,24 @@ enum-known-tally c = search needs
 enum-known-tally-2 : tie.Need-enum-known-tally-2
 enum-known-tally-2 c = search needs
 
-same-length : tie.Need-same-length
-same-length c = search needs
-
 returns-3 : tie.Need-returns-3
-returns-3 c = accepted (c .before .before .before .before .before .before .before .before .before .before .before .before .before .before .args .bytes .now) (c .before .before .before .before .before .before .before .before .before .before .before .parse-head .ensures) (not-false _ (c .before .before .before .before .before .before .before .before .before .if1 .left)) (c .before .before .before .before .before .before .before .before .head-in-range .ensures) (not-false _ (c .before .before .before .before .before .before .before .if2 .left)) _ (c .before .before .before .before .before .read-lines .ensures) (c .before .tally .given .1)
-
-same-length-2 : tie.Need-same-length-2
-same-length-2 c = search needs
+returns-3 c = accepted (c .before .before .before .before .before .before .before .before .before .before .before .args .bytes .now) (the-head (c .before .before .before .before .before .before)) (c .before .before .before .before .before .head-fault .ensures) (c .before .before .before .before .if1 .left) (c .before .before .before .check-lines .ensures) (c .before .tally .given .1)
 
 returns-4 : tie.Need-returns-4
-returns-4 c = refused (c .before .before .before .before .before .before .before .before .before .before .before .before .before .before .args .bytes .now) (c .before .before .before .before .before .before .before .before .before .before .before .parse-head .ensures) (not-false _ (c .before .before .before .before .before .before .before .before .before .if1 .left)) (c .before .before .before .before .before .before .before .before .head-in-range .ensures) (not-false _ (c .before .before .before .before .before .before .before .if2 .left)) _ (c .before .before .before .before .before .read-lines .ensures) (c .before .tally2 .given .1)
+returns-4 c = refused (c .before .before .before .before .before .before .before .before .before .before .before .args .bytes .now) (the-head (c .before .before .before .before .before .before)) (c .before .before .before .before .before .head-fault .ensures) (c .before .before .before .before .if1 .left) (c .before .before .before .check-lines .ensures) (c .before .tally2 .given .1)
 
 pub check-all-spec : {M : Type 1} → statement M
 check-all-spec =
     tie.close
     (tie.spec
     parse-head-requires
+    enum-known-top
+    enum-told
     returns
-    head-in-range-requires
+    head-fault-requires
     returns-2
-    read-lines-requires
+    check-lines-requires
     enum-known-tally
     enum-known-tally-2
-    same-length
     returns-3
-    same-length-2
     returns-4)

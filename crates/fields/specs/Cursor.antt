@@ -1,0 +1,98 @@
+-- What stands at a place of a text, for the contracts of the functions that go over it. Assumes nothing.
+-- Past the end of a text the byte is 10, so that a last line without byte 10 ends there.
+use mathlib.Core.Path.{_≡_}
+use mathlib.Core.Bool.{Bool, true, false, cond, _&&_, _||_}
+use mathlib.Core.List.{List, []}
+use mathlib.Core.Logic.{_⊎_}
+use Prim.Native.Nat.{ℕ, _+_, _-_, _≤_, _<_}
+use lib.Dec.{eqb, leb}
+use lib.ListN.{length, getD, drop}
+use Rattle.semantics.specs.Area.{codeOf}
+use Rattle.semantics.specs.Text.{textLines, fieldsOf, field, isDigit, isNumber, valueOf, isLiteral, literalIn}
+use Rattle.fields.specs.declared.Class.{Class}
+use Rattle.fields.specs.declared.Class.the-variants.{Digit, Other}
+use Rattle.fields.specs.declared.Field.{Field}
+use Rattle.fields.specs.declared.Field.the-variants.{Number, Bad}
+
+-- a place within a text whose last byte is 10
+pub record Within (s : List ℕ) (at : ℕ) : Type 0 where
+  pub inside : at < length s
+  pub ended : getD s (length s - 1) 10 ≡ 10
+
+-- the fields from the front of a text to the end of its first line, and the lines after that one
+unfoldable pub fieldsAt : List ℕ → List (List ℕ)
+fieldsAt t = fieldsOf (getD (textLines t) 0 [])
+
+unfoldable pub linesAfter : List ℕ → List (List ℕ)
+linesAfter t = drop 1 (textLines t)
+
+-- the field at a place of a text
+abbrev pub fieldAt : List ℕ → ℕ → List ℕ
+fieldAt s at = field (fieldsAt (drop at s)) 0
+
+-- a digit's value, 10 for a byte that ends a field, 11 for any other
+unfoldable pub classOf : ℕ → ℕ
+classOf b = cond (isDigit b) (b - 48) (cond (eqb b 44 || eqb b 10) 10 11)
+
+abbrev pub pick : Bool → Field → Field → Field
+pick true x y = x
+pick false x y = y
+
+-- the number that is the field at a place and ends at the byte `mark`, and the place behind that byte
+unfoldable pub numberBefore : List ℕ → ℕ → ℕ → Field
+numberBefore s at mark =
+    let f = fieldAt s at in
+    pick (isNumber f && eqb (getD s (at + length f) 10) mark) (Number (valueOf f) (at + length f + 1)) Bad
+
+-- what `digit` answers for a byte: a digit's value, or that it is another byte
+pub record DigitIs (b v : ℕ) : Type 0 where
+  pub is : v ≡ classOf b
+  pub most : v ≤ 9
+
+abbrev pub DigitAs : ℕ → Class → Type 0
+DigitAs b (Digit v) = DigitIs b v
+DigitAs b Other = 9 < classOf b
+
+-- the field at a place is a number of value v and ends at the place e
+pub record Numbered (s : List ℕ) (at v e : ℕ) : Type 0 where
+  pub number : isNumber (fieldAt s at) ≡ true
+  pub value : valueOf (fieldAt s at) ≡ v
+  pub end : at + length (fieldAt s at) ≡ e
+
+-- digits of value v stand from a place to the place e: where a comma or byte 10 follows, the field is that number, else it is none
+pub record Digits (s : List ℕ) (at v e : ℕ) : Type 0 where
+  pub ends : classOf (getD s e 10) ≡ 10 → Numbered s at v e
+  pub other : (classOf (getD s e 10) ≡ 10 → ⊥) → isNumber (fieldAt s at) ≡ false
+  pub most : v ≤ 999
+  pub ahead : at < e
+  pub place : Within s e
+
+abbrev pub DigitsAt : List ℕ → ℕ → Field → Type 0
+DigitsAt s at (Number v e) = Digits s at v e
+DigitsAt s at Bad = isNumber (fieldAt s at) ≡ false
+
+-- the code of the literal that is the field at a place, and the place where the field ends
+unfoldable pub literalTo : List ℕ → ℕ → Field
+literalTo s at =
+    let f = fieldAt s at in
+    pick (isLiteral f) (Number (codeOf (literalIn f)) (at + length f)) Bad
+
+-- what `sign` answers for a byte
+abbrev pub SignIs : ℕ → ℕ → Type 0
+SignIs b r = ((b ≡ 33) × (r ≡ 1)) ⊎ ((b ≡ 33 → ⊥) × (r ≡ 0))
+
+-- a literal's code stands from a place to the place e: where a comma or byte 10 follows, the field is that literal, else it is none
+pub record Coded (s : List ℕ) (at code e : ℕ) : Type 0 where
+  pub ends : classOf (getD s e 10) ≡ 10 → Number code e ≡ literalTo s at
+  pub other : (classOf (getD s e 10) ≡ 10 → ⊥) → Bad ≡ literalTo s at
+  pub most : code ≤ 1999
+  pub ahead : at < e
+  pub place : Within s e
+
+abbrev pub LiteralAt : List ℕ → ℕ → Field → Type 0
+LiteralAt s at (Number code e) = Coded s at code e
+LiteralAt s at Bad = Bad ≡ literalTo s at
+
+-- the letter that is the first of several fields, or 0
+unfoldable pub letterThen : List (List ℕ) → ℕ
+letterThen fs = cond (eqb (length (field fs 0)) 1 && leb 2 (length fs)) (getD (field fs 0) 0 0) 0

@@ -1,0 +1,310 @@
+-- The forms of the lines, by what the parser has read of them. Assumes nothing.
+use mathlib.Core.Path.{_≡_, refl, sym, _∙_, ap, subst}
+use mathlib.Core.Bool.{Bool, true, false, cond, _&&_, _||_, false≢true}
+use mathlib.Core.List.{List, [], _∷_, map, map-map}
+use mathlib.Core.Logic.{_⊎_, inl, inr, ⊎-elim}
+use Prim.Native.Nat.{ℕ, suc, _+_, _≤_}
+use native.Mathlib.Omega.{arith}
+use lib.ListN.{length, getD, drop, length-drop, length-map}
+use borrow.Author.Tests.{ne-eqb, eqb-true, le-leb, lt-leb, leb-true}
+use Rattle.semantics.specs.Area.{every, codeOf, lineCode}
+use Rattle.semantics.specs.Page.{Reading, K, W, Line, fact, rule, query}
+use Rattle.semantics.specs.Text.{field, isNumber, valueOf, isLetter, isOp, opIn, isReading, readingIn, literalIn, allLiterals, factForm, isFact, ruleForm, isRule, queryForm, isQuery, hasForm, lineIn}
+use Rattle.semantics.proofs.TestLists.{fails, passes}
+use Rattle.fields.specs.Cursor.{Within, fieldsAt, fieldAt, letterThen}
+use Rattle.fields.proofs.Tokens.{NumberLast}
+use Rattle.fields.proofs.Fields.{some-field}
+use Rattle.fields.proofs.Letters.{LetterThen, letter-absent, letter-or}
+use Rattle.lines.specs.declared.Entry.{Entry}
+use Rattle.lines.specs.declared.Entry.the-variants.{Good, Form}
+use Rattle.lines.specs.Pairs.{pairTests, PairThen}
+use Rattle.lines.specs.Lines.{codeIn, LineFits, Ends, Put, LinePut, EntryAt, RestAt, areLiterals, restTests, restCodes, kindAt, readingAt}
+use Rattle.lines.proofs.LetterCodes.{op-one, op-known, op-none, reading-one, reading-known, reading-none}
+
+or-false : (t : Bool) → (t || false) ≡ t
+or-false true = refl
+or-false false = refl
+
+pub and-true : (t : Bool) → (t && true) ≡ t
+and-true true = refl
+and-true false = refl
+
+unless : (t : Bool) → (t ≡ true → ⊥) → t ≡ false
+unless true h = absurd (h refl)
+unless false h = refl
+
+-- the line at a place says `line`, and the next begins at the place `next`
+pub record Says (s : List ℕ) (at : ℕ) (line : Line) (next : ℕ) : Type 0 where
+  pub form : hasForm (fieldsAt (drop at s)) ≡ true
+  pub is : lineIn (fieldsAt (drop at s)) ≡ line
+  pub ends : Ends s at next
+
+pub put-entry : {s : List ℕ} {at : ℕ} {line : Line} {next : ℕ} → Says s at line next → {area : List ℕ} {start : ℕ} {area′ : List ℕ} {end : ℕ}
+    → Put area start (lineCode line) area′ end → LinePut s at area start area′ next end
+put-entry h p = record { form = h .form; entry = rw (h .is) p; ends = h .ends }
+
+-- what is read of a line, by the cases of the answer
+module _ (s : List ℕ) (at : ℕ) (area : List ℕ) (start : ℕ) (area′ : List ℕ) {r : Entry} (q : EntryAt s at area start area′ r) where
+  pub put-told : {next end : ℕ} → r ≡ Good next end → LinePut s at area start area′ next end
+  put-told e = subst (EntryAt s at area start area′) e q
+
+  pub form-told : r ≡ Form → hasForm (fieldsAt (drop at s)) ≡ false
+  form-told e = subst (EntryAt s at area start area′) e q
+
+-- how long the entry of a line is
+query-size : (r : Reading) (c : ℕ) → length (lineCode (query r c)) ≡ 4
+query-size K c = refl
+query-size W c = refl
+
+pub form-size : (fs : List (List ℕ)) → hasForm fs ≡ true → (length (lineCode (lineIn fs)) ≡ 4 + length (drop 4 fs)) × (length (drop 4 fs) ≤ 8)
+unfolding hasForm lineIn isFact isRule isQuery
+form-size fs = go (every (factForm fs)) (every (ruleForm fs)) (every (queryForm fs)) refl refl refl
+  where
+    go : (t u v : Bool) → every (factForm fs) ≡ t → every (ruleForm fs) ≡ u → every (queryForm fs) ≡ v → (t || (u || v)) ≡ true
+        → (length
+        (lineCode
+        (cond t (fact (valueOf (field fs 1)) (valueOf (field fs 2)) (valueOf (field fs 3)))
+        (cond u (rule (valueOf (field fs 1)) (valueOf (field fs 2)) (opIn (field fs 3)) (map literalIn (drop 4 fs))) (query (readingIn (field fs 1)) (valueOf (field fs 2))))))
+        ≡ 4 + length (drop 4 fs))
+        × (length (drop 4 fs) ≤ 8)
+    go true u v p q r h =
+        let l : length fs ≡ 4 = eqb-true (length fs) 4 (passes (factForm fs) 1 p) in
+        (omega (arith, length-drop 4 fs), omega (arith, length-drop 4 fs))
+    go false true v p q r h = (omega (arith, length-map (map literalIn (drop 4 fs)) codeOf, length-map (drop 4 fs) literalIn), leb-true (length (drop 4 fs)) 8 (passes (ruleForm fs) 2 q))
+    go false false true p q r h =
+        let l : length fs ≡ 3 = eqb-true (length fs) 3 (passes (queryForm fs) 1 r) in
+        (omega (arith, length-drop 4 fs, query-size (readingIn (field fs 1)) (valueOf (field fs 2))), omega (arith, length-drop 4 fs))
+    go false false false p q r h = absurd (false≢true h)
+
+-- A fact: `F`, and the fields gs.
+module _ (gs : List (List ℕ)) where
+  fact-form : hasForm ((70 ∷ []) ∷ gs) ≡ isFact ((70 ∷ []) ∷ gs)
+  unfolding hasForm isRule isQuery
+  fact-form = or-false (isFact ((70 ∷ []) ∷ gs))
+
+  no-fact : every (pairTests gs) ≡ false → hasForm ((70 ∷ []) ∷ gs) ≡ false
+  unfolding isFact
+  no-fact h =
+      let ts = factForm ((70 ∷ []) ∷ gs) in
+      fact-form
+      ∙ unless (isFact ((70 ∷ []) ∷ gs))
+      (λ e.
+      let l : suc (length gs) ≡ 4 = eqb-true (suc (length gs)) 4 (passes ts 1 e) in
+      let ok : every (pairTests gs) ≡ true = rw (passes ts 2 e, passes ts 3 e) (rw (le-leb 3 (length gs) (omega arith))) in
+      false≢true (sym h ∙ ok))
+
+module _ (s : List ℕ) (at : ℕ) (k₀ : LetterThen s at 70) where
+  pub no-pair : every (pairTests (fieldsAt (drop (at + 2) s))) ≡ false → hasForm (fieldsAt (drop at s)) ≡ false
+  no-pair h = rw (k₀ .fields) (no-fact (fieldsAt (drop (at + 2) s)) h)
+
+  module _ {v w b : ℕ} (k : PairThen s (at + 2) v w b) where
+    pub no-high : (isNumber (fieldAt s b) ≡ false) ⊎ (2 ≤ length (fieldsAt (drop b s))) → hasForm (fieldsAt (drop at s)) ≡ false
+    unfolding isFact
+    no-high h = rw (k₀ .fields, k .fields, fact-form (k .f ∷ k .g ∷ fieldsAt (drop b s))) (go h)
+      where
+        go : (isNumber (fieldAt s b) ≡ false) ⊎ (2 ≤ length (fieldsAt (drop b s))) → isFact ((70 ∷ []) ∷ k .f ∷ k .g ∷ fieldsAt (drop b s)) ≡ false
+        go (inl n) = fails (factForm ((70 ∷ []) ∷ k .f ∷ k .g ∷ fieldsAt (drop b s))) 4 n
+        go (inr l) =
+            fails (factForm ((70 ∷ []) ∷ k .f ∷ k .g ∷ fieldsAt (drop b s))) 1
+            (ne-eqb (suc (suc (suc (length (fieldsAt (drop b s)))))) 4 (λ z. omega arith))
+
+    module _ {h e : ℕ} (l : NumberLast s b h e) where
+      fact-fields : fieldsAt (drop at s) ≡ (70 ∷ []) ∷ k .f ∷ k .g ∷ fieldAt s b ∷ []
+      fact-fields =
+          k₀ .fields ∙ ap (λ (fs : List (List ℕ)). (70 ∷ []) ∷ fs) (k .fields ∙ ap (λ (fs : List (List ℕ)). k .f ∷ k .g ∷ fs) (l .fields))
+
+      is-fact : isFact ((70 ∷ []) ∷ k .f ∷ k .g ∷ fieldAt s b ∷ []) ≡ true
+      unfolding isFact
+      is-fact = rw (k .first, k .second, l .number)
+
+      fact-line : lineIn ((70 ∷ []) ∷ k .f ∷ k .g ∷ fieldAt s b ∷ []) ≡ fact v w h
+      unfolding lineIn
+      fact-line = rw (is-fact, k .value, k .value′, l .value)
+
+      pub a-fact : Says s at (fact v w h) e
+      a-fact =
+          record {
+            form = ap hasForm fact-fields ∙ fact-form (k .f ∷ k .g ∷ fieldAt s b ∷ []) ∙ is-fact;
+            is = ap lineIn fact-fields ∙ fact-line;
+            ends = record {
+              lines = k₀ .lines ∙ k .lines ∙ l .lines;
+              ahead = omega (arith, k .ahead, l .ahead);
+            };
+          }
+
+-- A query: `Q`, and the fields gs.
+module _ (gs : List (List ℕ)) where
+  query-form : hasForm ((81 ∷ []) ∷ gs) ≡ isQuery ((81 ∷ []) ∷ gs)
+  unfolding hasForm isFact isRule
+  query-form = refl
+
+  no-reading : readingAt (letterThen gs) ≡ 2 → hasForm ((81 ∷ []) ∷ gs) ≡ false
+  unfolding isQuery
+  no-reading h = query-form ∙ go (letter-absent isReading reading-one gs (reading-none (letterThen gs) h))
+    where
+      go : (isReading (field gs 0) ≡ false) ⊎ (length gs ≤ 1) → isQuery ((81 ∷ []) ∷ gs) ≡ false
+      go (inl n) = fails (queryForm ((81 ∷ []) ∷ gs)) 2 n
+      go (inr l) = fails (queryForm ((81 ∷ []) ∷ gs)) 1 (ne-eqb (suc (length gs)) 3 (λ z. omega arith))
+
+module _ (s : List ℕ) (at : ℕ) (k₀ : LetterThen s at 81) where
+  pub no-reading-letter : readingAt (letterThen (fieldsAt (drop (at + 2) s))) ≡ 2 → hasForm (fieldsAt (drop at s)) ≡ false
+  no-reading-letter h = rw (k₀ .fields) (no-reading (fieldsAt (drop (at + 2) s)) h)
+
+  module _ {r : ℕ} (k : LetterThen s (at + 2) r) where
+    four : at + 2 + 2 ≡ at + 4
+    four = omega arith
+
+    pub query-place : Within s (at + 4)
+    query-place = rw four at (k .place)
+
+    letters : fieldsAt (drop at s) ≡ (81 ∷ []) ∷ (r ∷ []) ∷ fieldsAt (drop (at + 4) s)
+    letters = k₀ .fields ∙ ap (λ (fs : List (List ℕ)). (81 ∷ []) ∷ fs) (rw four at (k .fields))
+
+    pub no-query : (isNumber (fieldAt s (at + 4)) ≡ false) ⊎ (2 ≤ length (fieldsAt (drop (at + 4) s))) → hasForm (fieldsAt (drop at s)) ≡ false
+    unfolding isQuery
+    no-query h = rw (letters, query-form ((r ∷ []) ∷ fieldsAt (drop (at + 4) s))) (go h)
+      where
+        go : (isNumber (fieldAt s (at + 4)) ≡ false) ⊎ (2 ≤ length (fieldsAt (drop (at + 4) s))) → isQuery ((81 ∷ []) ∷ (r ∷ []) ∷ fieldsAt (drop (at + 4) s)) ≡ false
+        go (inl n) = fails (queryForm ((81 ∷ []) ∷ (r ∷ []) ∷ fieldsAt (drop (at + 4) s))) 3 n
+        go (inr l) =
+            fails (queryForm ((81 ∷ []) ∷ (r ∷ []) ∷ fieldsAt (drop (at + 4) s))) 1
+            (ne-eqb (suc (suc (length (fieldsAt (drop (at + 4) s))))) 3 (λ z. omega arith))
+
+    module _ (n : readingAt r ≡ 2 → ⊥) {v e : ℕ} (l : NumberLast s (at + 4) v e) where
+      query-fields : fieldsAt (drop at s) ≡ (81 ∷ []) ∷ (r ∷ []) ∷ fieldAt s (at + 4) ∷ []
+      query-fields = letters ∙ ap (λ (fs : List (List ℕ)). (81 ∷ []) ∷ (r ∷ []) ∷ fs) (l .fields)
+
+      is-query : isQuery ((81 ∷ []) ∷ (r ∷ []) ∷ fieldAt s (at + 4) ∷ []) ≡ true
+      unfolding isQuery
+      is-query = rw (reading-known r n .0, l .number)
+
+      query-line : lineIn ((81 ∷ []) ∷ (r ∷ []) ∷ fieldAt s (at + 4) ∷ []) ≡ query (readingIn (r ∷ [])) v
+      unfolding lineIn isFact isRule
+      query-line = rw (l .value)
+
+      pub query-codes : v ∷ 6 ∷ readingAt r ∷ 0 ∷ [] ≡ lineCode (query (readingIn (r ∷ [])) v)
+      query-codes = sym (reading-known r n .1 v)
+
+      pub a-query : Says s at (query (readingIn (r ∷ [])) v) e
+      a-query =
+          record {
+            form = ap hasForm query-fields ∙ query-form ((r ∷ []) ∷ fieldAt s (at + 4) ∷ []) ∙ is-query;
+            is = ap lineIn query-fields ∙ query-line;
+            ends = record {
+              lines = k₀ .lines ∙ k .lines ∙ rw four (l .lines);
+              ahead = omega (arith, l .ahead);
+            };
+          }
+
+-- A rule: `R`, and the fields gs.
+module _ (gs : List (List ℕ)) where
+  rule-form : hasForm ((82 ∷ []) ∷ gs) ≡ isRule ((82 ∷ []) ∷ gs)
+  unfolding hasForm isFact isQuery
+  rule-form = or-false (isRule ((82 ∷ []) ∷ gs))
+
+  no-rule : every (pairTests gs) ≡ false → hasForm ((82 ∷ []) ∷ gs) ≡ false
+  unfolding isRule
+  no-rule h =
+      let ts = ruleForm ((82 ∷ []) ∷ gs) in
+      rule-form
+      ∙ unless (isRule ((82 ∷ []) ∷ gs))
+      (λ e.
+      let l : 1 ≤ length (drop 3 gs) = leb-true 1 (length (drop 3 gs)) (passes ts 1 e) in
+      let ok : every (pairTests gs) ≡ true = rw (passes ts 3 e, passes ts 4 e) (rw (le-leb 3 (length gs) (omega (arith, length-drop 3 gs)))) in
+      false≢true (sym h ∙ ok))
+
+-- behind the condition and the weight: an op letter and 1 to 8 literals
+pub no-rest : (gs : List (List ℕ)) → kindAt (letterThen gs) ≡ 0 → every (restTests gs) ≡ false
+no-rest gs h = go (letter-absent isOp op-one gs (op-none (letterThen gs) h))
+  where
+    go : (isOp (field gs 0) ≡ false) ⊎ (length gs ≤ 1) → every (restTests gs) ≡ false
+    go (inl n) = fails (restTests gs) 2 n
+    go (inr l) = fails (restTests gs) 0 (lt-leb 1 (length (drop 1 gs)) (omega (arith, length-drop 1 gs)))
+
+module _ (s : List ℕ) (at : ℕ) {r : ℕ} (k : LetterThen s at r) (n : kindAt r ≡ 0 → ⊥) where
+  pub rest-form : every (restTests (fieldsAt (drop at s))) ≡ areLiterals (fieldsAt (drop (at + 2) s))
+  rest-form =
+      let hs = fieldsAt (drop (at + 2) s) in
+      rw (k .fields, le-leb 1 (length hs) (some-field (drop (at + 2) s)), op-known r n .0, and-true (allLiterals hs))
+
+  pub rest-codes : (c w : ℕ) → restCodes c w (fieldsAt (drop at s)) ≡ c ∷ kindAt r ∷ w ∷ length (fieldsAt (drop (at + 2) s)) ∷ map codeIn (fieldsAt (drop (at + 2) s))
+  rest-codes c w = rw (k .fields, op-known r n .1)
+
+module _ (s : List ℕ) (at : ℕ) (k₀ : LetterThen s at 82) where
+  pub no-rule-pair : every (pairTests (fieldsAt (drop (at + 2) s))) ≡ false → hasForm (fieldsAt (drop at s)) ≡ false
+  no-rule-pair h = rw (k₀ .fields) (no-rule (fieldsAt (drop (at + 2) s)) h)
+
+  module _ {v w b : ℕ} (k : PairThen s (at + 2) v w b) where
+    rule-fields : fieldsAt (drop at s) ≡ (82 ∷ []) ∷ k .f ∷ k .g ∷ fieldsAt (drop b s)
+    rule-fields = k₀ .fields ∙ ap (λ (fs : List (List ℕ)). (82 ∷ []) ∷ fs) (k .fields)
+
+    is-rule : isRule ((82 ∷ []) ∷ k .f ∷ k .g ∷ fieldsAt (drop b s)) ≡ every (restTests (fieldsAt (drop b s)))
+    unfolding isRule
+    is-rule = rw (k .first, k .second)
+
+    has-rule : hasForm (fieldsAt (drop at s)) ≡ every (restTests (fieldsAt (drop b s)))
+    has-rule = ap hasForm rule-fields ∙ rule-form (k .f ∷ k .g ∷ fieldsAt (drop b s)) ∙ is-rule
+
+    abbrev the-rule : Line
+    the-rule = rule v w (opIn (field (fieldsAt (drop b s)) 0)) (map literalIn (drop 1 (fieldsAt (drop b s))))
+
+    module _ (t : every (restTests (fieldsAt (drop b s))) ≡ true) where
+      rule-line : lineIn (fieldsAt (drop at s)) ≡ the-rule
+      unfolding lineIn isFact
+      rule-line = ap lineIn rule-fields ∙ rw (is-rule, t, k .value, k .value′)
+
+      rule-codes : restCodes v w (fieldsAt (drop b s)) ≡ lineCode the-rule
+      rule-codes = let hs = drop 1 (fieldsAt (drop b s)) in rw (length-map hs literalIn, map-map codeOf literalIn hs)
+
+      a-rule : {next : ℕ} → Ends s b next → Says s at the-rule next
+      a-rule e =
+          record {
+            form = has-rule ∙ t;
+            is = rule-line;
+            ends = record {
+              lines = k₀ .lines ∙ k .lines ∙ e .lines;
+              ahead = omega (arith, k .ahead, e .ahead);
+            };
+          }
+
+    -- the literals have their places
+    pub rule-room : {area : List ℕ} {end : ℕ} → LineFits s at 4 area end → LineFits s b 1 area end
+    rule-room f = record { place = k .place; four = f .four; literals = rw rule-fields at (f .literals) }
+
+    -- a rule by what stands behind its weight
+    pub rule-entry : (area : List ℕ) (start : ℕ) (area′ : List ℕ) (r : Entry) → RestAt s b v w area start area′ r → EntryAt s at area start area′ r
+    rule-entry area start area′ (Good next end) q = put-entry (a-rule (q .form) (q .ends)) (rw (rule-codes (q .form)) at (q .entry))
+    rule-entry area start area′ Form q = has-rule ∙ q
+
+-- A line that begins with none of the letters.
+no-line : (fs : List (List ℕ)) → (letterThen fs ≡ 70 → ⊥) → (letterThen fs ≡ 82 → ⊥) → (letterThen fs ≡ 81 → ⊥) → hasForm fs ≡ false
+unfolding hasForm isFact isRule isQuery
+no-line fs a b d =
+    let x = letterThen fs in
+    rw (
+      go-fact (letter-absent (isLetter 70) (λ f. refl) fs (ne-eqb x 70 a)),
+      go-rule (letter-absent (isLetter 82) (λ f. refl) fs (ne-eqb x 82 b)),
+      go-query (letter-absent (isLetter 81) (λ f. refl) fs (ne-eqb x 81 d)),
+    )
+  where
+    go-fact : (isLetter 70 (field fs 0) ≡ false) ⊎ (length fs ≤ 1) → isFact fs ≡ false
+    go-fact (inl n) = fails (factForm fs) 0 n
+    go-fact (inr l) = fails (factForm fs) 1 (ne-eqb (length fs) 4 (λ z. omega arith))
+
+    go-rule : (isLetter 82 (field fs 0) ≡ false) ⊎ (length fs ≤ 1) → isRule fs ≡ false
+    go-rule (inl n) = fails (ruleForm fs) 0 n
+    go-rule (inr l) = fails (ruleForm fs) 1 (lt-leb 1 (length (drop 4 fs)) (omega (arith, length-drop 4 fs)))
+
+    go-query : (isLetter 81 (field fs 0) ≡ false) ⊎ (length fs ≤ 1) → isQuery fs ≡ false
+    go-query (inl n) = fails (queryForm fs) 0 n
+    go-query (inr l) = fails (queryForm fs) 1 (ne-eqb (length fs) 3 (λ z. omega arith))
+
+pub gone-line : (fs : List (List ℕ)) → letterThen fs ≡ 0 → hasForm fs ≡ false
+gone-line fs e = no-line fs (λ z. omega arith) (λ z. omega arith) (λ z. omega arith)
+
+pub other-line : (s : List ℕ) (at : ℕ) → (getD s at 10 ≡ 70 → ⊥) → (getD s at 10 ≡ 82 → ⊥) → (getD s at 10 ≡ 81 → ⊥) → hasForm (fieldsAt (drop at s)) ≡ false
+other-line s at a b d =
+    let fs = fieldsAt (drop at s) in
+    ⊎-elim (λ (e : letterThen fs ≡ getD s at 10). no-line fs (λ z. a (sym e ∙ z)) (λ z. b (sym e ∙ z)) (λ z. d (sym e ∙ z)))
+    (λ (e : letterThen fs ≡ 0). gone-line fs e)
+    (letter-or s at)
