@@ -19,7 +19,7 @@ mul-erase : tie.Need-mul-erase
 mul-erase c = let s = c .before .before .before .before .before .before .before .before .before .before .before in omega (arith, head-of (s .args .page .now) (solve-ready _ _ _ _ (s .pre) .page-sound))
 
 erase-requires : tie.Need-erase-requires
-erase-requires c κs = let s = c .before .before .before .before .before .before .before .before .before .before .before in solve-ready _ _ _ _ (s .pre) .long
+erase-requires c κs = let s = c .before .before .before .before .before .before .before .before .before .before .before in omega (arith, solve-ready _ _ _ _ (s .pre) .long)
 
 same-length : tie.Need-same-length
 same-length c = search needs
