@@ -9,14 +9,15 @@ use native.Mathlib.Numerals.{add-one}
 use native.Mathlib.Omega.{arith}
 use lib.Dec.{eqb, leb, ltb}
 use lib.ListN.{length, getD, set, take, drop, length-append, length-take, length-drop, length-set}
-use lib.Seq.{drop-cons, take-suc, take-length, set-at, getD-set-same, getD-set-other, drop-set-lt}
+use lib.Seq.{drop-at, length-take-le, drop-cons, take-suc, take-length, set-at, getD-set-same, getD-set-other, drop-set-lt}
 use mir.Val.{boolByte}
+use borrow.Rule.Slice.PartAt.{part-to-end}
 use borrow.Author.Tests.{le-leb, lt-leb, leb-true, ltb-true, eq-eqb, eqb-true, not-false}
 use Rattle.fixpoint.specs.Interval.{Interval, Assign}
 use Rattle.semantics.specs.Area.{sound, pageOf, topOf, conditionsOf, allUnder}
 use Rattle.semantics.specs.Body.{unknownByDefault}
 use Rattle.semantics.specs.Call.{Cause, cause, firstOf}
-use Rattle.semantics.specs.Operation.{ends, zeros, scratchLength, closedCauses, ClosedAnswers, ClosedAs, ClosedOf}
+use Rattle.semantics.specs.Operation.{ends, zeros, scratchLength, queryCauses, closedCauses, linesLength, indexLength, usedWorkspace, closedWorkspace, ClosedAnswers, ClosedAs, ClosedOf}
 use Rattle.semantics.specs.Reading.{queried, closure, reached}
 use Rattle.semantics.specs.Table.{listed, member}
 use Rattle.semantics.proofs.Closure.{reached-closed, reached-complete}
@@ -24,10 +25,12 @@ use Rattle.semantics.proofs.Invariant.{no-cause-holds}
 use Rattle.semantics.proofs.Readings.{names-inside, closed-is}
 use Rattle.semantics.proofs.Soundness.{sound-proper, both-true}
 use Rattle.semantics.proofs.Table.{or-cases}
+use Rattle.index.specs.Parts.{Index}
 use Rattle.reach.specs.Marks.{Marks}
 use Rattle.reach.proofs.Refusals.{first-10, first-11, first-12, first-behind}
 use Rattle.closed.specs.Scratch.{held, reachedAt}
-use Rattle.closed.specs.Answer.{FirstCause}
+use Rattle.closed.specs.Answer.{FirstCause, Answered}
+use Rattle.closed.specs.Waiting.{MaybeIndex}
 use Rattle.closed.specs.Round.{Begun, closedAt, RoundReady, Alternated, SolveReady, Solved}
 use Rattle.closed.proofs.Scratch.{shut-over}
 use Rattle.closed.proofs.Raising.{S}
@@ -222,8 +225,11 @@ module _ (a qs s w : List ℕ) where
     pub room : 2 * length qs ≤ length w
     room = let h = no-cause-holds (closedCauses a qs s w) (sym (e .is)) in leb-true (2 * length qs) (length w) (not-false _ (h .1 .1 .1 .1 .0))
 
-    module _ {s₁ s′ w′ : List ℕ} (v : Solved a qs s s₁) (written : w′ ≡ ends (held (conditionsOf a) s₁) qs ++ drop (2 * length qs) w)
-        (cleared : s′ ≡ zeros (6 * conditionsOf a) ++ drop (6 * conditionsOf a) s₁) where
+    module _ {s₁ : List ℕ} (v : Solved a qs s s₁) where
+      -- nor when it is solved
+      pub still-none : FirstCause none a qs s₁ w
+      still-none = record { is = e .is ∙ ap (λ (k : ℕ). firstOf (queryCauses a qs ++ (cause (not (leb (scratchLength (pageOf a)) k)) 18 ∷ cause (not (leb (2 * length qs) (length w))) 19 ∷ []))) (sym (v .same-length)) }
+
       real : (c : ℕ) → listed c qs ≡ true → c < conditionsOf a
       real c l = under-listed (conditionsOf a) qs (solve-ready .under) c l
 
@@ -232,21 +238,47 @@ module _ (a qs s w : List ℕ) where
       answer c l =
           v .reads-closed c (real c l) (reached-complete (pageOf a) qs (names-inside (pageOf a) (sound-proper a (solve-ready .page-sound))) real (queried l))
 
-      answers : ClosedAnswers a qs s w s′ w′
-      unfolding pageOf
-      answers =
-          record {
-            reading = closedAt a;
-            is-closed = closed-is (pageOf a) (sound-proper a (solve-ready .page-sound));
-            written = written ∙ ap (λ (t : List ℕ). t ++ drop (2 * length qs) w) (ends-same (held (conditionsOf a) s₁) (closedAt a) qs answer);
-            cleared = cleared ∙ ap (λ (t : List ℕ). zeros (6 * conditionsOf a) ++ t) (v .beyond);
-          }
+      module _ {s′ w′ : List ℕ} (d : Answered a qs s₁ w s′ w′) where
+        answers : ClosedAnswers a qs s w s′ w′
+        unfolding pageOf
+        answers =
+            record {
+              reading = closedAt a;
+              is-closed = closed-is (pageOf a) (sound-proper a (solve-ready .page-sound));
+              written = d .written ∙ ap (λ (t : List ℕ). t ++ drop (2 * length qs) w) (ends-same (held (conditionsOf a) s₁) (closedAt a) qs answer);
+              cleared = d .erased ∙ ap (λ (t : List ℕ). zeros (6 * conditionsOf a) ++ t) (v .beyond);
+            }
 
-      pub accepted : ClosedOf none a qs s w s′ w′
-      unfolding ClosedOf
-      accepted = rw (← e .is) (refl, answers)
+        pub accepted : ClosedOf none a qs s w s′ w′
+        unfolding ClosedOf
+        accepted = rw (← e .is) (refl, answers)
+
+    -- the workspace of an accepted call
+    pub workspace-used : (x : List ℕ) {x′ : List ℕ} → x′ ≡ usedWorkspace a x → x′ ≡ closedWorkspace a qs s w x
+    unfolding closedWorkspace
+    workspace-used x h = rw (← e .is) h
+
+  -- and of a refused one
+  pub workspace-kept : {k : ℕ} {x : List ℕ} → FirstCause (some k) a qs s w → x ≡ closedWorkspace a qs s w x
+  unfolding closedWorkspace
+  workspace-kept {k} {x} e = rw (← e .is)
 
 -- a truth value as a number
 pub byte-is : (b : Bool) → leb 1 (boolByte b) ≡ b
 byte-is true = refl
 byte-is false = refl
+
+-- an index in the two parts that the code takes
+pub built-index : (a w : List ℕ) → Index a w → (k : ℕ) → k ≡ linesLength a → MaybeIndex a (take (k - 0) w) (take (length w - k) (drop k w))
+built-index a w i k h =
+    let z : k - 0 ≡ k = omega arith in
+    inr (rw (z, h) (i .lines), rw (part-to-end w k, h) (i .users))
+
+-- the workspace, too short and long enough
+pub workspace-short : (a w : List ℕ) → length w < indexLength a → w ≡ usedWorkspace a w
+workspace-short a w l = rw (lt-leb (indexLength a) (length w) l)
+
+pub workspace-long : (a w x : List ℕ) (m : ℕ) → m ≡ indexLength a → m ≤ length w → length x ≡ length (take m w) → zeros m ++ drop m (x ++ drop m w) ≡ usedWorkspace a w
+workspace-long a w x m h l q =
+    let z : length x ≡ m = q ∙ length-take-le m w l in
+    ap (λ (t : List ℕ). zeros m ++ t) (drop-at x (drop m w) m z) ∙ rw (h, le-leb (indexLength a) (length w) (omega arith))

@@ -16,3 +16,6 @@ pub mod Rounding
 pub mod Starting
 -- the operation
 pub mod Answering
+-- those that wait, and an end settled over an index
+pub mod Waking
+pub mod Draining

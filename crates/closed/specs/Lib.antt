@@ -2,6 +2,8 @@
 pub mod Ends
 -- the scratch, and what the steps of a half leave in it
 pub mod Scratch
+-- the conditions that wait
+pub mod Waiting
 -- the rounds
 pub mod Round
 -- the numbers of the answers

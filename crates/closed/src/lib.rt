@@ -1,12 +1,14 @@
 // The closed reading, by rounds of two halves: the least high ends over the low ends held, then the least low ends over the high ends held.
 ghost use mathlib.Core.Path.{_≡_};
 ghost use mathlib.Core.List.{_++_};
+ghost use mathlib.Core.Option.{none};
 ghost use Prim.Native.Nat.{ℕ, _≤_, _+_, _<_, _*_};
 ghost use lib.ListN.{length, getD, set, drop};
-ghost use Rattle.semantics.specs.Operation.{ends, ClosedOf};
+ghost use Rattle.semantics.specs.Operation.{ends, indexLength, usedWorkspace, closedWorkspace, ClosedOf};
 ghost use Rattle.closed.specs.Scratch.{held};
+ghost use Rattle.closed.specs.Waiting.{MaybeIndex};
 ghost use Rattle.closed.specs.Round.{Begun, SolveReady, Solved};
-ghost use Rattle.closed.specs.Answer.{refusalOf, FirstCause};
+ghost use Rattle.closed.specs.Answer.{refusalOf, FirstCause, Answered};
 
 mod rounds;
 mod settle;
@@ -26,13 +28,13 @@ fn begin(scratch: &mut [u16], n: u16, marks: &[bool])
 }
 
 // The closed reading of every condition reached from the queries, in the scratch.
-fn solve(a: &[u16], queries: &[u16], scratch: &mut [u16])
-    requires { ⌜ SolveReady (now a) (now queries) (now scratch) ⌝ }
+fn solve(a: &[u16], queries: &[u16], lines: &[u16], users: &[u16], scratch: &mut [u16])
+    requires { ⌜ SolveReady (now a) (now queries) (now scratch) × MaybeIndex (now a) (now lines) (now users) ⌝ }
     ensures { λ r. ⌜ Solved (now (a .entry)) (now (queries .entry)) (now (scratch .entry)) (now (scratch .exit)) ⌝ }
 {
     let marks = reach::closure_of(a, queries);
     begin(scratch, a[1], &marks);
-    rounds::alternate(a, scratch);
+    rounds::alternate(a, lines, users, scratch);
 }
 
 // Low and high of each query, in list order.
@@ -79,6 +81,16 @@ fn refusal(page: &[u16], queries: &[u16], scratch: &[u16], answers: &[u16]) -> C
     ClosedAnswer::Done
 }
 
+// Low and high of each query from a solved scratch, which is then erased.
+fn answer(page: &[u16], queries: &[u16], scratch: &mut [u16], answers: &mut [u16])
+    requires { ⌜ FirstCause none (now page) (now queries) (now scratch) (now answers) ⌝ }
+    ensures { λ r. ⌜ Answered (now (page .entry)) (now (queries .entry)) (now (scratch .entry)) (now (answers .entry)) (now (scratch .exit)) (now (answers .exit)) ⌝ }
+{
+    let n = page[1];
+    write_answers(scratch, n, queries, answers);
+    index::erase(scratch, 6 * n as usize);
+}
+
 // Closed reading: low and high of each query in the closed reading of the page.
 pub fn closed_reading(
     page: &[u16],
@@ -92,9 +104,54 @@ pub fn closed_reading(
     if let ClosedAnswer::Refused(k) = refused {
         return ClosedAnswer::Refused(k);
     }
-    solve(page, queries, scratch);
-    let n = page[1];
-    write_answers(scratch, n, queries, answers);
-    index::erase(scratch, 6 * n as usize);
+    let none = &page[0..0];
+    solve(page, queries, none, none, scratch);
+    answer(page, queries, scratch, answers);
+    ClosedAnswer::Done
+}
+
+// The same as `solve`, with an index that is built in `w`.
+fn solve_indexed(a: &[u16], queries: &[u16], scratch: &mut [u16], w: &mut [u16])
+    requires { ⌜ SolveReady (now a) (now queries) (now scratch) × (length (now w) ≡ indexLength (now a)) ⌝ }
+    ensures { λ r. ⌜ Solved (now (a .entry)) (now (queries .entry)) (now (scratch .entry)) (now (scratch .exit)) ⌝ }
+{
+    index::build(a, w);
+    let k = index::lines_length(a);
+    let lines = &w[0..k];
+    let users = &w[k..];
+    solve(a, queries, lines, users, scratch);
+}
+
+// The same as `solve`, with an index if the workspace has room for it.
+fn solve_over(a: &[u16], queries: &[u16], scratch: &mut [u16], workspace: &mut [u16])
+    requires { ⌜ SolveReady (now a) (now queries) (now scratch) ⌝ }
+    ensures { λ r. ⌜ Solved (now (a .entry)) (now (queries .entry)) (now (scratch .entry)) (now (scratch .exit)) × (now (workspace .exit) ≡ usedWorkspace (now (a .entry)) (now (workspace .entry))) ⌝ }
+{
+    let m = index::index_length(a);
+    if workspace.len() < m {
+        let none = &a[0..0];
+        solve(a, queries, none, none, scratch);
+        return;
+    }
+    solve_indexed(a, queries, scratch, &mut workspace[..m]);
+    index::erase(workspace, m);
+}
+
+// Closed reading with a lent workspace: the same answers, and fast where the workspace has room for an index of the page.
+pub fn closed_indexed(
+    page: &[u16],
+    queries: &[u16],
+    scratch: &mut [u16],
+    answers: &mut [u16],
+    workspace: &mut [u16],
+) -> ClosedAnswer
+    ensures { λ r. ⌜ ClosedOf (refusalOf r) (now (page .entry)) (now (queries .entry)) (now (scratch .entry)) (now (answers .entry)) (now (scratch .exit)) (now (answers .exit)) × (now (workspace .exit) ≡ closedWorkspace (now (page .entry)) (now (queries .entry)) (now (scratch .entry)) (now (answers .entry)) (now (workspace .entry))) ⌝ }
+{
+    let refused = refusal(page, queries, scratch, answers);
+    if let ClosedAnswer::Refused(k) = refused {
+        return ClosedAnswer::Refused(k);
+    }
+    solve_over(page, queries, scratch, workspace);
+    answer(page, queries, scratch, answers);
     ClosedAnswer::Done
 }

@@ -6,7 +6,9 @@ ghost use lib.ListN.{length};
 ghost use Rattle.semantics.specs.Area.{sound, conditionsOf};
 ghost use Rattle.semantics.specs.Grade.{upper};
 ghost use Rattle.closed.specs.Scratch.{Half};
+ghost use Rattle.closed.specs.Waiting.{WaitSet, AllWait, MaybeIndex};
 ghost use Rattle.closed.specs.Round.{HighsBegun, LowsBegun, RoundReady, Rounded, Alternated};
+use crate::settle::settle;
 use value::End;
 
 // Every high end starts anew, with what the negations have over the low ends.
@@ -43,22 +45,41 @@ fn start_lows(a: &[u16], scratch: &mut [u16])
     }
 }
 
-// A round: the high ends anew, then the low ends from where they are; whether a low end changed.
-fn round(a: &[u16], scratch: &mut [u16]) -> bool
-    requires { ⌜ RoundReady (now a) (now scratch) ⌝ }
-    ensures { λ r. ⌜ Rounded (now (a .entry)) (now (scratch .entry)) (now (scratch .exit)) r ⌝ }
+// Every reached condition waits.
+fn wait_all(scratch: &[u16], n: u16, words: &mut [u64])
+    requires { ⌜ (6 * n ≤ length (now scratch)) × (n ≤ 512) × WaitSet n (now words) ⌝ }
+    ensures { λ r. ⌜ AllWait n (now (scratch .entry)) (now (words .exit)) ⌝ }
 {
-    let base = 2 * a[1] as usize;
+    let base = 4 * n as usize;
+    let mut c: u16 = 0;
+    while c < n {
+        if scratch[base + c as usize] != 0 {
+            bits::insert(words, c);
+        }
+        c += 1;
+    }
+}
+
+// A round: the high ends anew, then the low ends from where they are; whether a low end changed.
+fn round(a: &[u16], lines: &[u16], users: &[u16], scratch: &mut [u16], words: &mut [u64]) -> bool
+    requires { ⌜ RoundReady (now a) (now scratch) × MaybeIndex (now a) (now lines) (now users) × WaitSet (conditionsOf (now a)) (now words) ⌝ }
+    ensures { λ r. ⌜ Rounded (now (a .entry)) (now (scratch .entry)) (now (scratch .exit)) r × WaitSet (conditionsOf (now (a .entry))) (now (words .exit)) ⌝ }
+{
+    let n = a[1];
+    let base = 2 * n as usize;
     start_highs(a, scratch);
-    crate::settle::settle(a, scratch, base, End::Upper);
+    wait_all(scratch, n, words);
+    settle(a, lines, users, scratch, words, base, End::Upper);
     start_lows(a, scratch);
-    crate::settle::settle(a, scratch, 0, End::Lower)
+    wait_all(scratch, n, words);
+    settle(a, lines, users, scratch, words, 0, End::Lower)
 }
 
 // Rounds until one changes no low end.
-pub fn alternate(a: &[u16], scratch: &mut [u16])
-    requires { ⌜ RoundReady (now a) (now scratch) ⌝ }
+pub fn alternate(a: &[u16], lines: &[u16], users: &[u16], scratch: &mut [u16])
+    requires { ⌜ RoundReady (now a) (now scratch) × MaybeIndex (now a) (now lines) (now users) ⌝ }
     ensures { λ r. ⌜ Alternated (now (a .entry)) (now (scratch .entry)) (now (scratch .exit)) ⌝ }
 {
-    while round(a, scratch) {}
+    let mut words = [0u64; 8];
+    while round(a, lines, users, scratch, &mut words) {}
 }

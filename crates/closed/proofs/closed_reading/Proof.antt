@@ -1,10 +1,10 @@
--- `closed_reading` refuses, or solves, answers and clears (`accepted`).
-use native.Mathlib.Omega.{arith}
-use borrow.Author.Needs.{needs}
+-- `closed_reading` refuses, or solves, answers and erases (`accepted`).
+use mathlib.Core.Path.{refl}
+use mathlib.Core.Logic.{inl}
 use mathlib.Core.Option.{none}
-use Rattle.page.proofs.Head.{head-of}
+use borrow.Author.Needs.{needs}
 use Rattle.closed.specs.Answer.{FirstCause}
-use Rattle.closed.proofs.Answering.{under-at, refused-by, solve-ready, room, accepted}
+use Rattle.closed.proofs.Answering.{refused-by, solve-ready, still-none, accepted}
 use Rattle.closed.proofs.closed_reading.Statement.{statement}
 use Rattle.closed.proofs.closed_reading.Tie as tie
 
@@ -33,23 +33,20 @@ returns c = refused-by _ _ _ _ (rw (c .before .refused .given .1) at (c .before 
 enum-told : tie.Need-enum-told
 enum-told c = search needs
 
+sub-none : tie.Need-sub-none
+sub-none c = search needs
+
+part-none-start : tie.Need-part-none-start
+part-none-start c = search needs
+
+part-none-end : tie.Need-part-none-end
+part-none-end c = search needs
+
 solve-requires : tie.Need-solve-requires
-solve-requires c κs = solve-ready _ _ _ _ (none-holds (c .before))
+solve-requires c κs = (solve-ready _ _ _ _ (none-holds (c .before .before)), inl refl)
 
-shared-slice-read-n : tie.Need-shared-slice-read-n
-shared-slice-read-n c = let d = c .before .before .before .before .before in omega (arith, head-of (start d .args .page .now) (solve-ready _ _ _ _ (none-holds d) .page-sound))
-
-write-answers-requires : tie.Need-write-answers-requires
-write-answers-requires c κs = let d = c .before .before .before .before .before .before .before in let r = solve-ready _ _ _ _ (none-holds d) in let h = head-of (start d .args .page .now) (r .page-sound) in (under-at _ _ (r .under), omega (arith, r .long, c .before .before .before .before .before .solve .ensures .same-length), h .few, room _ _ _ _ (none-holds d))
-
-cast-erase : tie.Need-cast-erase
-cast-erase c = let d = c .before .before .before .before .before .before .before .before .before .before .before in omega (arith, head-of (start d .args .page .now) (solve-ready _ _ _ _ (none-holds d) .page-sound))
-
-mul-erase : tie.Need-mul-erase
-mul-erase c = let d = c .before .before .before .before .before .before .before .before .before .before .before in omega (arith, head-of (start d .args .page .now) (solve-ready _ _ _ _ (none-holds d) .page-sound))
-
-clear-requires : tie.Need-erase-requires
-clear-requires c κs = let d = c .before .before .before .before .before .before .before .before .before .before .before in omega (arith, solve-ready _ _ _ _ (none-holds d) .long, c .before .before .before .before .before .before .before .before .before .solve .ensures .same-length)
+answer-requires : tie.Need-answer-requires
+answer-requires c κs = still-none _ _ _ _ (none-holds (c .before .before .before .before .before .before .before)) (c .before .before .before .before .solve .ensures)
 
 same-length-3 : tie.Need-same-length-3
 same-length-3 c = search needs
@@ -58,7 +55,7 @@ same-length-4 : tie.Need-same-length-4
 same-length-4 c = search needs
 
 returns-2 : tie.Need-returns-2
-returns-2 c = accepted _ _ _ _ (none-holds (c .before .before .before .before .before .before .before .before .before .before .before .before .before .before)) (c .before .before .before .before .before .before .before .before .before .before .before .before .solve .ensures) (c .before .before .before .before .before .before .write-answers .ensures) (c .before .before .erase .ensures)
+returns-2 c = accepted _ _ _ _ (none-holds (c .before .before .before .before .before .before .before .before .before .before .before .before)) (c .before .before .before .before .before .before .before .before .before .solve .ensures) (c .before .before .before .before .answer .ensures)
 
 pub closed-reading-spec : {M : Type 1} → statement M
 closed-reading-spec =
@@ -70,12 +67,11 @@ closed-reading-spec =
     same-length-2
     returns
     enum-told
+    sub-none
+    part-none-start
+    part-none-end
     solve-requires
-    shared-slice-read-n
-    write-answers-requires
-    cast-erase
-    mul-erase
-    clear-requires
+    answer-requires
     same-length-3
     same-length-4
     returns-2)

@@ -10,22 +10,22 @@ closure-of-requires : tie.Need-closure-of-requires
 closure-of-requires c κs = search needs
 
 shared-slice-read-begin : tie.Need-shared-slice-read-begin
-shared-slice-read-begin c = let s = c .before .before .before .before .before .before in omega (arith, head-of (s .args .a .now) (s .pre .page-sound))
+shared-slice-read-begin c = let s = c .before .before .before .before .before .before .before .before in omega (arith, head-of (s .args .a .now) (s .pre .0 .page-sound))
 
 slice-aggregate-begin : tie.Need-slice-aggregate-begin
 slice-aggregate-begin c = search needs
 
 begin-requires : tie.Need-begin-requires
-begin-requires c κs = let s = c .before .before .before .before .before .before .before in (s .pre .long, head-of (s .args .a .now) (s .pre .page-sound) .few, c .before .before .before .closure-of .ensures .size)
+begin-requires c κs = let s = c .before .before .before .before .before .before .before .before .before in (s .pre .0 .long, head-of (s .args .a .now) (s .pre .0 .page-sound) .few, c .before .before .before .closure-of .ensures .size)
 
 alternate-requires : tie.Need-alternate-requires
-alternate-requires c κs = let s = c .before .before .before .before .before .before .before .before .before .before .before in rounds-begin _ _ _ (s .pre) (c .before .before .before .before .before .before .before .closure-of .ensures) (c .before .before .before .begin .ensures)
+alternate-requires c κs = let s = c .before .before .before .before .before .before .before .before .before .before .before .before .before in (rounds-begin _ _ _ (s .pre .0) (c .before .before .before .before .before .before .before .closure-of .ensures) (c .before .before .before .begin .ensures), s .pre .1)
 
 same-length : tie.Need-same-length
 same-length c = search needs
 
 returns : tie.Need-returns
-returns c = let s = c .before .before .before .before .before .before .before .before .before .before .before .before .before .before in solved _ _ _ (s .pre) (c .before .before .before .before .before .before .before .before .before .before .closure-of .ensures) (c .before .before .before .before .before .before .begin .ensures) (c .before .before .alternate .ensures)
+returns c = let s = c .before .before .before .before .before .before .before .before .before .before .before .before .before .before .before .before in solved _ _ _ (s .pre .0) (c .before .before .before .before .before .before .before .before .before .before .closure-of .ensures) (c .before .before .before .before .before .before .begin .ensures) (c .before .before .alternate .ensures)
 
 pub solve-spec : {M : Type 1} → statement M
 solve-spec =

@@ -1,68 +1,80 @@
--- `settle` looks at all lines until nothing rises (`Settling`).
-use mathlib.Core.Path.{_≡_, ap, _∙_}
+-- `settle` takes the index, if there is one.
 use native.Mathlib.Omega.{arith}
 use borrow.Author.Needs.{needs}
-use lib.ListN.{length}
 use Rattle.page.proofs.Head.{head-of}
-use Rattle.value.specs.Table.{side}
-use Rattle.closed.specs.Scratch.{roomAt}
-use Rattle.closed.proofs.Settling.{Settling, settling-first, settling-next, settling-last, all-lines, swept}
+use Rattle.closed.proofs.Waking.{indexed, line-groups}
 use Rattle.closed.proofs.settle.settle.Statement.{statement}
 use Rattle.closed.proofs.settle.settle.Tie as tie
 
-abbrev Inv-loop : tie.InvT-loop
-Inv-loop a scratch₀ base end none count changed₀ scratch changed = Settling (side end) a scratch₀ scratch changed
+settle-sweeping-requires : tie.Need-settle-sweeping-requires
+settle-sweeping-requires c κs = search needs
 
-abbrev μ-loop : tie.MeasureT-loop
-μ-loop a scratch₀ base end none count changed₀ scratch changed = roomAt (side end) a scratch
+same-length : tie.Need-same-length
+same-length c = search needs
 
-sub-none : tie.Need-sub-none Inv-loop μ-loop
-sub-none c = search needs
+returns : tie.Need-returns
+returns c = search needs
 
-part-none-start : tie.Need-part-none-start Inv-loop μ-loop
-part-none-start c = search needs
+shared-slice-read-k : tie.Need-shared-slice-read-k
+shared-slice-read-k c = let s = c .before .before .before .before .before .before .before in omega (arith, head-of (s .args .a .now) (s .pre .0 .page-sound))
 
-part-none-end : tie.Need-part-none-end Inv-loop μ-loop
-part-none-end c = search needs
+cast-k : tie.Need-cast-k
+cast-k c = search needs
 
-shared-slice-read-count : tie.Need-shared-slice-read-count Inv-loop μ-loop
-shared-slice-read-count c = let s = c .before .before .before .before in omega (arith, head-of (s .args .a .now) (s .pre .0 .page-sound))
+add-k : tie.Need-add-k
+add-k c = search needs
 
-cast-count : tie.Need-cast-count Inv-loop μ-loop
-cast-count c = let s = c .before .before .before .before in omega (arith, head-of (s .args .a .now) (s .pre .0 .page-sound))
+sub-first : tie.Need-sub-first
+sub-first c = search needs
 
-loop-holds : tie.Need-loop-holds Inv-loop μ-loop
-loop-holds c = settling-first _ _ (c .before .before .before .before .pre .0)
+part-first-start : tie.Need-part-first-start
+part-first-start c = search needs
 
-look-requires : tie.Need-look-requires Inv-loop μ-loop
-look-requires c κs = let s = c .before .before .before .before .before .before in (c .before .loop .inv .half, s .pre .1, all-lines _)
+part-first-end : tie.Need-part-first-end
+part-first-end c = indexed (c .before .before .before .before .before .before .before .pre .2) (c .before .if1 .left) .lines-in .long
 
-loop-less : tie.Need-loop-less Inv-loop μ-loop
-loop-less c = c .before .before .before .look .ensures .moves (c .if1 .taken)
+mul-places : tie.Need-mul-places
+mul-places c = search needs
 
-loop-again : tie.Need-loop-again Inv-loop μ-loop
-loop-again c = settling-next _ _ (c .before .before .before .before .before .loop .inv) (rw (c .if1 .taken) at (c .before .before .before .look .ensures))
+sub-places : tie.Need-sub-places
+sub-places c = indexed (c .before .before .before .before .before .before .before .before .pre .2) (c .before .before .if1 .left) .lines-in .long
 
-same-length : tie.Need-same-length Inv-loop μ-loop
-same-length c = c .before .before .before .look .ensures .steady .same-length ∙ c .before .before .before .before .before .loop .inv .steady .same-length
+part-places-start : tie.Need-part-places-start
+part-places-start c = indexed (c .before .before .before .before .before .before .before .before .pre .2) (c .before .before .if1 .left) .lines-in .long
 
-returns : tie.Need-returns Inv-loop μ-loop
-returns c = let w = swept _ _ (rw (c .if1 .left) at (c .before .before .before .look .ensures)) in rw (w .0) (settling-last _ _ (c .before .before .before .before .before .loop .inv) (w .1))
+part-places-end : tie.Need-part-places-end
+part-places-end c = search needs
+
+drain-requires : tie.Need-drain-requires
+drain-requires c κs = let s = c .before .before .before .before .before .before .before .before .before .before .before in let i = indexed (c .before .before .before .before .before .before .before .before .before .before .before .pre .2) (c .before .before .before .before .before .if1 .left) in (s .pre .0, s .pre .1, line-groups _ (s .pre .0 .page-sound) _ (i .lines-in), i .users-in, i .waiting)
+
+same-length-2 : tie.Need-same-length-2
+same-length-2 c = search needs
+
+same-length-3 : tie.Need-same-length-3
+same-length-3 c = search needs
+
+returns-2 : tie.Need-returns-2
+returns-2 c = search needs
 
 pub settle-spec : {M : Type 1} → statement M
 settle-spec =
     tie.close
     (tie.spec
-    Inv-loop
-    μ-loop
-    sub-none
-    part-none-start
-    part-none-end
-    shared-slice-read-count
-    cast-count
-    loop-holds
-    look-requires
-    loop-less
-    loop-again
+    settle-sweeping-requires
     same-length
-    returns)
+    returns
+    shared-slice-read-k
+    cast-k
+    add-k
+    sub-first
+    part-first-start
+    part-first-end
+    mul-places
+    sub-places
+    part-places-start
+    part-places-end
+    drain-requires
+    same-length-2
+    same-length-3
+    returns-2)

@@ -1,0 +1,199 @@
+-- The set of those that wait: heads that join it, and the groups of an index. Assumes nothing.
+use mathlib.Core.Path.{_≡_, refl, sym, _∙_, ap, subst}
+use mathlib.Core.Logic.{_⊎_, inl, inr, ⊎-elim}
+use mathlib.Core.Bool.{Bool, true, false, _||_, or-true, true≢false}
+use mathlib.Core.List.{List, [], _∷_}
+use Prim.Native.Nat.{ℕ, zero, suc, _+_, _*_, _-_, _/_, _≤_, _<_}
+use native.Mathlib.Decide.{ℕ-discrete}
+use native.Mathlib.Omega.{arith}
+use lib.Dec.{eqb, leb}
+use lib.ListN.{length, getD, take, drop, replicate}
+use borrow.Author.Tests.{eq-eqb, eqb-true}
+use Rattle.semantics.specs.Area.{sound, pageOf, conditionsOf}
+use Rattle.semantics.specs.Grade.{End}
+use Rattle.semantics.specs.Page.{Line, fact, rule, query, AllInRange}
+use Rattle.semantics.proofs.Soundness.{sound-proper, both-true}
+use Rattle.semantics.proofs.Table.{or-cases}
+use Rattle.page.proofs.Head.{head-of}
+use Rattle.bits.specs.Words.{has, Inserted}
+use Rattle.bits.proofs.Sets.{word-none}
+use Rattle.index.specs.Groups.{Groups, LinesByHead, HeadsByLiteral}
+use Rattle.index.specs.Parts.{Lines, Users}
+use Rattle.index.specs.Readers.{among, linesRead}
+use Rattle.index.proofs.Parts.{has-lines, has-users}
+use Rattle.closed.specs.Scratch.{reachedAt}
+use Rattle.closed.specs.Waiting.{WaitSet, AllWait, HeadsWoken, Woken, Indexed, MaybeIndexed, MaybeIndex}
+
+-- groups one behind the other
+module _ {m : ℕ} {Has : ℕ → ℕ → Type 0} {start items : List ℕ} (g : Groups m Has start items) where
+  group-order : (k t : ℕ) → t + k ≤ m → getD start t 0 ≤ getD start (t + k) 0
+  group-order zero t l = subst (λ (x : ℕ). getD start t 0 ≤ getD start x 0) {x = t} (omega arith) (omega arith)
+  group-order (suc k) t l =
+      let h : getD start (t + 1) 0 ≤ getD start (t + suc k) 0 = subst (λ (x : ℕ). getD start (t + 1) 0 ≤ getD start x 0) (omega arith) (group-order k (t + 1) (omega arith)) in
+      omega (arith, g .ordered t (omega arith))
+
+  pub group-within : (t : ℕ) → t ≤ m → getD start t 0 ≤ length items
+  group-within t l =
+      let h : getD start t 0 ≤ getD start m 0 = subst (λ (x : ℕ). getD start t 0 ≤ getD start x 0) (omega arith) (group-order (m - t) t (omega arith)) in
+      omega (arith, g .within)
+
+-- heads join the set one after the other
+module _ (heads : List ℕ) (from to : ℕ) (words₀ : List ℕ) where
+  pub record Waking (words : List ℕ) (i : ℕ) : Type 0 where
+    pub begun : from ≤ i
+    pub within : i ≤ to
+    pub inside : to ≤ length heads
+    pub small : (j : ℕ) → from ≤ j → j < to → getD heads j 0 < 512
+    pub woken : HeadsWoken heads from i words₀ words
+
+  pub waking-first : length words₀ ≡ 8 → from ≤ to → to ≤ length heads → ((j : ℕ) → from ≤ j → j < to → getD heads j 0 < 512) → Waking words₀ from
+  waking-first h o l q = record { begun = omega arith; within = o; inside = l; small = q; woken = record { size = h; kept = λ c l r. r; woken = λ j l u. absurd (omega arith); only = λ c l r. inl r } }
+
+  pub waking-next : {words words′ : List ℕ} {i : ℕ} → Waking words i → i < to → Inserted (getD heads i 0) words words′ → Waking words′ (i + 1)
+  waking-next {words} {words′} {i} v more w =
+      record {
+        begun = omega (arith, v .begun);
+        within = omega arith;
+        inside = v .inside;
+        small = v .small;
+        woken = record {
+          size = w .0;
+          kept = λ c l r. w .1 c l ∙ rw (v .woken .kept c l r);
+          woken = λ j l u. elim (ℕ-discrete j i) [
+            | yes z ↦ subst (λ (k : ℕ). has words′ (getD heads k 0) ≡ true) (sym z) (w .1 (getD heads i 0) (v .small i (v .begun) more) ∙ rw (eq-eqb (getD heads i 0) (getD heads i 0) refl, or-true))
+            | no z ↦ old j l (omega arith)
+          ];
+          only = λ c l r. elim (or-cases (has words c) (eqb c (getD heads i 0)) (sym (w .1 c l) ∙ r)) [
+            | inl q ↦ elim (v .woken .only c l q) [ inl y ↦ inl y | inr y ↦ inr (y .0, y .1, omega (arith, y .2), y .3) ]
+            | inr q ↦ inr (i, v .begun, omega arith, sym (eqb-true c (getD heads i 0) q))
+          ];
+        };
+      }
+    where
+      old : (j : ℕ) → from ≤ j → j < i → has words′ (getD heads j 0) ≡ true
+      old j l u = w .1 (getD heads j 0) (v .small j l (omega arith)) ∙ rw (v .woken .woken j l u)
+
+  pub waking-last : {words : List ℕ} {i : ℕ} → Waking words i → to ≤ i → HeadsWoken heads from to words₀ words
+  waking-last {words} {i} v l = let q : i ≡ to = omega (arith, v .within) in subst (λ (x : ℕ). HeadsWoken heads from x words₀ words) q (v .woken)
+
+-- a head that has a rule is a condition
+read-below : (top n : ℕ) (ls : List Line) → AllInRange top n ls → (code h : ℕ) → linesRead code ls h ≡ true → h < n
+unfolding linesRead
+read-below top n [] w code h e = absurd (true≢false (sym e))
+read-below top n (fact d l u ∷ ls) w code h e = read-below top n ls (w .1) code h e
+read-below top n (rule d v op lits ∷ ls) w code h e =
+    ⊎-elim (λ q. omega (arith, eqb-true d h (both-true (eqb d h) (among code lits) q .0), w .0 .0)) (λ q. read-below top n ls (w .1) code h q) (or-cases _ (linesRead code ls h) e)
+read-below top n (query r d ∷ ls) w code h e = read-below top n ls (w .1) code h e
+
+-- the parts of an index as the code takes them
+module _ (a : List ℕ) (ok : sound a ≡ true) where
+  abbrev n : ℕ
+  n = conditionsOf a
+
+  reads-below : (code h : ℕ) → linesRead code (pageOf a .lines) h ≡ true → h < n
+  unfolding pageOf
+  reads-below code h q = read-below (pageOf a .top) (pageOf a .conditions) (pageOf a .lines) (sound-proper a ok .ranged) code h q
+
+  module _ (users : List ℕ) (u : Users a users) where
+    abbrev pub starts : List ℕ
+    starts = take (2 * n + 1 - 0) users
+
+    abbrev pub heads : List ℕ
+    heads = take (length users - (2 * n + 1)) (drop (2 * n + 1) users)
+
+    pub user-groups : HeadsByLiteral a starts heads
+    user-groups = has-users a users (inr u) (λ z. omega (arith, u .long)) .1
+
+    module _ (code : ℕ) (l : code < 2 * n) where
+      pub code-ordered : getD starts code 0 ≤ getD starts (code + 1) 0
+      code-ordered = user-groups .ordered code l
+
+      pub code-within : getD starts (code + 1) 0 ≤ length heads
+      code-within = group-within user-groups (code + 1) (omega arith)
+
+      pub heads-small : (j : ℕ) → getD starts code 0 ≤ j → j < getD starts (code + 1) 0 → getD heads j 0 < 512
+      heads-small j o h = omega (arith, reads-below code (getD heads j 0) (user-groups .only code j l o h), head-of a ok .few)
+
+      pub woken-by : {words words′ : List ℕ} → WaitSet n words → HeadsWoken heads (getD starts code 0) (getD starts (code + 1) 0) words words′ → Woken a code words words′
+      woken-by {words} {words′} s w =
+          record {
+            set = record {
+              size = w .size;
+              inside = λ c m r. ⊎-elim (λ q. s .inside c m q)
+                  (λ q. rw (← q .3) (reads-below code (getD heads (q .0) 0) (user-groups .only code (q .0) l (q .1) (q .2)))) (w .only c m r);
+            };
+            kept = w .kept;
+            woken = λ h r. let q = user-groups .every code h l r in subst (λ (x : ℕ). has words′ x ≡ true) (q .3) (w .woken (q .0) (q .1) (q .2));
+          }
+
+  module _ (lines : List ℕ) (v : Lines a lines) where
+    abbrev pub firsts : List ℕ
+    firsts = take (n + 1 - 0) lines
+
+    abbrev pub places : List ℕ
+    places = take (length lines - (n + 1)) (drop (n + 1) lines)
+
+    pub line-groups : LinesByHead a firsts places
+    line-groups = has-lines a lines (inr v) (λ z. omega (arith, v .long)) .1
+
+-- the reached conditions before c wait
+module _ (n : ℕ) (s : List ℕ) where
+  pub record WaitingAll (words : List ℕ) (c : ℕ) : Type 0 where
+    pub few : n ≤ 512
+    pub within : c ≤ n
+    pub set : WaitSet n words
+    pub waits : (d : ℕ) → d < c → reachedAt n s d ≡ true → has words d ≡ true
+
+  pub waiting-first : {words : List ℕ} → n ≤ 512 → WaitSet n words → WaitingAll words 0
+  waiting-first h w = record { few = h; within = omega arith; set = w; waits = λ d l r. absurd (omega arith) }
+
+  module _ {words : List ℕ} {c : ℕ} (v : WaitingAll words c) (l : c < n) where
+    pub waiting-joins : {words′ : List ℕ} → Inserted c words words′ → WaitingAll words′ (c + 1)
+    waiting-joins {words′} w =
+        record {
+          few = v .few;
+          within = omega arith;
+          set = record {
+            size = w .0;
+            inside = λ d m r. ⊎-elim (λ q. v .set .inside d m q) (λ q. omega (arith, eqb-true d c q)) (or-cases (has words d) (eqb d c) (sym (w .1 d m) ∙ r));
+          };
+          waits = λ d m r. elim (ℕ-discrete d c) [
+            | yes z ↦ w .1 d (omega (arith, v .few)) ∙ rw (eq-eqb d c z, or-true)
+            | no z ↦ w .1 d (omega (arith, v .few)) ∙ rw (v .waits d (omega arith) r)
+          ];
+        }
+
+    pub waiting-passed : {words′ : List ℕ} → getD s (4 * n + c) 0 ≡ 0 → words′ ≡ words → WaitingAll words′ (c + 1)
+    waiting-passed q e =
+        rw e (record {
+          few = v .few;
+          within = omega arith;
+          set = v .set;
+          waits = λ d m r. elim (ℕ-discrete d c) [
+            | yes z ↦ absurd (true≢false (sym r ∙ ap (λ (k : ℕ). leb 1 (getD s (4 * n + k) 0)) z ∙ ap (leb 1) q))
+            | no z ↦ v .waits d (omega arith) r
+          ];
+        })
+
+  pub waiting-last : {words : List ℕ} {c : ℕ} → WaitingAll words c → n ≤ c → AllWait n s words
+  waiting-last v l = record { set = v .set; waits = λ d m r. v .waits d (omega arith) r }
+
+-- a set of nobody
+pub nobody-waits : (n : ℕ) → WaitSet n (0 ∷ 0 ∷ 0 ∷ 0 ∷ 0 ∷ 0 ∷ 0 ∷ 0 ∷ [])
+nobody-waits n = record { size = refl; inside = λ c l r. absurd (true≢false (sym r ∙ word-none (0 ∷ 0 ∷ 0 ∷ 0 ∷ 0 ∷ 0 ∷ 0 ∷ 0 ∷ []) c (zero-at 8 (c / 64)))) }
+  where
+    zero-at : (m i : ℕ) → _≡_ {A = ℕ} (getD (replicate m 0) i 0) 0
+    zero-at zero i = refl
+    zero-at (suc m) zero = refl
+    zero-at (suc m) (suc i) = zero-at m i
+
+-- all who are reached wait: an index with them
+pub all-indexed : (e : End) (a lines users s words : List ℕ) → MaybeIndex a lines users → AllWait (conditionsOf a) s words → MaybeIndexed e a lines users s words
+all-indexed e a lines users s words (inl z) w = inl z
+all-indexed e a lines users s words (inr i) w =
+    inr (record { lines-in = i .0; users-in = i .1; waiting = record { set = w .set; rests = λ c l r q. absurd (true≢false (sym (w .waits c l r) ∙ q)) } })
+
+-- an index that is there
+pub indexed : {e : End} {a lines users s words : List ℕ} → MaybeIndexed e a lines users s words → (length users ≡ 0 → ⊥) → Indexed e a lines users s words
+indexed (inl z) h = absurd (h z)
+indexed (inr i) h = i
