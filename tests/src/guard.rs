@@ -28,7 +28,7 @@ const GUARD_BYTES: usize = 128;
 const SMALL: usize = 8 * MEMORY_PAGE;
 const LARGE: usize = 256 * MEMORY_PAGE;
 /// The greatest count of slices lent to one call.
-pub const SLICES: usize = 4;
+pub const SLICES: usize = 5;
 
 fn guard_byte(position: usize) -> u8 {
     (position as u8).wrapping_mul(37).wrapping_add(0x5a)

@@ -1,7 +1,7 @@
 //! Outside tests of the rule-page engine, through its C interface.
 //!
 //! The reference solver is `page`, `area`, `body`, `reach`, `plain`, `book`, `closed` and `enumerate`; each
-//! names the section of document 01 that it implements. The callee is reached through `ffi`, `guard` and
+//! names the section of document 01 that it implements. `workspace` says what an indexed form leaves there. The callee is reached through `ffi`, `guard` and
 //! `engine`. `trial` compares the two, `gen` and `spoil` make the inputs, `cases` are the tests.
 //!
 //! - `cargo run --release` runs every case; add `only TEXT` for the cases whose name contains the text,
@@ -33,3 +33,4 @@ pub mod spoil;
 #[cfg(feature = "selfcheck")]
 pub mod standin;
 pub mod trial;
+pub mod workspace;

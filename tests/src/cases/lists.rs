@@ -153,7 +153,8 @@ impl Live {
         let input = self.input("drive", allowance, &before);
         let got = got.map_err(|reason| format!("{reason}; {}", input.dump()))?;
         same(&input, &got, &Ok(wanted))?;
-        self.check(&input)
+        self.check(&input)?;
+        trial.drive_indexed(&self.area, &before, allowance, Ok(wanted), &self.run)
     }
 
     fn value(&mut self, trial: &mut Trial, cond: u32) -> Check {
