@@ -47,15 +47,15 @@ extern "C" {
  * Stack in bytes that a call takes, its return address and the arguments on the stack counted in. Measured on x86-64
  * with the largest page; tests/ measures it again and fails if a call takes more.
  */
-#define SIMJORAD_STACK_READ 448
+#define SIMJORAD_STACK_READ 256
 #define SIMJORAD_STACK_SHOW_LINE 64
-#define SIMJORAD_STACK_OPEN 2048
-#define SIMJORAD_STACK_EVALUATE 448
-#define SIMJORAD_STACK_DRIVE 448
-#define SIMJORAD_STACK_DRIVE_INDEXED 3072
-#define SIMJORAD_STACK_VALUE 192
-#define SIMJORAD_STACK_CLOSED 448
-#define SIMJORAD_STACK_CLOSED_INDEXED 3072
+#define SIMJORAD_STACK_OPEN 3840
+#define SIMJORAD_STACK_EVALUATE 1344
+#define SIMJORAD_STACK_DRIVE 1472
+#define SIMJORAD_STACK_DRIVE_INDEXED 1536
+#define SIMJORAD_STACK_VALUE 128
+#define SIMJORAD_STACK_CLOSED 2816
+#define SIMJORAD_STACK_CLOSED_INDEXED 2816
 
 /* Refusals, each with its cause. */
 #define SIMJORAD_TEXT_TOO_LONG 1      /* more than 65,535 bytes */

@@ -43,13 +43,14 @@ pub enum Side {
     Start,
 }
 
-struct Mapping {
+/// Memory between two inaccessible pages.
+pub struct Mapping {
     whole: *mut u8,
-    usable: usize,
+    pub usable: usize,
 }
 
 impl Mapping {
-    fn new(usable: usize) -> Mapping {
+    pub fn new(usable: usize) -> Mapping {
         let length = usable + 2 * MEMORY_PAGE;
         // SAFETY: a fresh private mapping, whose middle part is then opened.
         unsafe {
@@ -72,7 +73,8 @@ impl Mapping {
         }
     }
 
-    fn first(&self) -> *mut u8 {
+    /// The lowest usable byte.
+    pub fn first(&self) -> *mut u8 {
         // SAFETY: the mapping is longer than one memory page.
         unsafe { self.whole.add(MEMORY_PAGE) }
     }

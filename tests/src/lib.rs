@@ -6,6 +6,7 @@
 //!
 //! - `cargo run --release` runs every case; add `only TEXT` for the cases whose name contains the text,
 //!   `quick` for a tenth of the items.
+//! - `cargo run --release -- stack` measures the stack of each function and prints it beside the header's figure.
 //! - `cargo run --release -- attach PATH` tests the program `attach` at that path.
 //! - With `--features selfcheck` the reference solver stands in for the library; `mutants` then plants one
 //!   fault after another and tells which cases notice.
@@ -30,6 +31,8 @@ pub mod rng;
 pub mod runner;
 pub mod slot;
 pub mod spoil;
+#[cfg(target_arch = "x86_64")]
+pub mod stack;
 #[cfg(feature = "selfcheck")]
 pub mod standin;
 pub mod trial;

@@ -7,6 +7,8 @@ mod lists;
 mod reader;
 mod refusals;
 mod runs;
+#[cfg(target_arch = "x86_64")]
+pub mod stack;
 
 use crate::runner::Case;
 
@@ -18,5 +20,7 @@ pub fn all() -> Vec<Case> {
     cases.extend(runs::cases());
     cases.extend(closed::cases());
     cases.extend(lists::cases());
+    #[cfg(target_arch = "x86_64")]
+    cases.extend(stack::cases());
     cases
 }
