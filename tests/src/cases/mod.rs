@@ -6,6 +6,7 @@ mod figures;
 mod lists;
 mod reader;
 mod refusals;
+mod rows;
 mod runs;
 #[cfg(target_arch = "x86_64")]
 pub mod stack;
@@ -14,6 +15,7 @@ use crate::runner::Case;
 
 pub fn all() -> Vec<Case> {
     let mut cases = figures::cases();
+    cases.extend(rows::cases());
     cases.extend(reader::cases());
     cases.extend(areas::cases());
     cases.extend(refusals::cases());
