@@ -15,7 +15,16 @@ ghost use Rattle.run.specs.Answers.{Answered, evaluateAnswerOf, valueAns
 ghost use Rattle.run.specs.Beside.{Beside, Changed, EvaluatedBeside};
 
 // The condition c holds [low; high] and waits no longer, and its dependants wait. The table and the set follow.
-fn change(a: &[u16], users: &[u16], run: &mut [u16], words: &mut [u64], values: &mut [u8], c: u16, low: u16, high: u16)
+fn change(
+    a: &[u16],
+    users: &[u16],
+    run: &mut [u16],
+    words: &mut [u64],
+    values: &mut [u8],
+    c: u16,
+    low: u16,
+    high: u16,
+)
     requires { ⌜ (sound (now a) ≡ true) × MaybeUsers (now a) (now users) × (c < conditionsOf (now a)) × (low ≤ topOf (now a)) × (high ≤ topOf (now a)) × (3 * conditionsOf (now a) ≤ length (now run)) × (2 * conditionsOf (now a) ≤ length (now values)) × (length (now words) ≡ 8) ⌝ }
     ensures { λ _. ⌜ Changed (now (a .entry)) c low high (now (run .entry)) (now (words .entry)) (now (values .entry)) (now (run .exit)) (now (words .exit)) (now (values .exit)) ⌝ }
 {
@@ -26,7 +35,15 @@ fn change(a: &[u16], users: &[u16], run: &mut [u16], words: &mut [u64], values: 
 }
 
 // An evaluation of c, which waits. With an index `lines` and `users` are its parts; without one both are empty and the page is scanned.
-fn step(a: &[u16], lines: &[u16], users: &[u16], run: &mut [u16], words: &mut [u64], values: &mut [u8], c: u16) -> bool
+fn step(
+    a: &[u16],
+    lines: &[u16],
+    users: &[u16],
+    run: &mut [u16],
+    words: &mut [u64],
+    values: &mut [u8],
+    c: u16,
+) -> bool
     requires { ⌜ (sound (now a) ≡ true) × (runSound (pageOf (now a)) (now run) ≡ true) × (c < conditionsOf (now a)) × (markAt (now run) c ≡ 2) × MaybeLines (now a) (now lines) × MaybeUsers (now a) (now users) × Beside (now a) (now run) (now words) (now values) ⌝ }
     ensures { λ r. ⌜ EvaluatedBeside (now (a .entry)) c (now (run .entry)) (now (words .entry)) (now (run .exit)) (now (words .exit)) (now (values .exit)) r ⌝ }
 {
@@ -125,7 +142,15 @@ pub enum DriveAnswer {
 }
 
 // The evaluations, lowest waiting condition first.
-fn drive_steps(a: &[u16], lines: &[u16], users: &[u16], run: &mut [u16], words: &mut [u64], values: &mut [u8], allowance: u32) -> DriveAnswer
+fn drive_steps(
+    a: &[u16],
+    lines: &[u16],
+    users: &[u16],
+    run: &mut [u16],
+    words: &mut [u64],
+    values: &mut [u8],
+    allowance: u32,
+) -> DriveAnswer
     requires { ⌜ (sound (now a) ≡ true) × (runSound (pageOf (now a)) (now run) ≡ true) × MaybeLines (now a) (now lines) × MaybeUsers (now a) (now users) × Beside (now a) (now run) (now words) (now values) × WordsMatch (conditionsOf (now a)) (now run) (now words) ⌝ }
     ensures { λ r. ⌜ Answered (driveOf (now (a .entry)) (now (run .entry)) allowance) (driveAnswerOf r) (now (run .exit)) ⌝ }
 {
@@ -144,7 +169,13 @@ fn drive_steps(a: &[u16], lines: &[u16], users: &[u16], run: &mut [u16], words: 
 }
 
 // A drive that nothing refuses: the table and the set are made of the run area, then the evaluations are taken.
-fn drive_over(a: &[u16], lines: &[u16], users: &[u16], run: &mut [u16], allowance: u32) -> DriveAnswer
+fn drive_over(
+    a: &[u16],
+    lines: &[u16],
+    users: &[u16],
+    run: &mut [u16],
+    allowance: u32,
+) -> DriveAnswer
     requires { ⌜ (sound (now a) ≡ true) × (runSound (pageOf (now a)) (now run) ≡ true) × MaybeLines (now a) (now lines) × MaybeUsers (now a) (now users) ⌝ }
     ensures { λ r. ⌜ Answered (driveOf (now (a .entry)) (now (run .entry)) allowance) (driveAnswerOf r) (now (run .exit)) ⌝ }
 {
@@ -182,7 +213,12 @@ pub fn drive(page: &[u16], run: &mut [u16], allowance: u32) -> DriveAnswer
 }
 
 // Drive, with an index in a workspace that the caller lends. A workspace that is too short is not touched, and the page is scanned.
-pub fn drive_indexed(page: &[u16], run: &mut [u16], workspace: &mut [u16], allowance: u32) -> DriveAnswer
+pub fn drive_indexed(
+    page: &[u16],
+    run: &mut [u16],
+    workspace: &mut [u16],
+    allowance: u32,
+) -> DriveAnswer
     ensures answer { λ r. ⌜ Answered (driveOf (now (page .entry)) (now (run .entry)) allowance) (driveAnswerOf r) (now (run .exit)) ⌝ }
     ensures workspace { λ _. ⌜ now (workspace .exit) ≡ driveWorkspace (now (page .entry)) (now (run .entry)) (now (workspace .entry)) ⌝ }
 {
