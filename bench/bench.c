@@ -85,6 +85,14 @@ static void load(const char *name)
     }
 }
 
+/* Numbers of the workspace that an indexed form uses. */
+static size_t index_length(void)
+{
+    size_t lines = given.page[2], literals = given.page[3] - 4 - 4 * lines;
+
+    return SIMJORAD_WORKSPACE_LENGTH(given.count, lines, literals);
+}
+
 /* Lays out what the call will write to. */
 static void prepare(int op)
 {
@@ -97,6 +105,10 @@ static void prepare(int op)
     result.length = op == READ ? SIMJORAD_PAGE_MAX : op == CLOSED ? 6 * given.count : op == SHOW ? 0 : 3 * given.count;
     for (i = 0; i < result.length + AFTER; i++)
         result.area[i] = FILL;
+#ifdef WITH_ENGINE
+    for (i = 0; i < SIMJORAD_WORKSPACE_MAX; i++)
+        workspace[i] = FILL;
+#endif
     if (op == SOUND || op == EVALUATE || op == DRIVE || op == DRIVE1 || op == VALUE)
         memcpy(result.area, given.run, result.length * sizeof *result.area);
 }
@@ -203,6 +215,22 @@ static int64_t median_ns(const struct impl *impl, int op, unsigned repeat)
     return median > 0 ? median : 0;
 }
 
+/* After an indexed form the used part of the workspace is zero and the rest as it was; any other call leaves it. */
+static int workspace_differs(const struct impl *impl, int op)
+{
+    int differs = 0;
+#ifdef WITH_ENGINE
+    int used = strcmp(impl->name, "engine-indexed") == 0 && (op == DRIVE || op == DRIVE1 || op == CLOSED);
+    size_t i, zeros = used ? index_length() : 0;
+
+    for (i = 0; i < SIMJORAD_WORKSPACE_MAX; i++)
+        differs |= workspace[i] != (i < zeros ? 0 : FILL);
+#else
+    (void)impl, (void)op, (void)index_length;
+#endif
+    return differs;
+}
+
 static int differ(const char *input, int op, const struct impl *impl)
 {
     const char *what = NULL;
@@ -220,6 +248,8 @@ static int differ(const char *input, int op, const struct impl *impl)
     for (i = 0; !what && i < sizeof result.answers / sizeof *result.answers; i++)
         if (result.answers[i] != reference.answers[i])
             what = "answers", got = result.answers[i], want = reference.answers[i];
+    if (!what && workspace_differs(impl, op))
+        what = "workspace";
     if (what)
         printf("DIFFERS: %s %s %s: %s %lld, scan has %lld (the first difference)\n", impl->name, input, op_names[op],
                what, got, want);

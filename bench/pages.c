@@ -55,7 +55,7 @@ static void rule(struct sheet *s, unsigned head, unsigned weight, char op, unsig
 /* Rules of 1 to 4 literals with random heads, facts, and queries spread over the conditions; half of the queries closed. */
 static void mixed(struct sheet *s, unsigned top, unsigned count, unsigned facts, unsigned rules, unsigned queries)
 {
-    unsigned i, low, c;
+    unsigned i, low, c, literals;
 
     put(s, "G,%u,%u\n", top, count);
     for (i = 0; i < facts; i++) {
@@ -66,7 +66,8 @@ static void mixed(struct sheet *s, unsigned top, unsigned count, unsigned facts,
     for (i = 0; i < rules; i++) {
         c = draw(s, count);
         low = top - draw(s, top / 5);
-        rule(s, c, low, "MXLBP"[draw(s, 5)], 1 + draw(s, 4), count);
+        literals = 1 + draw(s, 4);
+        rule(s, c, low, "MXLBP"[draw(s, 5)], literals, count);
     }
     for (i = 0; i < queries; i++)
         put(s, "Q,%c,%u\n", "KW"[i % 2], i * count / queries);

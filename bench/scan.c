@@ -4,9 +4,9 @@
 #include "baseline.h"
 #include "common.h"
 
-/* ---- Reading ---- */
+/* ---- Reading: one pass checks the text, a second one writes the area ---- */
 
-/* Reads a number; returns the place after it, or NULL. Byte 10 ends the text, so no bound is needed. */
+/* Checks a number and reads it; returns the place after it, or NULL. Byte 10 ends the text, so no bound is needed. */
 static inline const uint8_t *number(const uint8_t *s, unsigned *value)
 {
     unsigned v = *s - (unsigned)'0', d;
@@ -32,128 +32,178 @@ static inline const uint8_t *field(const uint8_t *s, unsigned *value)
     return *s == ',' ? number(s + 1, value) : NULL;
 }
 
-/* A comma and a literal; the value is 2 * condition, plus 1 if negated. */
-static inline const uint8_t *literal(const uint8_t *s, unsigned *value)
-{
-    unsigned negated;
+static const uint8_t kinds[26] = { ['B' - 'A'] = RULE_B, ['L' - 'A'] = RULE_L, ['M' - 'A'] = RULE_M, ['P' - 'A'] = RULE_P,
+                                   ['X' - 'A'] = RULE_X };
 
-    if (*s++ != ',')
-        return NULL;
-    negated = *s == '!';
-    if ((s = number(s + negated, value)) != NULL)
-        *value = 2 * *value + negated;
+/* The kind of an op letter, or 0. */
+static inline unsigned kind_of(uint8_t letter)
+{
+    unsigned place = letter - (unsigned)'A';
+
+    return place < sizeof kinds ? kinds[place] : 0;
+}
+
+/* Checks the first line; returns 0, 3 or 4. */
+static inline int check_head(const uint8_t **text, unsigned *top, unsigned *count)
+{
+    const uint8_t *s = *text;
+
+    if (s[0] != 'G' || !(s = field(s + 1, top)) || !(s = field(s, count)) || *s != '\n')
+        return 3;
+    if (*top - 1 >= TOP_MAX || *count - 1 >= CONDITIONS_MAX)
+        return 4;
+    *text = s + 1;
+    return 0;
+}
+
+/* Checks a fact; returns 0, 3 or 4. */
+static inline int check_fact(const uint8_t **text, unsigned top, unsigned count)
+{
+    const uint8_t *s = *text;
+    unsigned condition, low, high;
+
+    if (!(s = field(s + 1, &condition)) || !(s = field(s, &low)) || !(s = field(s, &high)) || *s != '\n')
+        return 3;
+    *text = s + 1;
+    return condition >= count || low > high || high > top ? 4 : 0;
+}
+
+/* Checks a rule and counts its literals; returns 0, 3 or 4. */
+static inline int check_rule(const uint8_t **text, unsigned top, unsigned count, unsigned *literals)
+{
+    const uint8_t *s = *text;
+    unsigned condition, weight, c, n = 0, bad;
+
+    if (!(s = field(s + 1, &condition)) || !(s = field(s, &weight)) || s[0] != ',' || !kind_of(s[1]))
+        return 3;
+    s += 2;
+    bad = condition >= count || weight - 1 >= top;
+    do {
+        if (*s != ',' || n == LITERALS_MAX)
+            return 3;
+        s += s[1] == '!' ? 2 : 1;
+        if (!(s = number(s, &c)))
+            return 3;
+        bad |= c >= count;
+        n++;
+    } while (*s != '\n');
+    *literals += n;
+    *text = s + 1;
+    return bad ? 4 : 0;
+}
+
+/* Checks a query; returns 0, 3 or 4. */
+static inline int check_query(const uint8_t **text, unsigned count)
+{
+    const uint8_t *s = *text;
+    unsigned condition;
+
+    if (s[1] != ',' || (s[2] != 'K' && s[2] != 'W') || !(s = field(s + 3, &condition)) || *s != '\n')
+        return 3;
+    *text = s + 1;
+    return condition >= count ? 4 : 0;
+}
+
+static inline int check_line(const uint8_t **text, unsigned top, unsigned count, unsigned *literals)
+{
+    switch (**text) {
+    case 'F': return check_fact(text, top, count);
+    case 'R': return check_rule(text, top, count, literals);
+    case 'Q': return check_query(text, count);
+    default: return 3;
+    }
+}
+
+/* Reads a number of a checked text. */
+static inline const uint8_t *checked_number(const uint8_t *s, uint16_t *value)
+{
+    unsigned v = *s++ - (unsigned)'0', d;
+
+    if ((d = *s - (unsigned)'0') <= 9) {
+        v = 10 * v + d;
+        s++;
+        if ((d = *s - (unsigned)'0') <= 9) {
+            v = 10 * v + d;
+            s++;
+        }
+    }
+    *value = v;
     return s;
 }
 
-/* Reads the first line; returns 0, 3 or 4. */
-static int head_line(const uint8_t **text, uint16_t *page)
+/* Writes the literals of a checked rule; returns the place after its byte 10. */
+static inline const uint8_t *write_literals(const uint8_t *s, uint16_t **out)
 {
-    const uint8_t *s = *text;
-    unsigned top, count;
+    uint16_t *p = *out, c;
+    unsigned negated;
 
-    if (s[0] != 'G' || !(s = field(s + 1, &top)) || !(s = field(s, &count)) || *s != '\n')
-        return 3;
-    if (top - 1 >= TOP_MAX || count - 1 >= CONDITIONS_MAX)
-        return 4;
-    page[0] = top;
-    page[1] = count;
-    *text = s + 1;
-    return 0;
+    do {
+        negated = s[1] == '!';
+        s = checked_number(s + 1 + negated, &c);
+        *p++ = 2 * c + negated;
+    } while (*s != '\n');
+    *out = p;
+    return s + 1;
 }
 
-/* Reads another line to *out; returns 0, 3 or 4. */
-static int body_line(const uint8_t **text, uint16_t **out, unsigned top, unsigned count)
+/* Writes a checked line; returns the place after its byte 10. */
+static inline const uint8_t *write_line(const uint8_t *s, uint16_t **out)
 {
-    const uint8_t *s = *text;
     uint16_t *p = *out;
-    unsigned condition, a, b, n, bad;
 
+    *out = p + 4;
     switch (s[0]) {
     case 'F':
-        if (!(s = field(s + 1, &condition)) || !(s = field(s, &a)) || !(s = field(s, &b)) || *s != '\n')
-            return 3;
-        if (condition >= count || a > b || b > top)
-            return 4;
         p[1] = FACT;
-        p[2] = a;
-        p[3] = b;
-        *out = p + 4;
-        break;
+        s = checked_number(s + 2, &p[0]);
+        s = checked_number(s + 1, &p[2]);
+        return checked_number(s + 1, &p[3]) + 1;
     case 'R':
-        if (!(s = field(s + 1, &condition)) || !(s = field(s, &a)) || *s++ != ',')
-            return 3;
-        switch (*s++) {
-        case 'M': p[1] = RULE_M; break;
-        case 'X': p[1] = RULE_X; break;
-        case 'L': p[1] = RULE_L; break;
-        case 'B': p[1] = RULE_B; break;
-        case 'P': p[1] = RULE_P; break;
-        default: return 3;
-        }
-        bad = condition >= count || a - 1 >= top;
-        n = 0;
-        do {
-            if (n == LITERALS_MAX || !(s = literal(s, &b)))
-                return 3;
-            bad |= b >= 2 * count;
-            p[4 + n++] = b;
-        } while (*s != '\n');
-        if (bad)
-            return 4;
-        p[2] = a;
-        p[3] = n;
-        *out = p + 4 + n;
-        break;
-    case 'Q':
-        if (s[1] != ',' || (s[2] != 'K' && s[2] != 'W'))
-            return 3;
-        a = s[2] == 'W';
-        if (!(s = field(s + 3, &condition)) || *s != '\n')
-            return 3;
-        if (condition >= count)
-            return 4;
-        p[1] = QUERY;
-        p[2] = a;
-        p[3] = 0;
-        *out = p + 4;
-        break;
+        s = checked_number(s + 2, &p[0]);
+        s = checked_number(s + 1, &p[2]);
+        p[1] = kinds[s[1] - 'A'];
+        s = write_literals(s + 2, out);
+        p[3] = *out - (p + 4);
+        return s;
     default:
-        return 3;
+        p[1] = QUERY;
+        p[2] = s[2] == 'W';
+        p[3] = 0;
+        return checked_number(s + 4, &p[0]) + 1;
     }
-    p[0] = condition;
-    *text = s + 1;
-    return 0;
 }
 
 int32_t scan_read(const uint8_t *text, size_t text_length, uint16_t *area, size_t area_length, uint32_t *line)
 {
-    uint16_t page[PAGE_MAX], *out = page + HEAD;    /* the area stays untouched until the last refusal is past */
-    const uint8_t *s = text, *end;
-    unsigned number, used;
+    const uint8_t *s = text, *end = text + text_length, *second;
+    unsigned top = 0, count = 0, number = 1, literals = 0, used;
     int fault;
 
     *line = 0;
     if (text_length > TEXT_MAX)
         return -1;
-    if (text_length == 0 || text[text_length - 1] != '\n')
+    if (text_length == 0 || end[-1] != '\n')
         return -2;
-    end = text + text_length;
-    fault = head_line(&s, page);
-    number = 1;
+    fault = check_head(&s, &top, &count);
+    second = s;
     while (!fault && s < end) {
         number++;
-        fault = number > LINES_MAX + 1 ? 5 : body_line(&s, &out, page[0], page[1]);
+        fault = number > LINES_MAX + 1 ? 5 : check_line(&s, top, count, &literals);
     }
     if (fault) {
         *line = number;
         return -fault;
     }
-    used = out - page;
+    used = HEAD + 4 * (number - 1) + literals;
     if (area_length < used)
         return -6;
-    page[2] = number - 1;
-    page[3] = used;
-    memcpy(area, page, used * sizeof *area);
+    area[0] = top;
+    area[1] = count;
+    area[2] = number - 1;
+    area[3] = used;
+    area += HEAD;
+    for (s = second; s < end;)
+        s = write_line(s, &area);
     return used;
 }
 

@@ -7,7 +7,10 @@
  * A call returns a result of 0 or more, or minus the number of its refusal. A refused call changes nothing
  * that was lent to it, and no out-parameter. No call keeps anything between calls, allocates or blocks.
  *
- * The stack given for each function was measured on x86-64 with the largest page (512 conditions, rules of eight literals).
+ * simjorad_drive_indexed and simjorad_closed_indexed give the same answers and the same areas as simjorad_drive and
+ * simjorad_closed. They are lent one more slice, a workspace, for an index of the page's lines: with room for it they take
+ * fewer steps, without room they go through the lines as the other two do. A workspace holds nothing between calls: its content
+ * before a call does not matter, and a workspace may serve every page.
  *
  * What no proof covers: these declarations, and the caller's duty that a slice which a call writes
  * (and each out-parameter) shares no number with another slice or out-parameter lent to that call.
@@ -33,6 +36,27 @@ extern "C" {
 #define SIMJORAD_RUN_LENGTH(c) (3 * (c))     /* numbers of a run area for c conditions */
 #define SIMJORAD_SCRATCH_LENGTH(c) (6 * (c)) /* numbers of scratch for the closed reading of c conditions */
 
+/*
+ * Numbers of a workspace with room for a page's index, and the most that any page needs. The page area holds the counts: conditions is
+ * its second number, lines its third, and literals is its fourth (the used length) - 4 - 4 * lines.
+ */
+#define SIMJORAD_WORKSPACE_LENGTH(conditions, lines, literals) (3 * (conditions) + 2 + (lines) + (literals))
+#define SIMJORAD_WORKSPACE_MAX 10754
+
+/*
+ * Stack in bytes that a call takes, its return address and the arguments on the stack counted in. Measured on x86-64
+ * with the largest page; tests/ measures it again and fails if a call takes more.
+ */
+#define SIMJORAD_STACK_READ 256
+#define SIMJORAD_STACK_SHOW_LINE 64
+#define SIMJORAD_STACK_OPEN 3840
+#define SIMJORAD_STACK_EVALUATE 1344
+#define SIMJORAD_STACK_DRIVE 1472
+#define SIMJORAD_STACK_DRIVE_INDEXED 1536
+#define SIMJORAD_STACK_VALUE 128
+#define SIMJORAD_STACK_CLOSED 2816
+#define SIMJORAD_STACK_CLOSED_INDEXED 2816
+
 /* Refusals, each with its cause. */
 #define SIMJORAD_TEXT_TOO_LONG 1      /* more than 65,535 bytes */
 #define SIMJORAD_TEXT_UNENDED 2       /* empty, or the last byte is not 10 */
@@ -55,21 +79,18 @@ extern "C" {
  * Read a page: the text becomes a page area. Returns the used length (4 or more), or minus 1, 2, 5, 3, 4 or 6.
  * On refusal *line becomes the line's number from 1 for 3, 4 and 5, and 0 for 1, 2 and 6; a page that is read leaves 0 there.
  * Writes the used length of area, and nothing of it on refusal.
- * Stack: 240 bytes.
  */
 int32_t simjorad_read(const uint8_t *text, size_t text_length, uint16_t *area, size_t area_length, uint32_t *line);
 
 /*
  * Show a line: where line `number` (from 1) of the text starts, without its byte 10. Returns its length and sets *start;
  * for a line that is not there the length is 0. Never refuses; text_length may be any size.
- * Stack: 16 bytes.
  */
 size_t simjorad_show_line(const uint8_t *text, size_t text_length, size_t number, size_t *start);
 
 /*
  * Open a run. Returns 0, or minus 10, 11, 12 or 13. Sets *reached to R, *edges to E and *bound to R + top * E.
  * Writes the first 3 * C numbers of run.
- * Stack: 4,896 bytes.
  */
 int32_t simjorad_open(const uint16_t *page, size_t page_length, const uint16_t *queries, size_t queries_length,
                       uint16_t *run, size_t run_length, uint32_t *reached, uint32_t *edges, uint32_t *bound);
@@ -77,7 +98,6 @@ int32_t simjorad_open(const uint16_t *page, size_t page_length, const uint16_t *
 /*
  * Evaluate a condition that waits. Returns 1 if its interval changed, 0 if not, or minus 10, 14, 15 or 16.
  * Writes among the first 3 * C numbers of run.
- * Stack: 178 bytes.
  */
 int32_t simjorad_evaluate(const uint16_t *page, size_t page_length, uint16_t *run, size_t run_length, uint32_t condition);
 
@@ -85,15 +105,21 @@ int32_t simjorad_evaluate(const uint16_t *page, size_t page_length, uint16_t *ru
  * Drive: evaluates the lowest waiting condition until none waits or the allowance is used.
  * Returns 1 for rest, 0 for spent, or minus 10 or 14. Sets *taken to the evaluations taken.
  * Writes among the first 3 * C numbers of run.
- * Stack: 24,048 bytes.
  */
 int32_t simjorad_drive(const uint16_t *page, size_t page_length, uint16_t *run, size_t run_length, uint32_t allowance,
                        uint32_t *taken);
 
 /*
+ * Drive, with an index in the workspace: returns, sets and writes what simjorad_drive does. The workspace may have any length
+ * and any content. If it is shorter than SIMJORAD_WORKSPACE_LENGTH for the page it is not touched; that is no refusal. Else
+ * its first SIMJORAD_WORKSPACE_LENGTH numbers end as zero and the rest stays. A refused call leaves it as it is.
+ */
+int32_t simjorad_drive_indexed(const uint16_t *page, size_t page_length, uint16_t *run, size_t run_length,
+                               uint16_t *workspace, size_t workspace_length, uint32_t allowance, uint32_t *taken);
+
+/*
  * Value: the interval that a reached condition holds. Returns 1 if the whole run is at rest, 0 if not,
  * or minus 10, 14, 15 or 17. Sets *low and *high.
- * Stack: 128 bytes.
  */
 int32_t simjorad_value(const uint16_t *page, size_t page_length, const uint16_t *run, size_t run_length, uint32_t condition,
                        uint16_t *low, uint16_t *high);
@@ -101,10 +127,17 @@ int32_t simjorad_value(const uint16_t *page, size_t page_length, const uint16_t 
 /*
  * Closed reading. Returns 0, or minus 10, 11, 12, 18 or 19. Writes low, high per query in list order to answers;
  * the first 6 * C numbers of scratch end as zero.
- * Stack: 25,216 bytes.
  */
 int32_t simjorad_closed(const uint16_t *page, size_t page_length, const uint16_t *queries, size_t queries_length,
                         uint16_t *scratch, size_t scratch_length, uint16_t *answers, size_t answers_length);
+
+/*
+ * Closed reading, with an index in the workspace: returns and writes what simjorad_closed does. The workspace is as for
+ * simjorad_drive_indexed.
+ */
+int32_t simjorad_closed_indexed(const uint16_t *page, size_t page_length, const uint16_t *queries, size_t queries_length,
+                                uint16_t *scratch, size_t scratch_length, uint16_t *answers, size_t answers_length,
+                                uint16_t *workspace, size_t workspace_length);
 
 #ifdef __cplusplus
 }

@@ -307,17 +307,48 @@ impl Engine {
         self.calls += 1;
         page_loan.end_const("page", page)?;
         run_loan.end_mut("run", run)?;
-        match code {
-            0 | 1 => Ok(Ok(Driven {
-                taken: taken.set("taken")?,
-                rest: code == 1,
-            })),
-            -10 | -14 => {
-                taken.kept("taken")?;
-                Ok(Err(-code))
-            }
-            _ => Err(format!("returned {code}")),
-        }
+        driven(code, &taken)
+    }
+
+    pub fn drive_indexed(
+        &mut self,
+        page: &[u16],
+        run: &mut [u16],
+        workspace: &mut [u16],
+        allowance: u32,
+    ) -> Result<Result<Driven, Refusal>, String> {
+        let (page_loan, page_length) = self.lend_area(0, page);
+        let (run_loan, run_length) = self.lend_area(1, run);
+        let (workspace_loan, workspace_length) = self.lend_area(2, workspace);
+        let mut taken = self.out(|number| number as u32);
+        slot::mine().enter(
+            "drive_indexed",
+            u64::from(allowance),
+            &[
+                Self::note(page, page_loan.ptr() as usize),
+                Self::note(run, run_loan.ptr() as usize),
+                Self::note(workspace, workspace_loan.ptr() as usize),
+            ],
+        );
+        // SAFETY: the slices and the out-parameter are valid and apart.
+        let code = unsafe {
+            simjorad_drive_indexed(
+                page_loan.ptr(),
+                page_length,
+                run_loan.ptr_mut(),
+                run_length,
+                workspace_loan.ptr_mut(),
+                workspace_length,
+                allowance,
+                taken.ptr(),
+            )
+        };
+        slot::mine().leave();
+        self.calls += 1;
+        page_loan.end_const("page", page)?;
+        run_loan.end_mut("run", run)?;
+        workspace_loan.end_mut("workspace", workspace)?;
+        driven(code, &taken)
     }
 
     pub fn value(
@@ -409,10 +440,79 @@ impl Engine {
         queries_loan.end_const("queries", queries)?;
         scratch_loan.end_mut("scratch", scratch)?;
         answers_loan.end_mut("answers", answers)?;
-        match code {
-            0 => Ok(Ok(())),
-            -12..=-10 | -18 | -19 => Ok(Err(-code)),
-            _ => Err(format!("returned {code}")),
+        read_closed(code)
+    }
+
+    pub fn closed_indexed(
+        &mut self,
+        page: &[u16],
+        queries: &[u16],
+        scratch: &mut [u16],
+        answers: &mut [u16],
+        workspace: &mut [u16],
+    ) -> Result<Result<(), Refusal>, String> {
+        let (page_loan, page_length) = self.lend_area(0, page);
+        let queries_loan = self.lend(1, queries);
+        let (scratch_loan, scratch_length) = self.lend_area(2, scratch);
+        let (answers_loan, answers_length) = self.lend_area(3, answers);
+        let (workspace_loan, workspace_length) = self.lend_area(4, workspace);
+        slot::mine().enter(
+            "closed_indexed",
+            0,
+            &[
+                Self::note(page, page_loan.ptr() as usize),
+                Self::note(queries, queries_loan.ptr() as usize),
+                Self::note(scratch, scratch_loan.ptr() as usize),
+                Self::note(answers, answers_loan.ptr() as usize),
+                Self::note(workspace, workspace_loan.ptr() as usize),
+            ],
+        );
+        // SAFETY: the slices are valid and apart.
+        let code = unsafe {
+            simjorad_closed_indexed(
+                page_loan.ptr(),
+                page_length,
+                queries_loan.ptr(),
+                queries.len(),
+                scratch_loan.ptr_mut(),
+                scratch_length,
+                answers_loan.ptr_mut(),
+                answers_length,
+                workspace_loan.ptr_mut(),
+                workspace_length,
+            )
+        };
+        slot::mine().leave();
+        self.calls += 1;
+        page_loan.end_const("page", page)?;
+        queries_loan.end_const("queries", queries)?;
+        scratch_loan.end_mut("scratch", scratch)?;
+        answers_loan.end_mut("answers", answers)?;
+        workspace_loan.end_mut("workspace", workspace)?;
+        read_closed(code)
+    }
+}
+
+/// The answer of a drive in either form.
+fn driven(code: i32, taken: &Out<u32>) -> Result<Result<Driven, Refusal>, String> {
+    match code {
+        0 | 1 => Ok(Ok(Driven {
+            taken: taken.set("taken")?,
+            rest: code == 1,
+        })),
+        -10 | -14 => {
+            taken.kept("taken")?;
+            Ok(Err(-code))
         }
+        _ => Err(format!("returned {code}")),
+    }
+}
+
+/// The answer of a closed reading in either form.
+fn read_closed(code: i32) -> Result<Result<(), Refusal>, String> {
+    match code {
+        0 => Ok(Ok(())),
+        -12..=-10 | -18 | -19 => Ok(Err(-code)),
+        _ => Err(format!("returned {code}")),
     }
 }

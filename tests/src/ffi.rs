@@ -45,6 +45,17 @@ extern "C" {
         taken: *mut u32,
     ) -> i32;
 
+    pub fn simjorad_drive_indexed(
+        page: *const u16,
+        page_length: usize,
+        run: *mut u16,
+        run_length: usize,
+        workspace: *mut u16,
+        workspace_length: usize,
+        allowance: u32,
+        taken: *mut u32,
+    ) -> i32;
+
     pub fn simjorad_value(
         page: *const u16,
         page_length: usize,
@@ -64,5 +75,18 @@ extern "C" {
         scratch_length: usize,
         answers: *mut u16,
         answers_length: usize,
+    ) -> i32;
+
+    pub fn simjorad_closed_indexed(
+        page: *const u16,
+        page_length: usize,
+        queries: *const u16,
+        queries_length: usize,
+        scratch: *mut u16,
+        scratch_length: usize,
+        answers: *mut u16,
+        answers_length: usize,
+        workspace: *mut u16,
+        workspace_length: usize,
     ) -> i32;
 }

@@ -391,6 +391,71 @@ pub fn structured(rng: &mut Rng, most: u16) -> Page {
     }
 }
 
+/// A page of 512 conditions, 1,024 lines and top 200; 0 to 3 name special ones, the others are random.
+pub fn limit_page(rng: &mut Rng, item: u64) -> Page {
+    let literal = |cond: u16, negated: bool| Literal { cond, negated };
+    let count = CONDITIONS_MAX;
+    let lines: Vec<Line> = match item {
+        // One ring whose grades fade by single steps.
+        0 => (0..LINES_MAX as u16)
+            .map(|number| Line::Rule {
+                head: number % count,
+                weight: 199,
+                op: Op::M,
+                body: vec![literal((number + 1) % count, false); 8],
+            })
+            .collect(),
+        // One condition is the head of every line and names all others.
+        1 => (0..LINES_MAX as u16)
+            .map(|number| Line::Rule {
+                head: 511,
+                weight: 200,
+                op: Op::X,
+                body: (0..8)
+                    .map(|step| literal((number * 8 + step) % count, step % 2 == 0))
+                    .collect(),
+            })
+            .collect(),
+        // Each condition names the eight after it, plain and negated.
+        2 => (0..LINES_MAX as u16)
+            .map(|number| Line::Rule {
+                head: number % count,
+                weight: if number < count { 200 } else { 150 },
+                op: if number < count { Op::M } else { Op::P },
+                body: (1..=8)
+                    .map(|step| literal((number + step) % count, step == 3))
+                    .collect(),
+            })
+            .collect(),
+        // A chain of negations through all conditions, highest first.
+        3 => (0..LINES_MAX as u16)
+            .map(|number| match number {
+                0..=510 => Line::Rule {
+                    head: number,
+                    weight: 200,
+                    op: Op::M,
+                    body: vec![literal(number + 1, true); 8],
+                },
+                511 => Line::Fact {
+                    cond: 511,
+                    low: 60,
+                    high: 120,
+                },
+                _ => Line::Query {
+                    closed: number % 2 == 0,
+                    cond: number % count,
+                },
+            })
+            .collect(),
+        _ => return page(rng, Size::Limit),
+    };
+    Page {
+        top: TOP_MAX,
+        count,
+        lines,
+    }
+}
+
 pub fn shuffle<T>(rng: &mut Rng, items: &mut [T]) {
     for last in (1..items.len()).rev() {
         items.swap(last, rng.index(last + 1));

@@ -28,7 +28,7 @@ const GUARD_BYTES: usize = 128;
 const SMALL: usize = 8 * MEMORY_PAGE;
 const LARGE: usize = 256 * MEMORY_PAGE;
 /// The greatest count of slices lent to one call.
-pub const SLICES: usize = 4;
+pub const SLICES: usize = 5;
 
 fn guard_byte(position: usize) -> u8 {
     (position as u8).wrapping_mul(37).wrapping_add(0x5a)
@@ -43,13 +43,14 @@ pub enum Side {
     Start,
 }
 
-struct Mapping {
+/// Memory between two inaccessible pages.
+pub struct Mapping {
     whole: *mut u8,
-    usable: usize,
+    pub usable: usize,
 }
 
 impl Mapping {
-    fn new(usable: usize) -> Mapping {
+    pub fn new(usable: usize) -> Mapping {
         let length = usable + 2 * MEMORY_PAGE;
         // SAFETY: a fresh private mapping, whose middle part is then opened.
         unsafe {
@@ -72,7 +73,8 @@ impl Mapping {
         }
     }
 
-    fn first(&self) -> *mut u8 {
+    /// The lowest usable byte.
+    pub fn first(&self) -> *mut u8 {
         // SAFETY: the mapping is longer than one memory page.
         unsafe { self.whole.add(MEMORY_PAGE) }
     }

@@ -5,7 +5,7 @@ use std::process::exit;
 
 use outside::{attach, cases, runner};
 
-const USAGE: &str = "arguments: none | quick | only TEXT | attach PATH";
+const USAGE: &str = "arguments: none | quick | only TEXT | stack | attach PATH";
 
 fn main() {
     let arguments: Vec<String> = std::env::args().skip(1).collect();
@@ -14,6 +14,12 @@ fn main() {
         [] => runner::run(&cases::all(), 1, ""),
         ["quick"] => runner::run(&cases::all(), 10, ""),
         ["only", text] => runner::run(&cases::all(), 1, text),
+        #[cfg(target_arch = "x86_64")]
+        ["stack"] => {
+            let good = runner::run(&cases::stack::cases(), 1, "");
+            cases::stack::print();
+            good
+        }
         ["attach", path] => {
             let _ = attach::PROGRAM.set(PathBuf::from(path));
             runner::run(&attach::cases(), 1, "")

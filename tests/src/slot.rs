@@ -12,15 +12,17 @@ use crate::input::{shown_numbers, shown_text};
 pub const WORKERS: usize = 2;
 
 /// The calls by number; 0 is none.
-pub const CALLS: [&str; 8] = [
+pub const CALLS: [&str; 10] = [
     "none",
     "read",
     "show_line",
     "open",
     "evaluate",
     "drive",
+    "drive_indexed",
     "value",
     "closed",
+    "closed_indexed",
 ];
 
 /// One slice of the call under way: start, length and bytes per number.

@@ -12,6 +12,7 @@ use crate::closed;
 use crate::page::{self, Line, Op, Page};
 use crate::plain::{self, check_queries};
 use crate::reach;
+use crate::workspace;
 
 /// The faults that can be planted.
 pub const FAULTS: &[&str] = &[
@@ -86,6 +87,22 @@ pub const FAULTS: &[&str] = &[
     "scratch_half_zeroed",
     "scratch_zeroed_past_6c",
     "short_answers_written",
+    // Workspaces.
+    "workspace_left_filled",
+    "workspace_half_zeroed",
+    "workspace_zeroed_past_the_index",
+    "workspace_index_one_short",
+    "workspace_index_one_longer",
+    "workspace_index_without_literals",
+    "workspace_touched_when_too_short",
+    "workspace_too_short_is_refused",
+    "workspace_touched_on_refusal",
+    "workspace_content_trusted",
+    "workspace_written_past_the_end",
+    "indexed_drive_ignores_negated_literals",
+    "indexed_closed_is_plain",
+    // Stack.
+    "drive_takes_much_stack",
     // Memory.
     "page_read_past_the_end",
     "page_read_before_the_start",
@@ -722,27 +739,8 @@ pub unsafe extern "C" fn simjorad_evaluate(
     }
 }
 
-/// # Safety
-/// The slices and the out-parameter are valid and apart.
-#[no_mangle]
-pub unsafe extern "C" fn simjorad_drive(
-    page: *const u16,
-    page_length: usize,
-    run: *mut u16,
-    run_length: usize,
-    allowance: u32,
-    taken: *mut u32,
-) -> i32 {
-    let run = lent_mut(run, run_length);
-    let page = match check_areas(lent(page, page_length), run) {
-        Ok(page) => page,
-        Err(number) => {
-            if fault("drive_sets_taken_on_refusal") {
-                *taken = 0;
-            }
-            return -number;
-        }
-    };
+fn drive_call(page_area: &[u16], run: &mut [u16], allowance: u32) -> Result<Driven, Refusal> {
+    let page = check_areas(page_area, run)?;
     let allowance = if fault("drive_allowance_cut_to_16_bits") {
         allowance & 65_535
     } else {
@@ -764,8 +762,150 @@ pub unsafe extern "C" fn simjorad_drive(
     if fault("drive_spent_when_just_enough") && driven.taken == allowance {
         driven.rest = false;
     }
-    *taken = driven.taken;
-    i32::from(driven.rest)
+    Ok(driven)
+}
+
+/// What a drive in either form hands back.
+unsafe fn drive_code(result: Result<Driven, Refusal>, taken: *mut u32) -> i32 {
+    match result {
+        Ok(driven) => {
+            *taken = driven.taken;
+            i32::from(driven.rest)
+        }
+        Err(number) => {
+            if fault("drive_sets_taken_on_refusal") {
+                *taken = 0;
+            }
+            -number
+        }
+    }
+}
+
+/// Writes over 128 KiB of stack.
+#[inline(never)]
+fn take_stack() {
+    let mut area = [0u8; 131_072];
+    for byte in &mut area {
+        // SAFETY: inside the array.
+        unsafe { std::ptr::write_volatile(byte, 1) };
+    }
+}
+
+/// # Safety
+/// The slices and the out-parameter are valid and apart.
+#[no_mangle]
+pub unsafe extern "C" fn simjorad_drive(
+    page: *const u16,
+    page_length: usize,
+    run: *mut u16,
+    run_length: usize,
+    allowance: u32,
+    taken: *mut u32,
+) -> i32 {
+    if fault("drive_takes_much_stack") {
+        take_stack();
+    }
+    let run = lent_mut(run, run_length);
+    let result = drive_call(lent(page, page_length), run, allowance);
+    drive_code(result, taken)
+}
+
+/// The numbers that the index takes, with the planted fault.
+fn index_length(page_area: &[u16]) -> usize {
+    let needed = workspace::needed(page_area);
+    if fault("workspace_index_one_short") {
+        return needed - 1;
+    }
+    if fault("workspace_index_one_longer") {
+        return needed + 1;
+    }
+    if fault("workspace_index_without_literals") {
+        return 3 * usize::from(page_area[1]) + 2 + usize::from(page_area[2]);
+    }
+    needed
+}
+
+/// A workspace that is too short, with the planted fault; true if the call is refused for it.
+fn too_short(workspace: &mut [u16]) -> bool {
+    if fault("workspace_touched_when_too_short") {
+        workspace.fill(0);
+    }
+    fault("workspace_too_short_is_refused")
+}
+
+/// Leaves the workspace of a call as its answer says, with the planted fault.
+fn leave_workspace<T>(page_area: &[u16], workspace: &mut [u16], result: &Result<T, Refusal>) {
+    if result.is_err() {
+        if fault("workspace_touched_on_refusal") {
+            workspace.fill(0);
+        }
+        return;
+    }
+    let mut end = index_length(page_area);
+    if workspace.len() < end || fault("workspace_left_filled") {
+        return;
+    }
+    if fault("workspace_half_zeroed") {
+        end /= 2;
+    }
+    if fault("workspace_zeroed_past_the_index") {
+        end = workspace.len();
+    }
+    workspace[..end].fill(0);
+    if fault("workspace_written_past_the_end") {
+        // SAFETY: none; this is the planted fault.
+        unsafe { std::ptr::write_volatile(workspace.as_mut_ptr().add(workspace.len()), 0) };
+    }
+}
+
+/// Whether a sound page's index has room in the workspace.
+fn has_room(page_area: &[u16], workspace: &[u16]) -> Option<bool> {
+    area::decode(page_area)?;
+    Some(index_length(page_area) <= workspace.len())
+}
+
+/// The page area without its negated literals.
+fn without_negations(page_area: &[u16]) -> Vec<u16> {
+    let mut page = area::decode(page_area).expect("the area is sound");
+    for line in &mut page.lines {
+        if let Line::Rule { body, .. } = line {
+            for literal in body.iter_mut() {
+                literal.negated = false;
+            }
+        }
+    }
+    area::encode(&page)
+}
+
+/// # Safety
+/// The slices and the out-parameter are valid and apart.
+#[no_mangle]
+pub unsafe extern "C" fn simjorad_drive_indexed(
+    page: *const u16,
+    page_length: usize,
+    run: *mut u16,
+    run_length: usize,
+    workspace: *mut u16,
+    workspace_length: usize,
+    allowance: u32,
+    taken: *mut u32,
+) -> i32 {
+    let (page, run) = (lent(page, page_length), lent_mut(run, run_length));
+    let workspace = lent_mut(workspace, workspace_length);
+    let room = has_room(page, workspace);
+    if room == Some(false) && too_short(workspace) {
+        return -RUN_UNSOUND;
+    }
+    let trusted = fault("workspace_content_trusted") && workspace.first().is_some_and(|n| *n > 3);
+    let result = if room == Some(true) && trusted {
+        drive_call(page, run, allowance / 2)
+    } else if room == Some(true) && fault("indexed_drive_ignores_negated_literals") {
+        drive_call(&without_negations(page), run, allowance)
+    } else {
+        drive_call(page, run, allowance)
+    };
+    leave_workspace(page, workspace, &result);
+    drive_code(result, taken)
 }
 
 fn value(page_area: &[u16], run: &[u16], cond: u32) -> Result<Valued, Refusal> {
@@ -867,6 +1007,43 @@ pub unsafe extern "C" fn simjorad_closed(
         lent_mut(scratch, scratch_length),
         lent_mut(answers, answers_length),
     );
+    match result {
+        Ok(()) => 0,
+        Err(number) => -number,
+    }
+}
+
+/// # Safety
+/// The slices are valid and apart.
+#[no_mangle]
+pub unsafe extern "C" fn simjorad_closed_indexed(
+    page: *const u16,
+    page_length: usize,
+    queries: *const u16,
+    queries_length: usize,
+    scratch: *mut u16,
+    scratch_length: usize,
+    answers: *mut u16,
+    answers_length: usize,
+    workspace: *mut u16,
+    workspace_length: usize,
+) -> i32 {
+    let (page, queries) = (lent(page, page_length), lent(queries, queries_length));
+    let answers = lent_mut(answers, answers_length);
+    let workspace = lent_mut(workspace, workspace_length);
+    let room = has_room(page, workspace);
+    if room == Some(false) && too_short(workspace) {
+        return -SCRATCH_SHORT;
+    }
+    let result = closed_call(page, queries, lent_mut(scratch, scratch_length), answers);
+    if result.is_ok() && room == Some(true) && fault("indexed_closed_is_plain") {
+        let reading = plain::reading(&area::decode(page).expect("the area is sound"));
+        for (at, query) in queries.iter().enumerate() {
+            answers[2 * at] = reading[usize::from(*query)].low;
+            answers[2 * at + 1] = reading[usize::from(*query)].high;
+        }
+    }
+    leave_workspace(page, workspace, &result);
     match result {
         Ok(()) => 0,
         Err(number) => -number,

@@ -5,7 +5,7 @@ use std::collections::BTreeMap;
 use std::fmt::Debug;
 
 use crate::answer::*;
-use crate::area;
+use crate::area::{self, decode};
 use crate::closed;
 use crate::engine::Engine;
 use crate::guard::first_difference;
@@ -13,6 +13,7 @@ use crate::input::{Input, Slice};
 use crate::page;
 use crate::plain;
 use crate::rng::Rng;
+use crate::workspace;
 
 /// What a case returns: nothing, or why it fails.
 pub type Check<T = ()> = Result<T, String>;
@@ -218,6 +219,7 @@ impl Trial {
         Ok(got)
     }
 
+    /// Drives in both forms; the indexed one with several workspaces.
     pub fn drive(
         &mut self,
         page: &[u16],
@@ -228,20 +230,59 @@ impl Trial {
         let mut expected = before.clone();
         let wanted = plain::drive(page, &mut expected, allowance);
         let got = self.engine.drive(page, run, allowance);
-        let input = Input {
-            op: "drive",
-            slices: vec![
-                ("page", Slice::Numbers(page)),
-                ("run", Slice::Numbers(&before)),
-            ],
-            numbers: vec![("allowance", u64::from(allowance))],
-        };
+        let input = drive_input("drive", page, &before, allowance);
         let got = got.map_err(|reason| breach(&input, reason))?;
         same(&input, &got, &wanted)?;
         same_numbers(&input, "run", run, &expected)?;
+        self.drive_indexed(page, &before, allowance, wanted, &expected)?;
         let code = wanted.map_or_else(|number| number, |driven| i32::from(driven.rest));
         self.saw("drive", code);
         Ok(got)
+    }
+
+    /// Drives a copy of the run with workspaces of several lengths; answer, run and workspace must be the
+    /// wanted ones.
+    pub fn drive_indexed(
+        &mut self,
+        page: &[u16],
+        before: &[u16],
+        allowance: u32,
+        wanted: Result<Driven, Refusal>,
+        expected: &[u16],
+    ) -> Check {
+        let code = wanted.map_or_else(|number| number, |driven| i32::from(driven.rest));
+        for length in self.workspace_lengths(page) {
+            let mut run = before.to_vec();
+            let mut lent = self.rubbish(length);
+            let left = workspace::after(page, wanted.is_ok(), &lent);
+            let got = self
+                .engine
+                .drive_indexed(page, &mut run, &mut lent, allowance);
+            let mut input = drive_input("drive_indexed", page, before, allowance);
+            input.numbers.push(("workspace_length", length as u64));
+            let got = got.map_err(|reason| breach(&input, reason))?;
+            same(&input, &got, &wanted)?;
+            same_numbers(&input, "run", &run, expected)?;
+            same_numbers(&input, "workspace", &lent, &left)?;
+            self.saw(with_room("drive_indexed", page, length), code);
+        }
+        Ok(())
+    }
+
+    /// Workspace lengths to try with a page area: none, one number short, just enough and longer. Where
+    /// areas are announced longer than they are, only a workspace with room can be.
+    fn workspace_lengths(&mut self, area: &[u16]) -> Vec<usize> {
+        let needed = match decode(area) {
+            Some(_) => workspace::needed(area),
+            // No length is right for an area that is not sound; now and then there is room for any page.
+            None if self.rng.percent(1) => workspace::WORKSPACE_MAX,
+            None => self.rng.index(100),
+        };
+        if self.engine.overstate > 0 {
+            return vec![needed];
+        }
+        let longer = needed + 1 + self.rng.index(20);
+        vec![0, needed.saturating_sub(1), needed, longer]
     }
 
     pub fn value(
@@ -264,6 +305,7 @@ impl Trial {
         Ok(got)
     }
 
+    /// Reads closed in both forms; the indexed one with several workspaces.
     pub fn closed(
         &mut self,
         page: &[u16],
@@ -271,26 +313,106 @@ impl Trial {
         scratch: &mut [u16],
         answers: &mut [u16],
     ) -> Check<Result<(), Refusal>> {
-        let mut expected_scratch = scratch.to_vec();
-        let mut expected_answers = answers.to_vec();
-        let wanted = closed::closed(page, queries, &mut expected_scratch, &mut expected_answers);
+        let before = ClosedAreas::of(scratch, answers);
+        let mut expected = before.clone();
+        let wanted = closed::closed(page, queries, &mut expected.scratch, &mut expected.answers);
         let got = self.engine.closed(page, queries, scratch, answers);
-        let input = Input {
-            op: "closed",
-            slices: vec![
-                ("page", Slice::Numbers(page)),
-                ("queries", Slice::Numbers(queries)),
-            ],
-            numbers: vec![
-                ("scratch_length", scratch.len() as u64),
-                ("answers_length", answers.len() as u64),
-            ],
-        };
+        let input = closed_input("closed", page, queries, &before);
         let got = got.map_err(|reason| breach(&input, reason))?;
         same(&input, &got, &wanted)?;
-        same_numbers(&input, "answers", answers, &expected_answers)?;
-        same_numbers(&input, "scratch", scratch, &expected_scratch)?;
+        ClosedAreas::of(scratch, answers).same(&input, &expected)?;
+        self.closed_indexed(page, queries, &before, wanted, &expected)?;
         self.saw("closed", wanted.err().unwrap_or(0));
         Ok(got)
+    }
+
+    /// Reads closed with workspaces of several lengths; answer, areas and workspace must be the wanted ones.
+    fn closed_indexed(
+        &mut self,
+        page: &[u16],
+        queries: &[u16],
+        before: &ClosedAreas,
+        wanted: Result<(), Refusal>,
+        expected: &ClosedAreas,
+    ) -> Check {
+        for length in self.workspace_lengths(page) {
+            let mut areas = before.clone();
+            let mut lent = self.rubbish(length);
+            let left = workspace::after(page, wanted.is_ok(), &lent);
+            let got = self.engine.closed_indexed(
+                page,
+                queries,
+                &mut areas.scratch,
+                &mut areas.answers,
+                &mut lent,
+            );
+            let mut input = closed_input("closed_indexed", page, queries, before);
+            input.numbers.push(("workspace_length", length as u64));
+            let got = got.map_err(|reason| breach(&input, reason))?;
+            same(&input, &got, &wanted)?;
+            areas.same(&input, expected)?;
+            same_numbers(&input, "workspace", &lent, &left)?;
+            let name = with_room("closed_indexed", page, length);
+            self.saw(name, wanted.err().unwrap_or(0));
+        }
+        Ok(())
+    }
+}
+
+/// The name under which an indexed call is counted: its own if the workspace has room for the index.
+fn with_room(call: &'static str, area: &[u16], length: usize) -> &'static str {
+    match call {
+        _ if decode(area).is_none() || workspace::needed(area) <= length => call,
+        "drive_indexed" => "drive_indexed without room",
+        _ => "closed_indexed without room",
+    }
+}
+
+/// The slices that a closed reading writes.
+#[derive(Clone)]
+struct ClosedAreas {
+    scratch: Vec<u16>,
+    answers: Vec<u16>,
+}
+
+impl ClosedAreas {
+    fn of(scratch: &[u16], answers: &[u16]) -> ClosedAreas {
+        ClosedAreas {
+            scratch: scratch.to_vec(),
+            answers: answers.to_vec(),
+        }
+    }
+
+    /// Both slices must hold the wanted numbers.
+    fn same(&self, input: &Input, wanted: &ClosedAreas) -> Check {
+        same_numbers(input, "answers", &self.answers, &wanted.answers)?;
+        same_numbers(input, "scratch", &self.scratch, &wanted.scratch)
+    }
+}
+
+fn drive_input<'a>(op: &'static str, page: &'a [u16], run: &'a [u16], allowance: u32) -> Input<'a> {
+    Input {
+        op,
+        slices: vec![("page", Slice::Numbers(page)), ("run", Slice::Numbers(run))],
+        numbers: vec![("allowance", u64::from(allowance))],
+    }
+}
+
+fn closed_input<'a>(
+    op: &'static str,
+    page: &'a [u16],
+    queries: &'a [u16],
+    areas: &ClosedAreas,
+) -> Input<'a> {
+    Input {
+        op,
+        slices: vec![
+            ("page", Slice::Numbers(page)),
+            ("queries", Slice::Numbers(queries)),
+        ],
+        numbers: vec![
+            ("scratch_length", areas.scratch.len() as u64),
+            ("answers_length", areas.answers.len() as u64),
+        ],
     }
 }

@@ -1,8 +1,2 @@
--- a query list of one condition
-pub mod OneQuery
--- a run of one query, driven to rest
-pub mod PlainAnswer
--- the closed reading of one query
-pub mod ClosedAnswer
 -- the Q lines of a page, line by line
 pub mod Printing

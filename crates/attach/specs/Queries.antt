@@ -1,20 +1,7 @@
--- Document 01, "The program `attach`": the Q lines of a page, and what each asks. Assumes nothing.
-use mathlib.Core.Bool.{cond}
+-- Document 01, "The program `attach`": the Q lines of a page. Assumes nothing.
 use mathlib.Core.List.{List, [], _∷_}
 use Prim.Native.Nat.{ℕ, _+_}
-use lib.Dec.{eqb}
-use Rattle.fixpoint.specs.Interval.{Assign}
-use Rattle.semantics.specs.Page.{Reading, K, W, Line, fact, rule, query, Page}
-use Rattle.semantics.specs.Reading.{IsPlain, IsClosed}
-
--- "0 for K or 1 for W"
-abbrev pub readingOf : ℕ → Reading
-readingOf x = cond (eqb x 0) K W
-
--- "the reading is `K` (plain) or `W` (closed)"
-abbrev pub IsReading : Reading → Page → Assign → Type 0
-IsReading K page = IsPlain page
-IsReading W page = IsClosed page
+use Rattle.semantics.specs.Page.{Line, fact, rule, query}
 
 -- "the count of Q lines"
 abbrev pub queryLine : Line → ℕ

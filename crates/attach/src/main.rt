@@ -6,11 +6,10 @@ ghost use lib.ListN.{length, drop};
 ghost use Rattle.semantics.specs.Area.{sound, pageOf, topOf, conditionsOf, usedOf, every, lineTests, lineAt};
 ghost use Rattle.attach.specs.Queries.{queryLine, queryCount};
 
-mod answer;
 mod input;
 mod output;
 
-use answer::answer;
+use answers::answer;
 use input::read_input;
 use output::print_answer;
 use output::print_end;
@@ -24,7 +23,7 @@ fn letter(reading: u16) -> u8 {
 }
 
 // The line at `at`, if it is a Q line; answers how many lines were printed.
-fn print_line(page: &[u16], at: usize) -> u32
+fn print_line(page: &[u16], at: usize, workspace: &mut [u16]) -> u32
     requires { ⌜ (sound (now page) ≡ true) × (at + 4 ≤ length (now page)) × (every (lineTests (topOf (now page)) (conditionsOf (now page)) (usedOf (now page) - at) (drop at (now page))) ≡ true) ⌝ }
     ensures { λ r. ⌜ r ≡ queryLine (lineAt (drop at (now (page .entry)))) ⌝ }
 {
@@ -33,34 +32,33 @@ fn print_line(page: &[u16], at: usize) -> u32
     }
     let c = page[at];
     let reading = page[at + 2];
-    let ends = answer(page, reading, c);
+    let ends = answer(page, reading, c, workspace);
     print_answer(letter(reading), c, ends.low, ends.high);
     1
 }
 
 // The Q lines, in page order; answers how many they are.
-fn print_lines(page: &[u16]) -> u32
+fn print_lines(page: &[u16], workspace: &mut [u16]) -> u32
     requires { ⌜ sound (now page) ≡ true ⌝ }
     ensures { λ r. ⌜ r ≡ queryCount (pageOf (now (page .entry)) .lines) ⌝ }
 {
     let lines = page[2];
-    let mut at: usize = 4;
-    let mut passed: u16 = 0;
+    let mut line = page::Cursor::first(page);
     let mut count: u32 = 0;
-    while passed < lines {
-        count += print_line(page, at);
-        at += page::span_of(page[at + 1], page[at + 3]);
-        passed += 1;
+    while line.passed < lines {
+        let at = line.at;
+        count += print_line(page, at, workspace);
+        line = line.next(page);
     }
     count
 }
 
 // A page that is read.
-fn print_page(page: &[u16])
+fn print_page(page: &[u16], workspace: &mut [u16])
     requires { ⌜ sound (now page) ≡ true ⌝ }
 {
     print_top(page[0]);
-    print_end(print_lines(page));
+    print_end(print_lines(page, workspace));
 }
 
 fn main() {
@@ -70,6 +68,9 @@ fn main() {
     let read = reader::read_page(&text[..n], &mut page);
     match read {
         ReadAnswer::Refused { number, line } => print_refusal(number as u64, line as u64),
-        ReadAnswer::Read(_) => print_page(&page),
+        ReadAnswer::Read(_) => {
+            let mut workspace = [0u16; 10754];
+            print_page(&page, &mut workspace)
+        }
     }
 }

@@ -3,9 +3,10 @@ ghost use mathlib.Core.Path.{_≡_};
 ghost use Prim.Native.Nat.{_+_, _≤_};
 ghost use lib.ListN.{length, take, drop};
 ghost use Rattle.semantics.specs.ReadPage.{readOf, lineOf, startOf};
-ghost use Rattle.semantics.specs.Operation.{openOf, evaluateOf, driveOf, valueOf, ClosedOf};
-ghost use Rattle.run.specs.Answers.{statusIf};
+ghost use Rattle.semantics.specs.Operation.{openOf, evaluateOf, driveOf, valueOf, ClosedOf, driveWorkspace, closedWorkspace};
+ghost use Rattle.run.specs.Answers.{statusIf, driveAnswerOf};
 ghost use Rattle.capi.specs.Codes.{minus as Codes·minus, statusCode, answerCode, takenOr, intervalOr, openCode, countsOr, readCode, lineCode, closedCode, closedRefusal};
+use run::DriveAnswer;
 
 // Minus the number of a refusal.
 fn minus(number: u8) -> i32
@@ -97,6 +98,24 @@ pub extern "C" fn simjorad_evaluate(page: &[u16], run: &mut [u16], condition: u3
     }
 }
 
+// What a drive answers: 1 rest, 0 spent, or minus a refusal; the count is told unless it is refused.
+fn drive_code(answer: DriveAnswer, taken: &mut u32) -> i32
+    ensures code { λ r. ⌜ r ≡ answerCode (driveAnswerOf answer) ⌝ }
+    ensures count { λ _. ⌜ now (taken .exit) ≡ takenOr (now (taken .entry)) (driveAnswerOf answer) ⌝ }
+{
+    match answer {
+        DriveAnswer::Refused(k) => minus(k),
+        DriveAnswer::Rest(k) => {
+            *taken = k;
+            1
+        }
+        DriveAnswer::Spent(k) => {
+            *taken = k;
+            0
+        }
+    }
+}
+
 // Drive: 1 rest, 0 spent, or minus 10 or 14.
 #[no_mangle]
 pub extern "C" fn simjorad_drive(
@@ -110,17 +129,25 @@ pub extern "C" fn simjorad_drive(
     ensures count { λ _. ⌜ now (taken .exit) ≡ takenOr (now (taken .entry)) (driveOf (now (page .entry)) (now (run .entry)) allowance .answer) ⌝ }
 {
     let answer = run::drive(page, run, allowance);
-    match answer {
-        run::DriveAnswer::Refused(k) => minus(k),
-        run::DriveAnswer::Rest(k) => {
-            *taken = k;
-            1
-        }
-        run::DriveAnswer::Spent(k) => {
-            *taken = k;
-            0
-        }
-    }
+    drive_code(answer, taken)
+}
+
+// Drive, with an index in the workspace.
+#[no_mangle]
+pub extern "C" fn simjorad_drive_indexed(
+    page: &[u16],
+    run: &mut [u16],
+    workspace: &mut [u16],
+    allowance: u32,
+    taken: &mut u32,
+) -> i32
+    ensures code { λ r. ⌜ r ≡ answerCode (driveOf (now (page .entry)) (now (run .entry)) allowance .answer) ⌝ }
+    ensures area { λ _. ⌜ now (run .exit) ≡ driveOf (now (page .entry)) (now (run .entry)) allowance .run ⌝ }
+    ensures workspace { λ _. ⌜ now (workspace .exit) ≡ driveWorkspace (now (page .entry)) (now (run .entry)) (now (workspace .entry)) ⌝ }
+    ensures count { λ _. ⌜ now (taken .exit) ≡ takenOr (now (taken .entry)) (driveOf (now (page .entry)) (now (run .entry)) allowance .answer) ⌝ }
+{
+    let answer = run::drive_indexed(page, run, workspace, allowance);
+    drive_code(answer, taken)
 }
 
 // Value: 1 if the run is at rest, 0 if not, or minus 10, 14, 15 or 17.

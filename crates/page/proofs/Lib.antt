@@ -7,8 +7,7 @@ pub mod Head
 pub mod Scanning
 -- which condition a line names
 pub mod Naming
--- the body value: a rule's value, then T
-pub mod Work
-pub mod Bodies
+-- one entry, field by field
+pub mod Entries
 -- the lines by number
 pub mod LineNumbers

@@ -17,7 +17,7 @@ use Rattle.semantics.specs.Page.{Line, fact, rule, query}
 use Rattle.page.specs.Graded.{RuleAt, EntryAt}
 use Rattle.page.proofs.Scan.{line-at, entry-four, fact-kind, rule-kind, over-five}
 use Rattle.page.proofs.Scanning.{Scanning, linesLeft, scanning-first, scanning-next, entry-ok, lines-on}
-use Rattle.page.proofs.Bodies.{rule-at}
+use Rattle.page.proofs.Entries.{rule-at}
 use Rattle.page.specs.Places.{placeOf, LineOf}
 
 module _ (a : List ℕ) (ok : sound a ≡ true) where
@@ -46,7 +46,7 @@ module _ (a : List ℕ) (ok : sound a ≡ true) where
       }
 
   pub rule-of : {c at : ℕ} → LineOf a c at → 1 ≤ getD a (at + 1) 0 → RuleAt (topOf a) (conditionsOf a) a at
-  rule-of {c} {at} s l = let e = entry-at s in rule-at (topOf a) (conditionsOf a) (usedOf a - at) a at [] 0 (e .fits) (e .tests) l (s .body)
+  rule-of {c} {at} s l = let e = entry-at s in rule-at (topOf a) (conditionsOf a) (usedOf a - at) a at (e .fits) (e .tests) l (s .body)
 
 -- a line adds nothing, or one interval, and then it is an F or R line of c
 module _ (top : ℕ) (I : Assign) (c : ℕ) where

@@ -1,6 +1,6 @@
 -- Which condition the R lines of an area name, literal by literal and line by line, in the code's own terms. Assumes nothing.
 use mathlib.Core.Path.{_≡_, refl, sym, _∙_, ap}
-use mathlib.Core.Logic.{_≢_, _⊎_, inl, inr, ⊎-elim}
+use mathlib.Core.Logic.{_≢_, ⊎-elim}
 use mathlib.Core.Bool.{Bool, true, false, cond, _&&_, _||_, and-false}
 use mathlib.Core.List.{List, _∷_, map}
 use Prim.Native.Nat.{ℕ, _+_, _-_, _/_, _%_, _≤_, _<_}
@@ -65,34 +65,3 @@ lines-name a at head c ls = rw (line-at a at) (go (kind (getD a (at + 1) 0)) (ge
     go (ruleKind op) d x y lits = refl
     go queryKind d x y lits = rw (and-false (eqb d head))
     go noKind d x y lits = rw (and-false (eqb d head))
-
--- the state of the loop behind k lines: the answer is that of the lines still to come
-module _ (a : List ℕ) (head c : ℕ) where
-  pub record Naming (at k : ℕ) : Type 0 where
-    pub scan : Scanning a at k
-    pub is : names (pageOf a) head c ≡ linesName (linesLeft a at k) head c
-
-  pub naming-first : sound a ≡ true → {at k : ℕ} → (at ≡ 4) × (k ≡ 0) → Naming at k
-  naming-first e {at} {k} z =
-      rw (z .0, z .1) (record { scan = scanning-first a e; is = ap (λ (ls : List Line). linesName ls head c) (sym (lines-first a)) })
-
-  module _ {at k : ℕ} (s : Naming at k) (l : k < countOf a) where
-    here : {at′ k′ : ℕ} → Next a at k at′ k′
-        → names (pageOf a) head c ≡ ((eqb (getD a at 0) head && lineNames (lineAt (drop at a)) c) || linesName (linesLeft a at′ k′) head c)
-    here {at′} {k′} m =
-        s .is ∙ ap (λ (ls : List Line). linesName ls head c) (lines-moved a (s .scan) l m) ∙ lines-name a at head c (linesLeft a at′ k′)
-
-    pub naming-found : getD a at 0 ≡ head → lineNames (lineAt (drop at a)) c ≡ true → names (pageOf a) head c ≡ true
-    naming-found h e = here (record { place = refl; count = refl }) ∙ rw (eq-eqb (getD a at 0) head h, e)
-
-    other : (getD a at 0 ≢ head) ⊎ (lineNames (lineAt (drop at a)) c ≡ false) → (eqb (getD a at 0) head && lineNames (lineAt (drop at a)) c) ≡ false
-    other (inl n) = rw (ne-eqb (getD a at 0) head n)
-    other (inr e) = ap (λ (t : Bool). eqb (getD a at 0) head && t) e ∙ and-false (eqb (getD a at 0) head)
-
-    pub naming-next : {at′ k′ : ℕ} → (getD a at 0 ≢ head) ⊎ (lineNames (lineAt (drop at a)) c ≡ false) → Next a at k at′ k′ → Naming at′ k′
-    naming-next {at′} {k′} h m =
-        record { scan = scanning-moved a (s .scan) l m; is = here m ∙ ap (λ (t : Bool). t || linesName (linesLeft a at′ k′) head c) (other h) }
-
-  pub naming-last : {at k : ℕ} → Naming at k → countOf a ≤ k → names (pageOf a) head c ≡ false
-  unfolding linesName
-  naming-last {at} {k} s l = s .is ∙ rw (lines-none a at k l)

@@ -11,7 +11,7 @@ use Rattle.semantics.specs.Body.{ruleValue}
 use Rattle.semantics.specs.Grade.{End, lower, upper}
 use Rattle.page.specs.Places.{LineOf}
 use Rattle.page.proofs.Scan.{line-at, fact-kind, rule-kind}
-use Rattle.page.proofs.Bodies.{value-fact}
+use Rattle.page.proofs.Entries.{fact-in}
 use Rattle.page.proofs.LineNumbers.{entry-at}
 use Rattle.value.specs.Table.{endOf}
 use Rattle.value.specs.LineEnds.{RuleEnd, LineEnd}
@@ -21,7 +21,7 @@ module _ (a : List ℕ) (ok : sound a ≡ true) {at : ℕ} (s : LineOf a (getD a
   held = record { low = getD a (at + 2) 0; high = getD a (at + 3) 0 }
 
   held-in : (e : End) → getD a (at + 1) 0 ≡ 0 → endOf e held ≤ topOf a
-  held-in e k = let h = entry-at a ok s in let v = value-fact (topOf a) (conditionsOf a) (usedOf a - at) a at [] (getD a at 0) (h .fits) (h .tests) refl k in go e (v .low-in) (v .high-in)
+  held-in e k = let h = entry-at a ok s in let v = fact-in (topOf a) (conditionsOf a) (usedOf a - at) a at (h .fits) (h .tests) k in go e (v .0) (v .1)
     where
       go : (e : End) → getD a (at + 2) 0 ≤ topOf a → getD a (at + 3) 0 ≤ topOf a → endOf e held ≤ topOf a
       go lower l h = l

@@ -17,7 +17,7 @@ use Rattle.semantics.proofs.Ops.{divided-bounded}
 use Rattle.semantics.proofs.Soundness.{both-true}
 use Rattle.page.specs.Graded.{RuleAt}
 use Rattle.page.proofs.Scan.{part-cons, rule-kind}
-use Rattle.page.proofs.Work.{code-first, code-in}
+use Rattle.page.proofs.Entries.{code-first, code-in}
 use Rattle.page.proofs.Head.{head-of}
 use Rattle.value.specs.Table.{endOf, Grades, EndTable}
 use Rattle.value.specs.LineEnds.{numbersOf, Foldable, Folded, RuleEnd}
@@ -68,7 +68,7 @@ module _ (a values : List ℕ) (at : ℕ) (r : RuleAt (topOf a) (conditionsOf a)
   rest-under = both-true (ltb code (2 * conditionsOf a)) (allUnder (2 * conditionsOf a) rest) (rw codes-cons at (r .literals)) .1
 
   pub code-under : code < 2 * conditionsOf a
-  code-under = code-first (topOf a) (conditionsOf a) a at [] r
+  code-under = code-first (topOf a) (conditionsOf a) a at r
 
   rest-length : length rest ≡ at + 4 + getD a (at + 3) 0 - (at + 5)
   rest-length = simp (length-take, length-drop) (omega (arith, r .fits, r .some))
@@ -78,7 +78,7 @@ module _ (a values : List ℕ) (at : ℕ) (r : RuleAt (topOf a) (conditionsOf a)
       let m : j < at + 4 + getD a (at + 3) 0 - (at + 5) = omega (arith, rest-length) in
       let q : getD rest j 0 ≡ getD a (at + 4 + (j + 1)) 0 =
       getD-take (at + 4 + getD a (at + 3) 0 - (at + 5)) (drop (at + 5) a) j 0 m ∙ getD-drop (at + 5) a j 0 ∙ ap (λ (i : ℕ). getD a i 0) (omega arith) in
-      rw q (code-in (topOf a) (conditionsOf a) a at [] r (j + 1) (omega arith))
+      rw q (code-in (topOf a) (conditionsOf a) a at r (j + 1) (omega arith))
 
   -- what the fold over its literals requires
   pub foldable : sound a ≡ true → Grades (topOf a) (conditionsOf a) values → Foldable (topOf a) rest values (getD values code 0)

@@ -18,8 +18,10 @@ pub fn cases() -> Vec<Case> {
                 ("open", 10),
                 ("evaluate", 10),
                 ("drive", 10),
+                ("drive_indexed", 10),
                 ("value", 10),
                 ("closed", 10),
+                ("closed_indexed", 10),
             ],
         },
         Case {
@@ -38,7 +40,13 @@ pub fn cases() -> Vec<Case> {
             name: "every_wrong_run_area_is_refused_14_by_each_operation",
             items: 700,
             each: wrong_run_areas,
-            must_see: &[("evaluate", 14), ("drive", 14), ("value", 14)],
+            must_see: &[
+                ("evaluate", 14),
+                ("drive", 14),
+                ("drive_indexed", 14),
+                ("drive_indexed without room", 14),
+                ("value", 14),
+            ],
         },
         Case {
             name: "run_area_with_one_number_changed_is_judged_alike",
@@ -54,8 +62,10 @@ pub fn cases() -> Vec<Case> {
                 ("read", 0),
                 ("open", 0),
                 ("drive", 1),
+                ("drive_indexed", 1),
                 ("value", 1),
                 ("closed", 0),
+                ("closed_indexed", 0),
             ],
         },
     ]

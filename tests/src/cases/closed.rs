@@ -61,6 +61,8 @@ pub fn cases() -> Vec<Case> {
 /// Among the answers are some unlike the plain ones, some with low under high and some between 0 and top.
 const MANY_SIDED: &[(&str, Refusal)] = &[
     ("closed", 0),
+    ("closed_indexed", 0),
+    ("closed_indexed without room", 0),
     ("closed unlike plain", 0),
     ("closed with low under high", 0),
     ("closed with low between 0 and top", 0),

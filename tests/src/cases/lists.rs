@@ -5,7 +5,7 @@ use crate::body::Pair;
 use crate::book::Book;
 use crate::gen::{self, Size};
 use crate::input::{Input, Slice};
-use crate::page::{Line, Literal, Op, Page, CONDITIONS_MAX, LINES_MAX, TOP_MAX};
+use crate::page::{Page, LINES_MAX};
 use crate::plain;
 use crate::reach;
 use crate::runner::Case;
@@ -153,7 +153,8 @@ impl Live {
         let input = self.input("drive", allowance, &before);
         let got = got.map_err(|reason| format!("{reason}; {}", input.dump()))?;
         same(&input, &got, &Ok(wanted))?;
-        self.check(&input)
+        self.check(&input)?;
+        trial.drive_indexed(&self.area, &before, allowance, Ok(wanted), &self.run)
     }
 
     fn value(&mut self, trial: &mut Trial, cond: u32) -> Check {
@@ -263,74 +264,8 @@ fn two_runs(trial: &mut Trial, _: u64) -> Check {
     runs[1].finish(trial)
 }
 
-/// A page of 512 conditions, 1,024 lines and top 200, by the item's number.
-fn limit_page(trial: &mut Trial, item: u64) -> Page {
-    let rng = &mut trial.rng;
-    let literal = |cond: u16, negated: bool| Literal { cond, negated };
-    let count = CONDITIONS_MAX;
-    let lines: Vec<Line> = match item {
-        // One ring whose grades fade by single steps.
-        0 => (0..LINES_MAX as u16)
-            .map(|number| Line::Rule {
-                head: number % count,
-                weight: 199,
-                op: Op::M,
-                body: vec![literal((number + 1) % count, false); 8],
-            })
-            .collect(),
-        // One condition is the head of every line and names all others.
-        1 => (0..LINES_MAX as u16)
-            .map(|number| Line::Rule {
-                head: 511,
-                weight: 200,
-                op: Op::X,
-                body: (0..8)
-                    .map(|step| literal((number * 8 + step) % count, step % 2 == 0))
-                    .collect(),
-            })
-            .collect(),
-        // Each condition names the eight after it, plain and negated.
-        2 => (0..LINES_MAX as u16)
-            .map(|number| Line::Rule {
-                head: number % count,
-                weight: if number < count { 200 } else { 150 },
-                op: if number < count { Op::M } else { Op::P },
-                body: (1..=8)
-                    .map(|step| literal((number + step) % count, step == 3))
-                    .collect(),
-            })
-            .collect(),
-        // A chain of negations through all conditions, highest first.
-        3 => (0..LINES_MAX as u16)
-            .map(|number| match number {
-                0..=510 => Line::Rule {
-                    head: number,
-                    weight: 200,
-                    op: Op::M,
-                    body: vec![literal(number + 1, true); 8],
-                },
-                511 => Line::Fact {
-                    cond: 511,
-                    low: 60,
-                    high: 120,
-                },
-                _ => Line::Query {
-                    closed: number % 2 == 0,
-                    cond: number % count,
-                },
-            })
-            .collect(),
-        _ => return gen::page(rng, Size::Limit),
-    };
-    Page {
-        top: TOP_MAX,
-        count,
-        lines,
-    }
-}
-
 fn pages_at_the_limits(trial: &mut Trial, item: u64) -> Check {
-    let page = limit_page(trial, item);
+    let page = gen::limit_page(&mut trial.rng, item);
     figure("the lines", page.lines.len(), LINES_MAX)?;
     if item != 3 {
         figure("the used length", encode(&page).len(), PAGE_MAX)?;

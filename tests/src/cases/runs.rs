@@ -38,7 +38,14 @@ pub fn cases() -> Vec<Case> {
             name: "drive_agrees_on_arbitrary_sound_areas",
             items: 6_000,
             each: drives,
-            must_see: &[("drive", 0), ("drive", 1)],
+            must_see: &[
+                ("drive", 0),
+                ("drive", 1),
+                ("drive_indexed", 0),
+                ("drive_indexed", 1),
+                ("drive_indexed without room", 0),
+                ("drive_indexed without room", 1),
+            ],
         },
         Case {
             name: "value_agrees_on_arbitrary_sound_areas",

@@ -43,10 +43,11 @@ enum-told c = search needs
 slice-aggregate-print-page : tie.Need-slice-aggregate-print-page
 slice-aggregate-print-page c = search needs
 
+slice-aggregate-print-page-2 : tie.Need-slice-aggregate-print-page-2
+slice-aggregate-print-page-2 c = search needs
+
 print-page-requires : tie.Need-print-page-requires
-print-page-requires c κs =
-    let r = c .before .before .before .before in
-    ap sound (r .read-page .ensures .1) ∙ read-good _ _ (ap answerOf (sym (c .before .enum-told .given .1)) ∙ r .read-page .ensures .0) .page-sound
+print-page-requires c κs = ap sound (c .before .before .before .before .before .read-page .ensures .1) ∙ read-good _ _ (ap answerOf (sym (c .before .before .enum-told .given .1)) ∙ c .before .before .before .before .before .read-page .ensures .0) .page-sound
 
 returns : tie.Need-returns
 returns c = search needs
@@ -70,6 +71,7 @@ main-spec =
     print-refusal-requires
     enum-told
     slice-aggregate-print-page
+    slice-aggregate-print-page-2
     print-page-requires
     returns
     returns-2)

@@ -1,6 +1,6 @@
 -- `attach::print_line` meets its contract. Assumes nothing.
-use Rattle.semantics.specs.Area.{topOf, conditionsOf, usedOf}
 use Prim.Native.Nat.{_-_}
+use Rattle.semantics.specs.Area.{topOf, conditionsOf, usedOf}
 use Rattle.page.proofs.Scan.{entry-head}
 use Rattle.attach.proofs.Printing.{a-query, no-query}
 use borrow.Author.Needs.{needs}
@@ -17,9 +17,7 @@ shared-slice-read-if1 : tie.Need-shared-slice-read-if1
 shared-slice-read-if1 c = search needs
 
 returns : tie.Need-returns
-returns c =
-    let z = c .before .before .before in
-    no-query (z .args .page .now) (z .args .at) (z .pre .2) (c .if1 .taken)
+returns c = no-query (c .before .before .before .before .args .page .now) (c .before .before .before .before .args .at) (c .before .before .before .before .pre .2) (c .if1 .taken)
 
 mul-c : tie.Need-mul-c
 mul-c c = search needs
@@ -37,10 +35,7 @@ shared-slice-read-reading : tie.Need-shared-slice-read-reading
 shared-slice-read-reading c = search needs
 
 answer-requires : tie.Need-answer-requires
-answer-requires c κs =
-    let z = c .before .before .before .before .before in
-    let a = z .args .page .now in
-    (z .pre .0, entry-head (topOf a) (conditionsOf a) (usedOf a - z .args .at) a (z .args .at) (z .pre .2))
+answer-requires c κs = (c .before .before .before .before .before .before .before .pre .0, entry-head (topOf (c .before .before .before .before .before .before .before .args .page .now)) (conditionsOf (c .before .before .before .before .before .before .before .args .page .now)) (usedOf (c .before .before .before .before .before .before .before .args .page .now) - c .before .before .before .before .before .before .before .args .at) (c .before .before .before .before .before .before .before .args .page .now) (c .before .before .before .before .before .before .before .args .at) (c .before .before .before .before .before .before .before .pre .2))
 
 letter-requires : tie.Need-letter-requires
 letter-requires c κs = search needs
@@ -48,11 +43,11 @@ letter-requires c κs = search needs
 print-answer-requires : tie.Need-print-answer-requires
 print-answer-requires c κs = search needs
 
+same-length : tie.Need-same-length
+same-length c = search needs
+
 returns-2 : tie.Need-returns-2
-returns-2 c =
-    let e = c .before .before .before .before .before in
-    let z = e .before .before .before in
-    a-query (z .args .page .now) (z .args .at) (e .if1 .left)
+returns-2 c = a-query (c .before .before .before .before .before .before .before .before .before .before .before .before .args .page .now) (c .before .before .before .before .before .before .before .before .before .before .before .before .args .at) (c .before .before .before .before .before .before .before .before .if1 .left)
 
 pub print-line-spec : {M : Type 1} → statement M
 print-line-spec =
@@ -70,4 +65,5 @@ print-line-spec =
     answer-requires
     letter-requires
     print-answer-requires
+    same-length
     returns-2)

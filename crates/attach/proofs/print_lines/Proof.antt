@@ -1,85 +1,50 @@
 -- `attach::print_lines` meets its contract: a turn passes one line, `Printing`. Assumes nothing.
-use Prim.Native.Nat.{_+_, _-_, _≤_}
-use mathlib.Core.Path.{refl}
+use mathlib.Core.Path.{_≡_, refl, _∙_}
+use Prim.Native.Nat.{_-_}
 use native.Mathlib.Omega.{arith}
-use lib.ListN.{length}
-use Rattle.page.proofs.Scanning.{entry-ok, room, next-in}
+use lib.ListN.{length, drop}
+use Rattle.semantics.specs.Area.{lineAt}
+use Rattle.page.proofs.Scanning.{entry-ok, room, entry-here}
 use Rattle.page.proofs.Head.{head-of}
-use Rattle.attach.proofs.Printing.{Printing, printing-first, printing-next, printing-last}
+use Rattle.attach.proofs.Printing.{line-most, Printing, printing-first, printing-next, printing-last}
 use Rattle.attach.proofs.print_lines.Statement.{statement}
 use Rattle.attach.proofs.print_lines.Tie as tie
 
 abbrev Inv-loop : tie.InvT-loop
-Inv-loop page lines at₀ passed₀ count₀ at passed count = Printing page at passed count
+Inv-loop page workspace₀ lines line₀ count₀ workspace line count = (length workspace ≡ length workspace₀) × Printing page (line .at) (line .passed) count
 
 abbrev μ-loop : tie.MeasureT-loop
-μ-loop page lines at₀ passed₀ count₀ at passed count = lines - passed
-
--- an entry takes at least four numbers
-four-in : (c : tie.In-loop Inv-loop μ-loop) → c .before .loop .at + 4 ≤ length (c .before .before .before .before .args .page .now)
-four-in c = room (c .before .before .before .before .args .page .now) (c .before .loop .inv .scan) (omega arith)
+μ-loop page workspace₀ lines line₀ count₀ workspace line count = lines - line .passed
 
 shared-slice-read-lines : tie.Need-shared-slice-read-lines Inv-loop μ-loop
-shared-slice-read-lines c = omega (arith, head-of (c .before .before .args .page .now) (c .before .before .pre))
+shared-slice-read-lines c = omega (arith, head-of (c .before .before .before .args .page .now) (c .before .before .before .pre))
+
+first-requires : tie.Need-first-requires Inv-loop μ-loop
+first-requires c κs = tt
 
 loop-holds : tie.Need-loop-holds Inv-loop μ-loop
-loop-holds c = printing-first (c .before .before .args .page .now) (c .before .before .pre)
+loop-holds c = (refl, printing-first (c .before .before .before .before .args .page .now) (c .before .before .before .before .pre) (c .first .ensures))
 
 print-line-requires : tie.Need-print-line-requires Inv-loop μ-loop
-print-line-requires c κs =
-    let z = c .before .before .before .before in
-    (z .pre, four-in c, entry-ok (z .args .page .now) (c .before .loop .inv .scan) (omega arith))
+print-line-requires c κs = let s = c .before .before .before .loop .inv .1 .scan in (c .before .before .before .before .before .before .before .before .pre, room (c .before .before .before .before .before .before .before .before .args .page .now) s (omega arith), entry-ok (c .before .before .before .before .before .before .before .before .args .page .now) s (omega arith))
 
 add-count : tie.Need-add-count Inv-loop μ-loop
-add-count c =
-    let z = c .before .before .before .before .before in
-    let n = printing-next (z .args .page .now) (c .before .before .loop .inv) (omega arith) (c .print-line .ensures) refl in
-    omega (arith, n .few, head-of (z .args .page .now) (z .pre), c .before .loop-test .taken)
+add-count c = omega (arith, c .before .before .before .before .before .before .loop .inv .1 .few, line-most (lineAt (drop (c .before .before .before .before .before .before .loop .line .at) (c .before .before .before .before .before .before .before .before .before .before .before .args .page .now))), c .before .before .print-line .ensures, head-of (c .before .before .before .before .before .before .before .before .before .before .before .args .page .now) (c .before .before .before .before .before .before .before .before .before .before .before .pre))
 
-add-span-of : tie.Need-add-span-of Inv-loop μ-loop
-add-span-of c = omega (arith, four-in (c .before), c .before .before .before .before .before .good)
-
-mul-span-of : tie.Need-mul-span-of Inv-loop μ-loop
-mul-span-of c = omega (arith, four-in (c .before), c .before .before .before .before .before .good)
-
-shared-slice-read-span-of : tie.Need-shared-slice-read-span-of Inv-loop μ-loop
-shared-slice-read-span-of c = omega (arith, four-in (c .before .before))
-
-add-span-of-2 : tie.Need-add-span-of-2 Inv-loop μ-loop
-add-span-of-2 c = omega (arith, four-in (c .before .before), c .before .before .before .before .before .before .good)
-
-mul-span-of-2 : tie.Need-mul-span-of-2 Inv-loop μ-loop
-mul-span-of-2 c = omega (arith, four-in (c .before .before), c .before .before .before .before .before .before .good)
-
-shared-slice-read-span-of-2 : tie.Need-shared-slice-read-span-of-2 Inv-loop μ-loop
-shared-slice-read-span-of-2 c = omega (arith, four-in (c .before .before .before))
-
-span-of-requires : tie.Need-span-of-requires Inv-loop μ-loop
-span-of-requires c κs = tt
-
-add-at : tie.Need-add-at Inv-loop μ-loop
-add-at c =
-    let l = c .before .before .before .before in
-    let z = l .before .before .before .before in
-    omega (arith, z .good, c .span-of .ensures, next-in (z .args .page .now) (l .before .loop .inv .scan) (omega arith))
-
-add-passed : tie.Need-add-passed Inv-loop μ-loop
-add-passed c =
-    let l = c .before .before .before .before in
-    let z = l .before .before .before .before in
-    omega (arith, l .loop-test .taken, head-of (z .args .page .now) (z .pre))
+next-requires : tie.Need-next-requires Inv-loop μ-loop
+next-requires c κs = (entry-here (c .before .before .before .before .before .before .before .before .before .before .before .args .page .now) (c .before .before .before .before .before .before .loop .inv .1 .scan) (omega arith), omega (arith, head-of (c .before .before .before .before .before .before .before .before .before .before .before .args .page .now) (c .before .before .before .before .before .before .before .before .before .before .before .pre)))
 
 loop-less : tie.Need-loop-less Inv-loop μ-loop
-loop-less c = omega (arith, c .before .before .before .before .loop-test .taken)
+loop-less c = omega (arith, c .next .ensures .count)
 
 loop-again : tie.Need-loop-again Inv-loop μ-loop
-loop-again c =
-    let l = c .before .before .before .before in
-    let z = l .before .before .before .before in
-    printing-next (z .args .page .now) (l .before .loop .inv) (omega (arith, l .loop-test .taken)) (c .before .before .before .print-line .ensures) (c .span-of .ensures)
+loop-again c = (c .before .before .before .print-line .kept .1 .1 .0 ∙ c .before .before .before .before .before .before .before .loop .inv .0, printing-next (c .before .before .before .before .before .before .before .before .before .before .before .before .args .page .now) (c .before .before .before .before .before .before .before .loop .inv .1) (omega arith) (c .before .before .before .print-line .ensures) (c .next .ensures))
+
+same-length : tie.Need-same-length Inv-loop μ-loop
+same-length c = c .before .before .loop .inv .0
 
 returns : tie.Need-returns Inv-loop μ-loop
-returns c = printing-last (c .before .before .before .before .args .page .now) (c .before .loop .inv) (c .loop-test .left)
+returns c = printing-last (c .before .before .before .before .before .before .before .args .page .now) (c .before .before .loop .inv .1) (omega arith)
 
 pub print-lines-spec : {M : Type 1} → statement M
 print-lines-spec =
@@ -88,18 +53,12 @@ print-lines-spec =
     Inv-loop
     μ-loop
     shared-slice-read-lines
+    first-requires
     loop-holds
     print-line-requires
     add-count
-    add-span-of
-    mul-span-of
-    shared-slice-read-span-of
-    add-span-of-2
-    mul-span-of-2
-    shared-slice-read-span-of-2
-    span-of-requires
-    add-at
-    add-passed
+    next-requires
     loop-less
     loop-again
+    same-length
     returns)

@@ -6,7 +6,7 @@ use Rattle.attach.proofs.print_page.Statement.{statement}
 use Rattle.attach.proofs.print_page.Tie as tie
 
 shared-slice-read-print-top : tie.Need-shared-slice-read-print-top
-shared-slice-read-print-top c = omega (arith, head-of (c .before .before .args .page .now) (c .before .before .pre))
+shared-slice-read-print-top c = omega (arith, head-of (c .before .before .before .args .page .now) (c .before .before .before .pre))
 
 print-top-requires : tie.Need-print-top-requires
 print-top-requires c κs = search needs
@@ -16,6 +16,9 @@ print-lines-requires c κs = search needs
 
 print-end-requires : tie.Need-print-end-requires
 print-end-requires c κs = search needs
+
+same-length : tie.Need-same-length
+same-length c = search needs
 
 returns : tie.Need-returns
 returns c = search needs
@@ -28,4 +31,5 @@ print-page-spec =
     print-top-requires
     print-lines-requires
     print-end-requires
+    same-length
     returns)

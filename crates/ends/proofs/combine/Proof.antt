@@ -1,6 +1,6 @@
 -- `ends::combine` meets its contract, op by op. Assumes nothing.
 use native.Mathlib.Omega.{arith}
-use Rattle.page.proofs.Work.{small-product}
+use Rattle.page.proofs.Entries.{small-product}
 use Rattle.ends.proofs.Both.{combine-m, combine-x, combine-l, combine-b, combine-p}
 use borrow.Author.Needs.{needs}
 use Rattle.ends.proofs.combine.Statement.{statement}

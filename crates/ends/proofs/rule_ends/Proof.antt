@@ -5,7 +5,7 @@ use native.Mathlib.Omega.{arith}
 use borrow.Author.Needs.{needs}
 use Rattle.semantics.specs.Area.{topOf}
 use Rattle.semantics.specs.Grade.{lower, upper, combine}
-use Rattle.page.proofs.Work.{small-product}
+use Rattle.page.proofs.Entries.{small-product}
 use Rattle.page.proofs.Head.{head-of}
 use Rattle.value.specs.LineEnds.{Folded}
 use Rattle.value.proofs.RuleEnds.{rest, fold-in, rule-end-is}

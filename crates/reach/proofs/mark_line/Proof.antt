@@ -3,7 +3,7 @@ use mathlib.Core.List.{[]}
 use native.Mathlib.Omega.{arith}
 use borrow.Author.Needs.{needs}
 use Rattle.semantics.specs.Area.{topOf, conditionsOf}
-use Rattle.page.proofs.Bodies.{four-in, rule-at}
+use Rattle.page.proofs.Entries.{four-in, rule-at}
 use Rattle.reach.proofs.Adding.{adds-none, adds-as}
 use Rattle.reach.proofs.Naming.{head-in, names-other, names-fact, names-query, names-rule}
 use Rattle.reach.proofs.mark_line.Statement.{statement}
@@ -15,7 +15,7 @@ mul-c c = search needs
 shared-slice-read-c : tie.Need-shared-slice-read-c
 shared-slice-read-c c =
     let z = c .before .before .before .before in
-    omega (arith, four-in (topOf (z .args .a .now)) (conditionsOf (z .args .a .now)) (z .args .left) (z .args .a .now) (z .args .at) [] 0 (z .pre .0) (z .pre .2))
+    omega (arith, four-in (topOf (z .args .a .now)) (conditionsOf (z .args .a .now)) (z .args .left) (z .args .a .now) (z .args .at) (z .pre .0) (z .pre .2))
 
 cast-c : tie.Need-cast-c
 cast-c c =
@@ -31,7 +31,7 @@ mul-k c = search needs
 shared-slice-read-k : tie.Need-shared-slice-read-k
 shared-slice-read-k c =
     let z = c .before .before .before .before .before in
-    omega (arith, four-in (topOf (z .args .a .now)) (conditionsOf (z .args .a .now)) (z .args .left) (z .args .a .now) (z .args .at) [] 0 (z .pre .0) (z .pre .2))
+    omega (arith, four-in (topOf (z .args .a .now)) (conditionsOf (z .args .a .now)) (z .args .left) (z .args .a .now) (z .args .at) (z .pre .0) (z .pre .2))
 
 shared-slice-read-if1 : tie.Need-shared-slice-read-if1
 shared-slice-read-if1 c =
@@ -41,7 +41,7 @@ shared-slice-read-if1 c =
 mark-literals-requires : tie.Need-mark-literals-requires
 mark-literals-requires c κs =
     let z = c .before .before .before .before .before .before .before .before .before .before in (
-      rule-at (topOf (z .args .a .now)) (conditionsOf (z .args .a .now)) (z .args .left) (z .args .a .now) (z .args .at) [] 0 (z .pre .0) (z .pre .2) (omega arith) (omega arith),
+      rule-at (topOf (z .args .a .now)) (conditionsOf (z .args .a .now)) (z .args .left) (z .args .a .now) (z .args .at) (z .pre .0) (z .pre .2) (omega arith) (omega arith),
       z .pre .1,
       z .pre .4,
     )

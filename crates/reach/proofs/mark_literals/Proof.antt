@@ -7,7 +7,7 @@ use borrow.Author.Needs.{needs}
 use lib.ListN.{getD, take, drop}
 use Rattle.semantics.specs.Area.{literalOf, topOf, conditionsOf}
 use Rattle.semantics.specs.Page.{mentions}
-use Rattle.page.proofs.Work.{code-in}
+use Rattle.page.proofs.Entries.{code-in}
 use Rattle.reach.proofs.Adding.{Adding, adding-first, adding-next, adding-last, adding-few, adds-few}
 use Rattle.reach.proofs.Naming.{mentions-on, mentions-none}
 use Rattle.reach.proofs.mark_literals.Statement.{statement}
@@ -54,13 +54,13 @@ shared-slice-read-code c = search needs
 cast-mark : tie.Need-cast-mark Inv-loop μ-loop
 cast-mark c =
     let z = c .before .before .before .before .before .before .before in
-    omega (arith, z .pre .1, code-in (topOf (z .args .a .now)) (conditionsOf (z .args .a .now)) (z .args .a .now) (z .args .at) [] (z .pre .0) (c .before .before .before .loop .j) (omega arith))
+    omega (arith, z .pre .1, code-in (topOf (z .args .a .now)) (conditionsOf (z .args .a .now)) (z .args .a .now) (z .args .at) (z .pre .0) (c .before .before .before .loop .j) (omega arith))
 
 mark-requires : tie.Need-mark-requires Inv-loop μ-loop
 mark-requires c κs =
     let z = c .before .before .before .before .before .before .before in
     let h = c .before .before .before .loop in
-    (h .inv .1 .size, omega (arith, z .pre .1, code-in (topOf (z .args .a .now)) (conditionsOf (z .args .a .now)) (z .args .a .now) (z .args .at) [] (z .pre .0) (h .j) (omega arith)))
+    (h .inv .1 .size, omega (arith, z .pre .1, code-in (topOf (z .args .a .now)) (conditionsOf (z .args .a .now)) (z .args .a .now) (z .args .at) (z .pre .0) (h .j) (omega arith)))
 
 add-new : tie.Need-add-new Inv-loop μ-loop
 add-new c = omega (arith, adding-few (c .before .before .before .before .before .before .loop .inv .1), adds-few (c .before .before .mark .ensures))

@@ -4,7 +4,7 @@ use native.Mathlib.Omega.{arith}
 use lib.ListN.{length, getD}
 use Rattle.value.specs.LineEnds.{product}
 use Rattle.semantics.proofs.Ops.{divided-bounded}
-use Rattle.page.proofs.Work.{small-product}
+use Rattle.page.proofs.Entries.{small-product}
 use Rattle.value.specs.Table.{side}
 use Rattle.value.proofs.Folds.{Folding, folding-first, folding-next, folding-last}
 use Rattle.value.proofs.fold_product.Statement.{statement}

@@ -1,7 +1,7 @@
 -- `rule_end` folds the op over the numbers of the literals and applies the weight (`rule-end-is`).
 use native.Mathlib.Omega.{arith}
 use borrow.Author.Needs.{needs}
-use Rattle.page.proofs.Work.{small-product}
+use Rattle.page.proofs.Entries.{small-product}
 use Rattle.page.proofs.Head.{head-of}
 use Rattle.value.proofs.RuleEnds.{code-under, foldable, fold-in, rule-end-is}
 use Rattle.value.proofs.rule_end.Statement.{statement}

@@ -1,0 +1,6 @@
+-- a query list of one condition
+pub mod OneQuery
+-- a run of one query, driven to rest
+pub mod PlainAnswer
+-- the closed reading of one query
+pub mod ClosedAnswer

@@ -1,0 +1,2 @@
+-- what a Q line asks
+pub mod Asked

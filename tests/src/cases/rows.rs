@@ -1,0 +1,257 @@
+//! Stated figures beside the rows of section "Bench figures": damaged texts, lines shown, runs taken step by step, closed
+//! readings of a whole list, and two examples of source document 000.
+
+use crate::answer::*;
+use crate::area::PAGE_MAX;
+use crate::runner::Case;
+use crate::trial::{figure, Check, Trial};
+
+pub fn cases() -> Vec<Case> {
+    let case = |name, each| Case {
+        name,
+        items: 1,
+        each,
+        must_see: &[],
+    };
+    vec![
+        case("texts_have_their_stated_outcome", texts),
+        case("long_texts_have_their_stated_outcome", long_texts),
+        case("lines_are_shown_as_stated", shown_lines),
+        case("row_02_goes_on_after_it_is_spent", row_02_step_by_step),
+        case("row_07_falls_by_one_grade_at_a_time", row_07_step_by_step),
+        case("closed_rows_answer_whole_lists", closed_rows),
+        case("closed_running_example_of_source_000", running_example),
+        case("closed_insurance_example_of_source_000", insurance_example),
+        case("closed_refuses_as_stated", closed_refusals),
+    ]
+}
+
+/// The used length of a text that is read, or the number and the line of its refusal.
+type Outcome = Result<usize, (Refusal, u32)>;
+
+const TEXTS: &[(&str, &[u8], Outcome)] = &[
+    ("condition 511 of 512", b"G,1,512\nF,511,0,1\n", Ok(8)),
+    ("condition 512 of 512", b"G,1,512\nF,512,0,1\n", Err((4, 2))),
+    ("literal 511 of 512", b"G,1,512\nR,0,1,M,!511\n", Ok(9)),
+    (
+        "literal 512 of 512",
+        b"G,1,512\nR,0,1,M,0,!512\n",
+        Err((4, 2)),
+    ),
+    ("top 200", b"G,200,1\nF,0,200,200\n", Ok(8)),
+    (
+        "eight literals",
+        b"G,1,1\nR,0,1,M,0,!0,0,!0,0,!0,0,!0\n",
+        Ok(16),
+    ),
+    (
+        "nine literals",
+        b"G,1,1\nR,0,1,M,0,!0,0,!0,0,!0,0,!0,0\n",
+        Err((3, 2)),
+    ),
+    ("no final byte 10", b"G,1,1\nQ,K,0", Err((2, 0))),
+    ("an empty line", b"G,1,1\n\nQ,K,0\n", Err((3, 2))),
+    ("CR LF", b"G,1,1\r\nQ,K,0\r\n", Err((3, 1))),
+    ("a space", b"G,1,1\nQ,K, 0\n", Err((3, 2))),
+    ("a NUL", b"G,1,1\nQ,K,0\0\n", Err((3, 2))),
+    ("no G", b"Q,K,0\n", Err((3, 1))),
+    ("G with a third number", b"G,1,1,1\n", Err((3, 1))),
+    ("G with one number", b"G,1\n", Err((3, 1))),
+    (
+        "the page of attach",
+        b"G,10,2\nF,0,2,2\nF,1,3,3\nR,0,10,M,!1\nR,1,10,M,!0\nQ,K,0\nQ,W,1\n",
+        Ok(30),
+    ),
+    (
+        "all ops",
+        b"G,9,1\nR,0,1,M,0\nR,0,2,X,0\nR,0,3,L,0\nR,0,4,B,0\nR,0,9,P,0\n",
+        Ok(29),
+    ),
+    ("another op", b"G,9,1\nR,0,1,A,0\n", Err((3, 2))),
+    ("another reading", b"G,9,1\nQ,X,0\n", Err((3, 2))),
+    ("two letters", b"G,9,1\nFF,0,1,1\n", Err((3, 2))),
+    ("no literal", b"G,9,1\nR,0,1,M\n", Err((3, 2))),
+    ("an empty literal", b"G,9,1\nR,0,1,M,\n", Err((3, 2))),
+    ("a lone !", b"G,9,1\nR,0,1,M,!\n", Err((3, 2))),
+    ("a missing field", b"G,9,1\nF,0,1\n", Err((3, 2))),
+    ("an extra field", b"G,9,1\nF,0,1,1,1\n", Err((3, 2))),
+    ("four digits", b"G,9,1\nF,0,1000,1\n", Err((3, 2))),
+    ("three digits", b"G,9,1\nF,0,0,999\n", Err((4, 2))),
+    ("weight 0", b"G,9,1\nR,0,0,M,0\n", Err((4, 2))),
+    ("weight 10", b"G,9,1\nR,0,10,M,0\n", Err((4, 2))),
+    ("form before range", b"G,9,1\nF,7,9,8,x\n", Err((3, 2))),
+    ("the first bad line", b"G,9,1\nF,7,9,8\nx\n", Err((4, 2))),
+];
+
+/// Reads a text into an area of this length.
+fn outcome(trial: &mut Trial, text: &[u8], length: usize) -> Check<Outcome> {
+    trial.pages += 1;
+    let mut area = trial.rubbish(length);
+    let got = trial.read(text, &mut area)?;
+    Ok(got.map_err(|refusal| (refusal.number, refusal.line)))
+}
+
+fn texts(trial: &mut Trial, _: u64) -> Check {
+    for (name, text, wanted) in TEXTS {
+        figure(name, outcome(trial, text, 64)?, *wanted)?;
+    }
+    let text = b"G,9,1\nQ,K,0\n";
+    figure("area of 7", outcome(trial, text, 7)?, Err((6, 0)))?;
+    figure("area of 8", outcome(trial, text, 8)?, Ok(8))
+}
+
+fn long_texts(trial: &mut Trial, _: u64) -> Check {
+    let mut text = b"G,1,1\n".to_vec();
+    text.extend(b"Q,K,0\n".repeat(1024));
+    figure("1,025 lines", outcome(trial, &text, PAGE_MAX)?, Ok(4100))?;
+    text.extend(b"x\n");
+    let got = outcome(trial, &text, PAGE_MAX)?;
+    figure("a 1,026th line", got, Err((5, 1026)))?;
+    let got = outcome(trial, &[10; 65_535], PAGE_MAX)?;
+    figure("65,535 bytes", got, Err((3, 1)))?;
+    let got = outcome(trial, &[10; 65_536], PAGE_MAX)?;
+    figure("65,536 bytes", got, Err((1, 0)))
+}
+
+fn shown_lines(trial: &mut Trial, _: u64) -> Check {
+    let lines: [(&str, &str, usize, &str); 8] = [
+        ("line 0", "one\ntwo\n", 0, ""),
+        ("line 1", "one\ntwo\n", 1, "one"),
+        ("line 2", "one\ntwo\n", 2, "two"),
+        ("line 3 of 2", "one\ntwo\n", 3, ""),
+        ("a last line without byte 10", "one\ntwo", 2, "two"),
+        ("an empty line shown", "one\n\nthree", 2, ""),
+        ("the largest number", "one\ntwo\n", usize::MAX, ""),
+        ("no bytes", "", 1, ""),
+    ];
+    for (name, text, number, wanted) in lines {
+        let shown = trial.show_line(text.as_bytes(), number)?;
+        let got = shown.map_or("", |(start, length)| &text[start..start + length]);
+        figure(name, got, wanted)?;
+    }
+    Ok(())
+}
+
+/// Low, high and rest of a condition.
+fn value(trial: &mut Trial, page: &[u16], run: &[u16], cond: u32) -> Check<(u16, u16, bool)> {
+    match trial.value(page, run, cond)? {
+        Ok(valued) => Ok((valued.low, valued.high, valued.rest)),
+        Err(number) => Err(format!("the value is refused {number}")),
+    }
+}
+
+/// The page of the `attach` example.
+const RIVALS: [u16; 30] = [
+    10, 2, 6, 30, 0, 0, 2, 2, 1, 0, 3, 3, 0, 1, 10, 1, 3, 1, 1, 10, 1, 1, 0, 6, 0, 0, 1, 6, 1, 0,
+];
+
+fn row_02_step_by_step(trial: &mut Trial, _: u64) -> Check {
+    trial.pages += 1;
+    let mut run = [0, 10, 2, 0, 10, 2];
+    for (allowance, taken, rest) in [(3, 3, false), (9, 1, true)] {
+        let driven = trial.drive(&RIVALS, &mut run, allowance)?;
+        figure("the drive", driven, Ok(Driven { taken, rest }))?;
+        let got = value(trial, &RIVALS, &run, 0)?;
+        figure("the value of 0", got, (2, 7, rest))?;
+        let got = value(trial, &RIVALS, &run, 1)?;
+        figure("the value of 1", got, (3, 8, rest))?;
+        let got = trial.evaluate(&RIVALS, &mut run, 0)?;
+        figure("evaluating 0", got, Err(NOT_WAITING))?;
+    }
+    let got = trial.value(&RIVALS, &run, 2)?.err();
+    figure("the value of 2", got, Some(CONDITION_RANGE))
+}
+
+fn row_07_step_by_step(trial: &mut Trial, _: u64) -> Check {
+    trial.pages += 1;
+    let page = [10, 1, 1, 9, 0, 1, 9, 1, 0];
+    let mut run = [0, 10, 2];
+    for high in (0..10).rev() {
+        let got = trial.evaluate(&page, &mut run, 0)?;
+        figure("an evaluation", got, Ok(true))?;
+        let got = value(trial, &page, &run, 0)?;
+        figure("the value after it", got, (0, high, false))?;
+    }
+    for wanted in [Ok(false), Err(NOT_WAITING)] {
+        let got = trial.evaluate(&page, &mut run, 0)?;
+        figure("the last evaluations", got, wanted)?;
+        let got = value(trial, &page, &run, 0)?;
+        figure("the value after them", got, (0, 0, true))?;
+    }
+    let driven = trial.drive(&page, &mut run, 0)?;
+    let wanted = Driven {
+        taken: 0,
+        rest: true,
+    };
+    figure("a drive at rest", driven, Ok(wanted))
+}
+
+/// Reads closed with scratch and answers for up to six conditions.
+fn read_closed(
+    trial: &mut Trial,
+    page: &[u16],
+    queries: &[u16],
+) -> Check<Result<Vec<(u16, u16)>, Refusal>> {
+    trial.pages += 1;
+    let (mut scratch, mut answers) = ([9; 36], [9; 32]);
+    let code = trial.closed(page, queries, &mut scratch, &mut answers)?;
+    Ok(code.map(|()| {
+        answers[..2 * queries.len()]
+            .chunks_exact(2)
+            .map(|pair| (pair[0], pair[1]))
+            .collect()
+    }))
+}
+
+/// The closed answers must be these, in list order.
+fn answers(trial: &mut Trial, page: &[u16], queries: &[u16], wanted: &[(u16, u16)]) -> Check {
+    let got = read_closed(trial, page, queries)?;
+    figure("the closed answers", got, Ok(wanted.to_vec()))
+}
+
+/// Rows 1, 3, 5 and 6.
+fn closed_rows(trial: &mut Trial, _: u64) -> Check {
+    answers(trial, &RIVALS, &[0, 1], &[(2, 7), (3, 8)])?;
+    let page = [
+        10, 3, 4, 23, 0, 0, 3, 3, 2, 0, 6, 6, 0, 1, 10, 2, 2, 4, 1, 1, 10, 1, 2,
+    ];
+    answers(trial, &page, &[0, 1, 2], &[(3, 3), (0, 0), (6, 6)])?;
+    answers(trial, &[1, 1, 1, 9, 0, 1, 1, 1, 1], &[0], &[(0, 1)])?;
+    answers(trial, &SELF_SUPPORT, &[0], &[(0, 0)])
+}
+
+/// Row 6: a condition that only itself supports.
+const SELF_SUPPORT: [u16; 9] = [1, 1, 1, 9, 0, 1, 1, 1, 0];
+
+/// Example 8 of source 000 at top 10: A, B, C, D are 0 to 3, and 4 holds 0.6.
+fn running_example(trial: &mut Trial, _: u64) -> Check {
+    let page = [
+        10, 5, 6, 35, 0, 2, 10, 2, 3, 4, 1, 2, 10, 2, 1, 6, 2, 0, 3, 3, 2, 1, 10, 2, 6, 8, 3, 1,
+        10, 1, 6, 4, 0, 6, 6,
+    ];
+    let wanted = [(0, 0), (3, 3), (0, 7), (3, 10)];
+    answers(trial, &page, &[3, 2, 1, 0], &wanted)
+}
+
+/// Example 7 of source 000 at top 100: experience, risk, sports car, young, good driver are 0 to 4.
+fn insurance_example(trial: &mut Trial, _: u64) -> Check {
+    let page = [
+        100, 5, 7, 38, 0, 0, 70, 70, 1, 0, 50, 50, 2, 0, 80, 80, 4, 1, 100, 2, 0, 3, 1, 1, 80, 1,
+        6, 1, 1, 80, 1, 4, 1, 1, 100, 2, 0, 9,
+    ];
+    let wanted = [(70, 70), (64, 70), (80, 80), (0, 0), (30, 36)];
+    answers(trial, &page, &[0, 1, 2, 3, 4], &wanted)
+}
+
+fn closed_refusals(trial: &mut Trial, _: u64) -> Check {
+    let cases: [(&[u16], &[u16], Refusal); 3] = [
+        (&SELF_SUPPORT[..8], &[0, 1], PAGE_UNSOUND),
+        (&SELF_SUPPORT, &[], QUERY_COUNT),
+        (&SELF_SUPPORT, &[0, 1], QUERY_RANGE),
+    ];
+    for (page, queries, number) in cases {
+        let got = read_closed(trial, page, queries)?;
+        figure("the refusal", got, Err(number))?;
+    }
+    Ok(())
+}

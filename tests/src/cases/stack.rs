@@ -1,0 +1,411 @@
+//! The stack of every exported function, on the largest pages, against the figures of the header.
+
+use std::sync::atomic::{AtomicUsize, Ordering::SeqCst};
+
+use crate::answer::*;
+use crate::area::encode;
+use crate::ffi::*;
+use crate::gen;
+use crate::page::Page;
+use crate::plain;
+use crate::runner::Case;
+use crate::stack::{header_figure, Stack};
+use crate::trial::{figure, Check, Trial};
+use crate::workspace;
+
+pub fn cases() -> Vec<Case> {
+    vec![
+        Case {
+            name: "stack_figures_of_the_header_keep_to_their_limits",
+            items: 1,
+            each: figures_of_the_header,
+            must_see: &[],
+        },
+        Case {
+            name: "no_call_takes_more_stack_than_the_header_says",
+            items: 8,
+            each: on_a_large_page,
+            must_see: &[],
+        },
+    ]
+}
+
+/// An exported function: its name in the header's figure, and the most that the figure may be.
+struct Function {
+    figure: &'static str,
+    limit: usize,
+    /// The deepest stack measured so far.
+    deepest: AtomicUsize,
+}
+
+const fn function(figure: &'static str, limit: usize) -> Function {
+    Function {
+        figure,
+        limit,
+        deepest: AtomicUsize::new(0),
+    }
+}
+
+static READ: Function = function("SIMJORAD_STACK_READ", 512);
+static SHOW_LINE: Function = function("SIMJORAD_STACK_SHOW_LINE", 2048);
+static OPEN: Function = function("SIMJORAD_STACK_OPEN", 2048);
+static EVALUATE: Function = function("SIMJORAD_STACK_EVALUATE", 2048);
+static DRIVE: Function = function("SIMJORAD_STACK_DRIVE", 2048);
+static DRIVE_INDEXED: Function = function("SIMJORAD_STACK_DRIVE_INDEXED", 3072);
+static VALUE: Function = function("SIMJORAD_STACK_VALUE", 2048);
+static CLOSED: Function = function("SIMJORAD_STACK_CLOSED", 2048);
+static CLOSED_INDEXED: Function = function("SIMJORAD_STACK_CLOSED_INDEXED", 3072);
+
+static FUNCTIONS: [&Function; 9] = [
+    &READ,
+    &SHOW_LINE,
+    &OPEN,
+    &EVALUATE,
+    &DRIVE,
+    &DRIVE_INDEXED,
+    &VALUE,
+    &CLOSED,
+    &CLOSED_INDEXED,
+];
+
+/// The reference solver does not keep to the figures; a planted fault goes far past this.
+const STANDIN_STACK: usize = 65_536;
+
+/// Evaluations of a drive.
+const ALLOWANCE: usize = 3000;
+
+fn figures_of_the_header(_: &mut Trial, _: u64) -> Check {
+    let mut over = Vec::new();
+    for function in FUNCTIONS {
+        let stated = header_figure(function.figure)?;
+        if stated > function.limit {
+            over.push(format!(
+                "{} is {stated}, more than {}",
+                function.figure, function.limit
+            ));
+        }
+    }
+    figure("the figures over their limits", over, Vec::new())?;
+    let stated = header_figure("SIMJORAD_WORKSPACE_MAX")?;
+    figure("SIMJORAD_WORKSPACE_MAX", stated, workspace::WORKSPACE_MAX)
+}
+
+/// Prints the deepest stack measured of each function.
+pub fn print() {
+    for function in FUNCTIONS {
+        let stated = header_figure(function.figure).unwrap_or(0);
+        let measured = function.deepest.load(SeqCst);
+        println!("{} {stated}, measured {measured}", function.figure);
+    }
+}
+
+/// The slices and out-parameters of a call.
+#[derive(Clone, Default)]
+struct Lent {
+    text: Vec<u8>,
+    page: Vec<u16>,
+    queries: Vec<u16>,
+    /// The page area to write, the run area or the scratch.
+    area: Vec<u16>,
+    answers: Vec<u16>,
+    workspace: Vec<u16>,
+    outs: [u64; 3],
+}
+
+impl Lent {
+    fn text(&self) -> Vec<usize> {
+        vec![self.text.as_ptr() as usize, self.text.len()]
+    }
+
+    fn page(&self) -> Vec<usize> {
+        vec![self.page.as_ptr() as usize, self.page.len()]
+    }
+
+    fn queries(&self) -> Vec<usize> {
+        vec![self.queries.as_ptr() as usize, self.queries.len()]
+    }
+
+    fn area(&mut self) -> Vec<usize> {
+        vec![self.area.as_mut_ptr() as usize, self.area.len()]
+    }
+
+    fn answers(&mut self) -> Vec<usize> {
+        vec![self.answers.as_mut_ptr() as usize, self.answers.len()]
+    }
+
+    fn workspace(&mut self) -> Vec<usize> {
+        vec![self.workspace.as_mut_ptr() as usize, self.workspace.len()]
+    }
+
+    fn out(&mut self, number: usize) -> Vec<usize> {
+        vec![&mut self.outs[number] as *mut u64 as usize]
+    }
+}
+
+/// The measurements of one page.
+struct Bench<'a> {
+    trial: &'a mut Trial,
+    stack: Stack,
+    /// A call that took more than the header says, if there was one.
+    over: Check,
+}
+
+impl Bench<'_> {
+    /// Makes the call on a stack of its own, compares it with the header and returns the call's code.
+    fn call(
+        &mut self,
+        function: &Function,
+        pointer: *const (),
+        lent: &Lent,
+        arguments: impl Fn(&mut Lent) -> Vec<usize>,
+    ) -> Check<i32> {
+        let mut copy = lent.clone();
+        // SAFETY: the arguments point into the copy, which outlives the call.
+        let (answer, depth) = unsafe {
+            self.stack.measure(pointer, || {
+                copy = lent.clone();
+                arguments(&mut copy)
+            })
+        };
+        self.trial.engine.calls += 2;
+        function.deepest.fetch_max(depth, SeqCst);
+        let stated = if cfg!(feature = "selfcheck") {
+            STANDIN_STACK
+        } else {
+            header_figure(function.figure)?
+        };
+        if depth > stated {
+            self.over = Err(format!(
+                "a call that returns {} takes {depth} bytes of stack, {} is {stated}",
+                answer as i32, function.figure
+            ));
+        }
+        Ok(answer as i32)
+    }
+
+    fn read(&mut self, lent: &Lent) -> Check<i32> {
+        self.call(&READ, simjorad_read as *const (), lent, |lent| {
+            [lent.text(), lent.area(), lent.out(0)].concat()
+        })
+    }
+
+    fn show_line(&mut self, lent: &Lent, number: usize) -> Check<i32> {
+        self.call(&SHOW_LINE, simjorad_show_line as *const (), lent, |lent| {
+            [lent.text(), vec![number], lent.out(0)].concat()
+        })
+    }
+
+    fn open(&mut self, lent: &Lent) -> Check<i32> {
+        self.call(&OPEN, simjorad_open as *const (), lent, |lent| {
+            let slices = [lent.page(), lent.queries(), lent.area()].concat();
+            [slices, lent.out(0), lent.out(1), lent.out(2)].concat()
+        })
+    }
+
+    fn evaluate(&mut self, lent: &Lent, cond: usize) -> Check<i32> {
+        self.call(&EVALUATE, simjorad_evaluate as *const (), lent, |lent| {
+            [lent.page(), lent.area(), vec![cond]].concat()
+        })
+    }
+
+    fn drive(&mut self, lent: &Lent) -> Check<i32> {
+        self.call(&DRIVE, simjorad_drive as *const (), lent, |lent| {
+            [lent.page(), lent.area(), vec![ALLOWANCE], lent.out(0)].concat()
+        })
+    }
+
+    fn drive_indexed(&mut self, lent: &Lent) -> Check<i32> {
+        let pointer = simjorad_drive_indexed as *const ();
+        self.call(&DRIVE_INDEXED, pointer, lent, |lent| {
+            let slices = [lent.page(), lent.area(), lent.workspace()].concat();
+            [slices, vec![ALLOWANCE], lent.out(0)].concat()
+        })
+    }
+
+    fn value(&mut self, lent: &Lent, cond: usize) -> Check<i32> {
+        self.call(&VALUE, simjorad_value as *const (), lent, |lent| {
+            let slices = [lent.page(), lent.area()].concat();
+            [slices, vec![cond], lent.out(0), lent.out(1)].concat()
+        })
+    }
+
+    fn closed(&mut self, lent: &Lent) -> Check<i32> {
+        self.call(&CLOSED, simjorad_closed as *const (), lent, |lent| {
+            [lent.page(), lent.queries(), lent.area(), lent.answers()].concat()
+        })
+    }
+
+    fn closed_indexed(&mut self, lent: &Lent) -> Check<i32> {
+        let pointer = simjorad_closed_indexed as *const ();
+        self.call(&CLOSED_INDEXED, pointer, lent, |lent| {
+            let slices = [lent.page(), lent.queries(), lent.area()].concat();
+            [slices, lent.answers(), lent.workspace()].concat()
+        })
+    }
+
+    /// Texts read, and refused for each cause.
+    fn reads(&mut self, text: &[u8], used: usize) -> Check {
+        let mut lent = Lent {
+            text: text.to_vec(),
+            area: vec![7; used],
+            ..Lent::default()
+        };
+        figure("read", self.read(&lent)?, used as i32)?;
+        lent.area.pop();
+        figure("read", self.read(&lent)?, -AREA_SHORT)?;
+        for (line, number) in [
+            (&b"F,0,0,0\n"[..], LINE_COUNT),
+            (b"Q", TEXT_UNENDED),
+            (&[b'\n'; 65_536], TEXT_TOO_LONG),
+        ] {
+            lent.text = [text, line].concat();
+            figure("read", self.read(&lent)?, -number)?;
+        }
+        // The last line is damaged.
+        let start = text[..text.len() - 1]
+            .iter()
+            .rposition(|byte| *byte == 10)
+            .map_or(0, |at| at + 1);
+        for (line, number) in [
+            (&b"R,1,1,P,0,0,0,0,0,0,0,0,0\n"[..], LINE_FORM),
+            (b"R,1,1,P,0,0,0,0,0,0,0,512\n", LINE_RANGE),
+        ] {
+            lent.text = [&text[..start], line].concat();
+            figure("read", self.read(&lent)?, -number)?;
+        }
+        Ok(())
+    }
+
+    fn shows(&mut self, text: &[u8]) -> Check {
+        let lent = Lent {
+            text: text.to_vec(),
+            ..Lent::default()
+        };
+        for number in [1, 1025, 2000] {
+            self.show_line(&lent, number)?;
+        }
+        Ok(())
+    }
+
+    fn opens(&mut self, good: &Lent) -> Check {
+        figure("open", self.open(good)?, 0)?;
+        let mut bad = good.clone();
+        bad.area.truncate(3 * 512 - 1);
+        figure("open", self.open(&bad)?, -RUN_SHORT)?;
+        bad.queries[15] = 512;
+        figure("open", self.open(&bad)?, -QUERY_RANGE)?;
+        bad.queries.clear();
+        figure("open", self.open(&bad)?, -QUERY_COUNT)?;
+        bad.page.pop();
+        figure("open", self.open(&bad)?, -PAGE_UNSOUND)
+    }
+
+    /// Evaluate, drive and value on an opened run.
+    fn runs(&mut self, good: &Lent) -> Check {
+        let waiting = usize::from(good.queries[0]);
+        for cond in 0..512 {
+            if good.area[3 * cond + 2] == 2 {
+                figure("evaluate", self.evaluate(good, cond)? >= 0, true)?;
+            }
+        }
+        figure("drive", self.drive(good)? >= 0, true)?;
+        figure("value", self.value(good, waiting)?, 0)?;
+        figure("evaluate", self.evaluate(good, 512)?, -CONDITION_RANGE)?;
+        figure("value", self.value(good, 512)?, -CONDITION_RANGE)?;
+        let mut bad = good.clone();
+        bad.area[3 * waiting + 2] = 0;
+        figure("evaluate", self.evaluate(&bad, waiting)?, -NOT_WAITING)?;
+        figure("value", self.value(&bad, waiting)?, -NOT_REACHED)?;
+        bad.area[3 * 511 + 1] = 201;
+        figure("evaluate", self.evaluate(&bad, waiting)?, -RUN_UNSOUND)?;
+        figure("drive", self.drive(&bad)?, -RUN_UNSOUND)?;
+        figure("value", self.value(&bad, waiting)?, -RUN_UNSOUND)?;
+        bad.page.pop();
+        figure("evaluate", self.evaluate(&bad, waiting)?, -PAGE_UNSOUND)?;
+        figure("drive", self.drive(&bad)?, -PAGE_UNSOUND)?;
+        figure("value", self.value(&bad, waiting)?, -PAGE_UNSOUND)
+    }
+
+    /// The indexed drive, with room and without.
+    fn indexed_runs(&mut self, good: &Lent) -> Check {
+        let mut lent = good.clone();
+        for length in self.workspace_lengths(good) {
+            lent.workspace = vec![9; length];
+            figure("drive_indexed", self.drive_indexed(&lent)? >= 0, true)?;
+            let mut bad = lent.clone();
+            bad.area[3 * 511 + 1] = 201;
+            figure("drive_indexed", self.drive_indexed(&bad)?, -RUN_UNSOUND)?;
+            bad.page.pop();
+            figure("drive_indexed", self.drive_indexed(&bad)?, -PAGE_UNSOUND)?;
+        }
+        Ok(())
+    }
+
+    /// The closed reading in both forms, the indexed one with room and without.
+    fn closeds(&mut self, good: &Lent) -> Check {
+        figure("closed", self.closed(good)?, 0)?;
+        for (bad, number) in closed_refusals(good) {
+            figure("closed", self.closed(&bad)?, -number)?;
+        }
+        let mut lent = good.clone();
+        for length in self.workspace_lengths(good) {
+            lent.workspace = vec![9; length];
+            figure("closed_indexed", self.closed_indexed(&lent)?, 0)?;
+            for (bad, number) in closed_refusals(&lent) {
+                figure("closed_indexed", self.closed_indexed(&bad)?, -number)?;
+            }
+        }
+        Ok(())
+    }
+
+    fn workspace_lengths(&self, lent: &Lent) -> [usize; 4] {
+        let needed = workspace::needed(&lent.page);
+        [0, needed - 1, needed, workspace::WORKSPACE_MAX]
+    }
+}
+
+/// A closed reading refused for each cause.
+fn closed_refusals(good: &Lent) -> Vec<(Lent, Refusal)> {
+    let mut bad = good.clone();
+    let mut out = Vec::new();
+    bad.answers.pop();
+    out.push((bad.clone(), ANSWERS_SHORT));
+    bad.area.pop();
+    out.push((bad.clone(), SCRATCH_SHORT));
+    bad.queries[15] = 512;
+    out.push((bad.clone(), QUERY_RANGE));
+    bad.queries.push(0);
+    out.push((bad.clone(), QUERY_COUNT));
+    bad.page.pop();
+    out.push((bad, PAGE_UNSOUND));
+    out
+}
+
+fn on_a_large_page(trial: &mut Trial, item: u64) -> Check {
+    let page: Page = gen::limit_page(&mut trial.rng, item);
+    trial.pages += 1;
+    let area = encode(&page);
+    let queries: Vec<u16> = (0..16).map(|n| 511 - 34 * n).collect();
+    let mut bench = Bench {
+        trial,
+        stack: Stack::new(),
+        over: Ok(()),
+    };
+    bench.reads(&page.text(), area.len())?;
+    bench.shows(&page.text())?;
+    let mut lent = Lent {
+        page: area,
+        queries,
+        area: vec![7; 3 * 512],
+        answers: vec![7; 32],
+        ..Lent::default()
+    };
+    bench.opens(&lent)?;
+    let opened = plain::open(&lent.page, &lent.queries, &mut lent.area);
+    figure("the opening's success", opened.is_ok(), true)?;
+    bench.runs(&lent)?;
+    bench.indexed_runs(&lent)?;
+    lent.area = vec![7; 6 * 512];
+    bench.closeds(&lent)?;
+    bench.over
+}
