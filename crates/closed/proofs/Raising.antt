@@ -31,7 +31,7 @@ use Rattle.closed.specs.Ends.{reads, EndLocal, settledEnd, room}
 use Rattle.closed.specs.Scratch.{baseOf, tableOf, held, reachedAt, settledAt, roomAt, Half, Steady, LineIn, Covered, Raised}
 use Rattle.closed.proofs.EndReads.{line-level, page-ends}
 use Rattle.closed.proofs.Halves.{ends-in, end-in, below-T, settled-others}
-use Rattle.closed.proofs.Scratch.{end-at, base-in, part-is, shut-over, half-table, half-grades, put-here, put-else, put-other, put-negated, put-mark, put-beyond}
+use Rattle.closed.proofs.Scratch.{end-at, base-in, part-is, shut-over, half-table, half-grades, put-here, put-else, put-other, put-negated, put-rest, put-mark, put-beyond}
 
 module _ (a : List ℕ) (ok : sound a ≡ true) where
   pub S : System (conditionsOf a) (topOf a) (T (pageOf a)) (names (pageOf a))
@@ -66,7 +66,7 @@ unfolding room
 room-less e a s s′ h = sum-le (conditionsOf a) _ _ (λ c l. omega (arith, h c l))
 
 pub steady-same : (e : End) (n : ℕ) (s : List ℕ) → Steady e n s s
-steady-same e n s = record { same-length = refl; others = λ c l. refl; marks = λ c l. refl; apart = λ c l r. refl; rises = λ c l. omega arith; beyond = refl }
+steady-same e n s = record { same-length = refl; others = λ c l. refl; marks = λ c l. refl; apart = λ c l r. refl; rises = λ c l. omega arith; negations = λ c l. refl; beyond = refl }
 
 pub steady-on : {e : End} {n : ℕ} {s s′ s″ : List ℕ} → Steady e n s s′ → Steady e n s′ s″ → Steady e n s s″
 steady-on u v =
@@ -76,6 +76,7 @@ steady-on u v =
       marks = λ c l. v .marks c l ∙ u .marks c l;
       apart = λ c l r. v .apart c l (u .marks c l ∙ r) ∙ u .apart c l r;
       rises = λ c l. omega (arith, u .rises c l, v .rises c l);
+      negations = λ c l. v .negations c l ∙ u .negations c l;
       beyond = v .beyond ∙ u .beyond;
     }
 
@@ -189,6 +190,7 @@ module _ (e : End) (a s : List ℕ) (at : ℕ) (H : Half e a s) (x : LineIn a at
             marks = λ c l. put-mark n s h v (H .long) real e c;
             apart = λ c l r. else′ c (λ z. true≢false (sym reached ∙ sym (ap (reachedAt n s) z) ∙ r));
             rises = rises′;
+            negations = put-rest n s h v (H .long) real e;
             beyond = put-beyond n s h v (H .long) real e;
           }
 

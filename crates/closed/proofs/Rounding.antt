@@ -1,22 +1,29 @@
 -- A round in the code's own terms: what each settling asks, and what the round leaves. Assumes nothing.
 use mathlib.Core.Path.{_≡_, refl, sym, _∙_, ap, subst}
 use mathlib.Core.Bool.{Bool, true, false, true≢false}
+use mathlib.Core.Logic.{inl, inr, ⊎-elim}
 use mathlib.Core.List.{List}
 use Prim.Native.Nat.{ℕ, suc, _+_, _*_, _-_, _≤_, _<_}
+use native.Mathlib.Decide.{ℕ-discrete}
 use native.Mathlib.Omega.{arith}
 use lib.ListN.{length, getD, drop}
 use Rattle.fixpoint.specs.Interval.{Interval, Within, Assign}
 use Rattle.fixpoint.specs.Tables.{Turned}
+use Rattle.fixpoint.proofs.Cond.{by-bool}
 use Rattle.fixpoint.proofs.KnowledgeOrder.{pair-eq}
 use Rattle.fixpoint.proofs.Sum.{sum-eq}
 use Rattle.semantics.specs.Area.{pageOf, topOf, conditionsOf}
 use Rattle.semantics.specs.Body.{T, bodyless, unknownByDefault}
 use Rattle.semantics.specs.Grade.{lower, upper}
+use Rattle.page.proofs.Head.{head-of}
+use Rattle.bits.specs.Words.{has}
+use Rattle.index.specs.Parts.{Users}
 use Rattle.closed.specs.Ends.{room}
-use Rattle.closed.specs.Scratch.{held, reachedAt, roomAt, Half, Settled}
-use Rattle.closed.specs.Round.{HighsBegun, LowsBegun, TurnedAt, ToppedAt, closedAt, RoundReady, Rounded, Alternated}
+use Rattle.closed.specs.Scratch.{held, reachedAt, roomAt, Half, RestsAt, Settled}
+use Rattle.closed.specs.Waiting.{WaitSet, AllWait, MaybeIndex, MaybeIndexed}
+use Rattle.closed.specs.Round.{HighsBegun, LowsBegun, Woke, past, LowsWait, TurnedAt, ToppedAt, closedAt, RoundReady, Rounded, Alternated}
 use Rattle.closed.proofs.Scratch.{shut-over}
-use Rattle.closed.proofs.Raising.{S}
+use Rattle.closed.proofs.Raising.{S, E}
 use Rattle.closed.proofs.Turns.{turned-same, topped-same, topped-by, turned-by, lows-known, rounds-end}
 
 low-eq : {p q : Interval} → p ≡ q → p .low ≡ q .low
@@ -83,6 +90,33 @@ module _ (a s : List ℕ) (b : RoundReady a s) where
             below = lows-known (S a (b .page-sound)) (b .shut) turned₃ topped₃ within₃ apart₃;
           }
 
+      -- whoever does not wait negates no condition whose number is another
+      module _ {users lows lows′ : List ℕ} (k : LowsWait a s lows) (o : Woke a users s₂ s₃ lows lows′) where
+        number-same : (b : ℕ) → b < n → getD s₂ (2 * b + 1) 0 ≡ getD s (2 * b + 1) 0
+        number-same b m = ap (λ (i : ℕ). getD s₂ i 0) (omega arith) ∙ v .steady .negations b m ∙ ap (λ (i : ℕ). getD s₁ i 0) (omega arith) ∙ h .negations b m
+
+        past-high : (b : ℕ) → b < n → getD s₂ (2 * b + 1) 0 ≡ getD s₃ (2 * b + 1) 0 → held n s₃ b .high ≡ past a s b .high
+        past-high b m z = omega (arith, high-eq (g .intervals b m), g .negated b m, number-same b m, v .half .within b m .high-in)
+
+        rests₃ : Users a users → (c : ℕ) → c < n → reachedAt n s₃ c ≡ true → has lows′ c ≡ false → RestsAt lower a s₃ c
+        unfolding pageOf
+        rests₃ u c l r q =
+            let few = head-of a (b .page-sound) .few in
+            let out : has lows c ≡ false = by-bool (has lows c) (λ y. absurd (true≢false (sym (o .kept c (omega arith) y) ∙ q))) (λ y. y) in
+            omega (
+              arith,
+              k .rests c l (sym (marks₃ c l) ∙ r) out,
+              lows₃ c l,
+              E a (b .page-sound) .local-end lower (held n s₃) (past a s) c l (λ d m f. lows₃ d m)
+                  (λ d m f. past-high d m (elim (ℕ-discrete (getD s₂ (2 * d + 1) 0) (getD s₃ (2 * d + 1) 0)) [
+                    | yes y ↦ y
+                    | no y ↦ absurd (⊎-elim (λ z. omega (arith, u .long)) (λ p. true≢false (sym (p d m y c f) ∙ q)) (o .woken))
+                  ])),
+            )
+
+        pub lows-indexed : {lines : List ℕ} → MaybeIndex a lines users → MaybeIndexed lower a lines users s₃ lows′
+        lows-indexed = ⊎-elim (λ z. inl z) (λ i. inr (record { lines-in = i .0; users-in = i .1; waiting = record { set = o .set-in; rests = rests₃ (i .1) } }))
+
       module _ {s₄ : List ℕ} {changed : Bool} (w : Settled lower a s₃ s₄ changed) where
         marks₄ : (c : ℕ) → c < n → reachedAt n s₄ c ≡ reachedAt n s c
         marks₄ c l = w .steady .marks c l ∙ marks₃ c l
@@ -97,6 +131,20 @@ module _ (a s : List ℕ) (b : RoundReady a s) where
             let q : s₄ ≡ s₃ = w .still z in
             rounds-end (S a (b .page-sound)) (b .shut) (turned-same (S a (b .page-sound)) (b .shut) (λ c l r. ap (λ (x : List ℕ). held n x c .low) q) turned₃)
             (topped-same (S a (b .page-sound)) (b .shut) (λ c l r. ap (λ (x : List ℕ). held n x c .high) q) topped₃) turned₄
+
+        -- everybody rests, over the high ends held
+        pub lows-wait : {lows : List ℕ} → WaitSet n lows → LowsWait a s₄ lows
+        unfolding pageOf
+        lows-wait {lows} q =
+            record {
+              set-in = q;
+              rests = λ c l r z. omega (
+                arith,
+                w .rests c l (sym (w .steady .marks c l) ∙ r),
+                E a (b .page-sound) .local-end lower (past a s₄) (held n s₄) c l (λ d m f. refl)
+                    (λ d m f. omega (arith, ap (λ (i : ℕ). getD s₄ i 0) {x = 2 * d + 1} {y = 0 + (2 * d + 1)} (omega arith), w .half .negated d m, w .half .within d m .high-in)),
+              );
+            }
 
         room-same : roomAt lower a s₃ ≡ roomAt lower a s
         unfolding room
@@ -143,3 +191,7 @@ module _ (a s₀ : List ℕ) where
           beyond = r .beyond ∙ v .beyond;
           reads-closed = λ c l q. r .ends z c l (v .marks c l ∙ q);
         }
+
+-- at first everybody waits
+pub all-lows : (a s words : List ℕ) → AllWait (conditionsOf a) s words → LowsWait a s words
+all-lows a s words w = record { set-in = w .set; rests = λ c l r z. absurd (true≢false (sym (w .waits c l r) ∙ z)) }

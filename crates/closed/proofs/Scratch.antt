@@ -70,6 +70,11 @@ module _ (n : ℕ) (s : List ℕ) (h v : ℕ) (long : 6 * n ≤ length s) (real 
   pub put-negated : (e : End) (c : ℕ) → getD (set s (baseOf n e + 2 * h) v) (baseOf n e + (2 * c + 1)) 0 ≡ getD s (baseOf n e + (2 * c + 1)) 0
   put-negated e c = getD-set-other s (baseOf n e + 2 * h) (baseOf n e + (2 * c + 1)) v 0 (λ q. omega arith)
 
+  pub put-rest : (e : End) (c : ℕ) → c < n
+      → getD (set s (baseOf n e + 2 * h) v) (baseOf n (other e) + (2 * c + 1)) 0 ≡ getD s (baseOf n (other e) + (2 * c + 1)) 0
+  put-rest lower c l = getD-set-other s (0 + 2 * h) (2 * n + (2 * c + 1)) v 0 (λ q. omega arith)
+  put-rest upper c l = getD-set-other s (2 * n + 2 * h) (0 + (2 * c + 1)) v 0 (λ q. omega arith)
+
   pub put-mark : (e : End) (c : ℕ) → reachedAt n (set s (baseOf n e + 2 * h) v) c ≡ reachedAt n s c
   put-mark e c = ap (leb 1) (getD-set-other s (baseOf n e + 2 * h) (4 * n + c) v 0 (λ q. omega (arith, base-in n e)))
 

@@ -18,7 +18,7 @@ use Rattle.page.proofs.Head.{head-of}
 use Rattle.bits.specs.Words.{has, Inserted}
 use Rattle.bits.proofs.Sets.{word-none}
 use Rattle.index.specs.Groups.{Groups, LinesByHead, HeadsByLiteral}
-use Rattle.index.specs.Parts.{Lines, Users}
+use Rattle.index.specs.Parts.{Lines, Users, MaybeUsers}
 use Rattle.index.specs.Readers.{among, linesRead}
 use Rattle.index.proofs.Parts.{has-lines, has-users}
 use Rattle.closed.specs.Scratch.{reachedAt}
@@ -90,7 +90,7 @@ module _ (a : List ℕ) (ok : sound a ≡ true) where
   abbrev n : ℕ
   n = conditionsOf a
 
-  reads-below : (code h : ℕ) → linesRead code (pageOf a .lines) h ≡ true → h < n
+  pub reads-below : (code h : ℕ) → linesRead code (pageOf a .lines) h ≡ true → h < n
   unfolding pageOf
   reads-below code h q = read-below (pageOf a .top) (pageOf a .conditions) (pageOf a .lines) (sound-proper a ok .ranged) code h q
 
@@ -197,3 +197,7 @@ all-indexed e a lines users s words (inr i) w =
 pub indexed : {e : End} {a lines users s words : List ℕ} → MaybeIndexed e a lines users s words → (length users ≡ 0 → ⊥) → Indexed e a lines users s words
 indexed (inl z) h = absurd (h z)
 indexed (inr i) h = i
+
+pub users-there : {a users : List ℕ} → MaybeUsers a users → (length users ≡ 0 → ⊥) → Users a users
+users-there (inl z) h = absurd (h z)
+users-there (inr u) h = u

@@ -1,9 +1,10 @@
 -- The rounds: what holds of the scratch between them. Assumes nothing.
 use mathlib.Core.Path.{_≡_}
+use mathlib.Core.Logic.{_≢_, _⊎_}
 use mathlib.Core.Bool.{Bool, true, false}
 use mathlib.Core.List.{List}
 use Prim.Native.Nat.{ℕ, _+_, _*_, _-_, _≤_, _<_}
-use lib.ListN.{length, getD, drop}
+use lib.ListN.{length, getD, set, drop}
 use Rattle.fixpoint.specs.Interval.{Assign}
 use Rattle.fixpoint.specs.ChaoticIteration.{DependencyClosed}
 use Rattle.fixpoint.specs.Tables.{Turned, Topped}
@@ -14,7 +15,10 @@ use Rattle.semantics.specs.Grade.{lower}
 use Rattle.semantics.specs.Page.{names}
 use Rattle.semantics.specs.Reading.{reached}
 use Rattle.semantics.specs.Table.{member}
+use Rattle.bits.specs.Words.{has}
+use Rattle.index.specs.Readers.{linesRead}
 use Rattle.closed.specs.Scratch.{held, reachedAt, roomAt}
+use Rattle.closed.specs.Waiting.{WaitSet}
 
 -- the low ends are 0, and the marks are those of a set
 pub record Begun (n : ℕ) (marks : List Bool) (s s′ : List ℕ) : Type 0 where
@@ -29,8 +33,31 @@ pub record HighsBegun (a s s′ : List ℕ) : Type 0 where
   pub lows : (c : ℕ) → c < conditionsOf a → getD s′ (2 * c) 0 ≡ getD s (2 * c) 0
   pub highs : (c : ℕ) → c < conditionsOf a → getD s′ (2 * conditionsOf a + 2 * c) 0 ≡ bodyless (pageOf a) c .high
   pub negated : (c : ℕ) → c < conditionsOf a → getD s′ (2 * conditionsOf a + (2 * c + 1)) 0 ≡ topOf a - getD s (2 * c) 0
+  pub negations : (c : ℕ) → c < conditionsOf a → getD s′ (2 * c + 1) 0 ≡ getD s (2 * c + 1) 0
   pub marks : (c : ℕ) → c < conditionsOf a → reachedAt (conditionsOf a) s′ c ≡ reachedAt (conditionsOf a) s c
   pub beyond : drop (6 * conditionsOf a) s′ ≡ drop (6 * conditionsOf a) s
+
+-- the negation of c has its number over the high ends, and if there is an index and the number is another, whoever negates c waits
+pub record Renegated (a users : List ℕ) (c : ℕ) (s s′ words words′ : List ℕ) : Type 0 where
+  pub stored : s′ ≡ set s (2 * c + 1) (topOf a - getD s (2 * conditionsOf a + 2 * c) 0)
+  pub set-in : WaitSet (conditionsOf a) words′
+  pub kept : (d : ℕ) → d < 512 → has words d ≡ true → has words′ d ≡ true
+  pub woken : (length users ≡ 0) ⊎ (getD s (2 * c + 1) 0 ≢ topOf a - getD s (2 * conditionsOf a + 2 * c) 0 → (h : ℕ) → linesRead (2 * c + 1) (pageOf a .lines) h ≡ true → has words′ h ≡ true)
+
+-- all negations have
+pub record Woke (a users s s′ words words′ : List ℕ) : Type 0 where
+  pub set-in : WaitSet (conditionsOf a) words′
+  pub kept : (d : ℕ) → d < 512 → has words d ≡ true → has words′ d ≡ true
+  pub woken : (length users ≡ 0) ⊎ ((c : ℕ) → c < conditionsOf a → getD s (2 * c + 1) 0 ≢ getD s′ (2 * c + 1) 0 → (h : ℕ) → linesRead (2 * c + 1) (pageOf a .lines) h ≡ true → has words′ h ≡ true)
+
+-- the intervals over which the low ends were settled last
+abbrev pub past : (a s : List ℕ) → Assign
+past a s c = record { low = getD s (2 * c) 0; high = topOf a - getD s (2 * c + 1) 0 }
+
+-- whoever is reached and does not wait holds what T made of it then
+pub record LowsWait (a s words : List ℕ) : Type 0 where
+  pub set-in : WaitSet (conditionsOf a) words
+  pub rests : (c : ℕ) → c < conditionsOf a → reachedAt (conditionsOf a) s c ≡ true → has words c ≡ false → T (pageOf a) (past a s) c .low ≤ getD s (2 * c) 0
 
 -- every low end goes on over the high ends
 pub record LowsBegun (a s s′ : List ℕ) : Type 0 where

@@ -60,6 +60,7 @@ pub record Steady (e : End) (n : ℕ) (s s′ : List ℕ) : Type 0 where
   pub marks : (c : ℕ) → c < n → reachedAt n s′ c ≡ reachedAt n s c
   pub apart : (c : ℕ) → c < n → reachedAt n s c ≡ false → endOf e (held n s′ c) ≡ endOf e (held n s c)
   pub rises : (c : ℕ) → c < n → endOf e (held n s c) ≤ endOf e (held n s′ c)
+  pub negations : (c : ℕ) → c < n → getD s′ (baseOf n (other e) + (2 * c + 1)) 0 ≡ getD s (baseOf n (other e) + (2 * c + 1)) 0
   pub beyond : drop (6 * n) s′ ≡ drop (6 * n) s
 
 -- a line stands at a place

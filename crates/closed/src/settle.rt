@@ -94,7 +94,7 @@ fn wake_heads(words: &mut [u64], heads: &[u16], from: usize, to: usize)
 }
 
 // The heads of the rules that have the literal `code` wait.
-fn wake(a: &[u16], users: &[u16], words: &mut [u64], code: u16)
+pub fn wake(a: &[u16], users: &[u16], words: &mut [u64], code: u16)
     requires { ⌜ (sound (now a) ≡ true) × Users (now a) (now users) × (code < 2 * conditionsOf (now a)) × WaitSet (conditionsOf (now a)) (now words) ⌝ }
     ensures { λ _. ⌜ Woken (now (a .entry)) code (now (words .entry)) (now (words .exit)) ⌝ }
 {

@@ -14,7 +14,7 @@ ghost use Rattle.semantics.specs.RunArea.{markOf};
 ghost use Rattle.semantics.specs.Table.{member, listed};
 ghost use Rattle.page.specs.Graded.{RuleAt};
 ghost use Rattle.reach.specs.Opening.{openingOf, accepted, cellSet, Written};
-ghost use Rattle.reach.specs.Marks.{ClosureMarks, Below, Adds, lineNames, namedBy, Passed, Spread};
+ghost use Rattle.reach.specs.Marks.{ClosureMarks, Below, Adds, lineNames, namedBy, Passed};
 
 // Marks c; answers how many marks are new.
 fn mark(marks: &mut [bool], c: usize) -> u32
@@ -113,28 +113,19 @@ fn pass(a: &[u16], before: &[bool], after: &mut [bool]) -> u32
     mark_named(a, before, after)
 }
 
-// The passes, until one adds nothing.
-fn all_passes(a: &[u16], first: [bool; 512]) -> [bool; 512]
-    requires { ⌜ (sound (now a) ≡ true) × Below (conditionsOf (now a)) first ⌝ }
-    ensures { λ r. ⌜ Spread (pageOf (now (a .entry))) first r ⌝ }
-{
-    let mut marks = first;
-    loop {
-        let before = marks;
-        if pass(a, &before, &mut marks) == 0 {
-            return marks;
-        }
-    }
-}
-
-// The marks of the closure of the queries.
+// The marks of the closure of the queries: the queries, then passes until one adds nothing.
 pub fn closure_of(a: &[u16], queries: &[u16]) -> [bool; 512]
     requires { ⌜ (sound (now a) ≡ true) × (allUnder (conditionsOf (now a)) (now queries) ≡ true) ⌝ }
     ensures { λ r. ⌜ ClosureMarks (pageOf (now (a .entry))) (now (queries .entry)) r ⌝ }
 {
     let mut marks = [false; 512];
     mark_queries(queries, &mut marks);
-    all_passes(a, marks)
+    loop {
+        let before = marks;
+        if pass(a, &before, &mut marks) == 0 {
+            return marks;
+        }
+    }
 }
 
 // How many of the first n conditions are marked.
