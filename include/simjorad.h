@@ -9,8 +9,9 @@
  *
  * simjorad_drive_indexed and simjorad_closed_indexed give the same answers and the same areas as simjorad_drive and
  * simjorad_closed. They are lent one more slice, a workspace, for an index of the page's lines: with room for it they take
- * fewer steps, without room they go through the lines as the other two do. A workspace holds nothing between calls: its content
- * before a call does not matter, and a workspace may serve every page.
+ * fewer steps, without room they go through the lines as the other two do. Building the index takes about as long as a few evaluations,
+ * so a drive of a few evaluations is faster without it. A workspace holds nothing between calls: its content before a call
+ * does not matter, and one workspace may serve every page.
  *
  * What no proof covers: these declarations, and the caller's duty that a slice which a call writes
  * (and each out-parameter) shares no number with another slice or out-parameter lent to that call.
