@@ -5,7 +5,7 @@
  *
  * A slice is a pointer and a count of ELEMENTS (not bytes). NULL with a count of 0 is a legal empty slice.
  * A call returns a result of 0 or more, or minus the number of its refusal. A refused call changes nothing
- * that was lent to it, and no out-parameter. No call keeps anything between calls, allocates or blocks.
+ * that was lent to it, and no out-parameter but the line of simjorad_read. No call keeps anything between calls, allocates or blocks.
  *
  * simjorad_drive_indexed and simjorad_closed_indexed give the same answers and the same areas as simjorad_drive and
  * simjorad_closed. They are lent one more slice, a workspace, for an index of the page's lines: with room for it they take
