@@ -1,13 +1,14 @@
 -- A scan over the lines of a sound page that marks what the lines of a set of conditions name. Assumes nothing.
-use mathlib.Core.Path.{_≡_, sym, _∙_, ap, subst}
+use mathlib.Core.Path.{_≡_, sym, _∙_, ap}
 use mathlib.Core.Bool.{Bool, true}
 use mathlib.Core.List.{List}
 use Prim.Native.Nat.{ℕ, _+_, _≤_, _<_}
 use lib.ListN.{length, drop}
-use Rattle.semantics.specs.Area.{sound, pageOf, lineAt, conditionsOf, countOf}
+use Rattle.semantics.specs.Area.{sound, firstLine, pageOf, lineAt, conditionsOf, countOf}
 use Rattle.semantics.specs.Page.{Line}
 use Rattle.semantics.proofs.Soundness.{sound-proper}
-use Rattle.page.proofs.Scanning.{Scanning, linesLeft, scanning-first, lines-first, step, lines-on, scanning-next, lines-none}
+use Rattle.page.proofs.Scanning.{Scanning, linesLeft, scanning-first, lines-first, scanning-moved, lines-moved, lines-none}
+use Rattle.page.specs.Lines.{Next}
 use Rattle.reach.specs.Marks.{Adds, lineNames, namedBy}
 use Rattle.reach.proofs.Adding.{Adding, adding-first, adding-next, adding-last}
 use Rattle.reach.proofs.Naming.{linesNamed, named-lines}
@@ -26,24 +27,24 @@ module _ (a : List ℕ) (heads m₀ : List Bool) where
     pub scan : Scanning a at k
     pub adding : Adding (namedBy (pageOf a) heads) (still at k) m₀ m new
 
-  pub following-first : sound a ≡ true → length m₀ ≡ 512 → Following m₀ 4 0 0
-  following-first e s =
-      record {
+  pub following-first : sound a ≡ true → length m₀ ≡ 512 → {at k : ℕ} → (at ≡ firstLine a) × (k ≡ 0) → Following m₀ at k 0
+  following-first e s {at} {k} z =
+      rw (z .0, z .1)
+      (record {
         scan = scanning-first a e;
         adding = adding-first s (λ b.
             named-lines (pageOf a .top) (pageOf a .conditions) heads b (pageOf a .lines) (sound-proper a e .ranged)
             ∙ ap (λ (ls : List Line). linesNamed heads ls b) (sym (lines-first a)));
-      }
-
-  pub following-next : {m m′ : List Bool} {at k new added r : ℕ} (s : Following m at k new) (l : k < countOf a)
-      → Adds (lineNames heads (lineAt (drop at a))) m m′ added → r ≡ step a (s .scan) l → Following m′ (at + r) (k + 1) (new + added)
-  unfolding linesNamed
-  following-next {m} {m′} {at} {k} {new} {added} {r} s l h e =
-      subst (λ (j : ℕ). Following m′ (at + j) (k + 1) (new + added)) (sym e)
-      (record {
-        scan = scanning-next a (s .scan) l;
-        adding = adding-next (s .adding) h (λ b. ap (λ (ls : List Line). linesNamed heads ls b) (lines-on a (s .scan) l));
       })
+
+  pub following-next : {m m′ : List Bool} {at k at′ k′ new added : ℕ} (s : Following m at k new) (l : k < countOf a)
+      → Adds (lineNames heads (lineAt (drop at a))) m m′ added → Next a at k at′ k′ → Following m′ at′ k′ (new + added)
+  unfolding linesNamed
+  following-next s l h e =
+      record {
+        scan = scanning-moved a (s .scan) l e;
+        adding = adding-next (s .adding) h (λ b. ap (λ (ls : List Line). linesNamed heads ls b) (lines-moved a (s .scan) l e));
+      }
 
   pub following-last : {m : List Bool} {at k new : ℕ} → Following m at k new → countOf a ≤ k → Adds (namedBy (pageOf a) heads) m₀ m new
   unfolding linesNamed

@@ -20,7 +20,8 @@ use Rattle.semantics.specs.Worklist.{start}
 use Rattle.semantics.proofs.Areas.{from-cells}
 use Rattle.semantics.proofs.Table.{getD-table}
 use Rattle.reach.specs.Marks.{Marks, ClosureMarks}
-use Rattle.reach.specs.Opening.{accepted, cellSet, Written}
+use Rattle.reach.specs.Opening.{accepted, Written}
+use Rattle.worklist.specs.Evaluation.{stored}
 use Rattle.reach.proofs.Counting.{same-R, same-E}
 
 -- one cell
@@ -32,25 +33,30 @@ module _ (run : List ℕ) (c high mark : ℕ) (fits : 3 * c + 3 ≤ length run) 
   high-set = set low-set (3 * c + 1) high
 
   abbrev new : List ℕ
-  new = cellSet run c high mark
+  new = stored c 0 high mark run
 
   cell-size : length new ≡ length run
+  unfolding stored
   cell-size = simp length-set
 
   cell-pair : intervalAt new c ≡ record { low = 0; high = high }
+  unfolding stored
   cell-pair =
       pair-eq
       (getD-set-other high-set (3 * c + 2) (3 * c) mark 0 (λ q. omega arith) ∙ getD-set-other low-set (3 * c + 1) (3 * c) high 0 (λ q. omega arith) ∙ getD-set-same run (3 * c) 0 0 (omega arith))
       (getD-set-other high-set (3 * c + 2) (3 * c + 1) mark 0 (λ q. omega arith) ∙ getD-set-same low-set (3 * c + 1) high 0 (simp length-set (omega arith)))
 
   cell-mark : markAt new c ≡ mark
+  unfolding stored
   cell-mark = getD-set-same high-set (3 * c + 2) mark 0 (simp length-set (omega arith))
 
   cell-before : (i : ℕ) → i < 3 * c → getD new i 0 ≡ getD run i 0
+  unfolding stored
   cell-before i l =
       getD-set-other high-set (3 * c + 2) i mark 0 (λ q. omega arith) ∙ getD-set-other low-set (3 * c + 1) i high 0 (λ q. omega arith) ∙ getD-set-other run (3 * c) i 0 0 (λ q. omega arith)
 
   cell-behind : drop (3 * c + 3) new ≡ drop (3 * c + 3) run
+  unfolding stored
   cell-behind =
       drop-set-lt (3 * c + 3) high-set (3 * c + 2) mark (omega arith) ∙ drop-set-lt (3 * c + 3) low-set (3 * c + 1) high (omega arith) ∙ drop-set-lt (3 * c + 3) run (3 * c) 0 (omega arith)
 
@@ -59,27 +65,27 @@ module _ (top : ℕ) (marks : List Bool) (before : List ℕ) where
   pub written-first : Written 0 top marks before before
   written-first = record { size = refl; interval = λ c l. absurd (omega arith); mark = λ c l. absurd (omega arith); rest = refl }
 
-  pub written-next : {run run′ : List ℕ} {c mark : ℕ} → Written c top marks before run → 3 * c + 3 ≤ length run → mark ≡ markOf (member marks c) (member marks c) → run′ ≡ cellSet run c top mark
+  pub written-next : {run run′ : List ℕ} {c mark : ℕ} → Written c top marks before run → 3 * c + 3 ≤ length run → mark ≡ markOf (member marks c) (member marks c) → run′ ≡ stored c 0 top mark run
       → Written (c + 1) top marks before run′
   written-next {run} {run′} {c} {mark} w fits e f =
       subst (λ (r : List ℕ). Written (c + 1) top marks before r) (sym f)
       (record { size = cell-size run c top mark fits ∙ w .size; interval = interval; mark = marked; rest = rest })
     where
-      interval : (d : ℕ) → d < c + 1 → intervalAt (cellSet run c top mark) d ≡ unknown top
+      interval : (d : ℕ) → d < c + 1 → intervalAt (stored c 0 top mark run) d ≡ unknown top
       interval d l =
           elim (ℕ-discrete d c) [
-            | yes q ↦ ap (intervalAt (cellSet run c top mark)) q ∙ cell-pair run c top mark fits
+            | yes q ↦ ap (intervalAt (stored c 0 top mark run)) q ∙ cell-pair run c top mark fits
             | no q ↦ pair-eq (cell-before run c top mark fits (3 * d) (omega arith)) (cell-before run c top mark fits (3 * d + 1) (omega arith)) ∙ w .interval d (omega arith)
           ]
 
-      marked : (d : ℕ) → d < c + 1 → markAt (cellSet run c top mark) d ≡ markOf (member marks d) (member marks d)
+      marked : (d : ℕ) → d < c + 1 → markAt (stored c 0 top mark run) d ≡ markOf (member marks d) (member marks d)
       marked d l =
           elim (ℕ-discrete d c) [
-            | yes q ↦ ap (markAt (cellSet run c top mark)) q ∙ cell-mark run c top mark fits ∙ e ∙ ap (λ (x : ℕ). markOf (member marks x) (member marks x)) (sym q)
+            | yes q ↦ ap (markAt (stored c 0 top mark run)) q ∙ cell-mark run c top mark fits ∙ e ∙ ap (λ (x : ℕ). markOf (member marks x) (member marks x)) (sym q)
             | no q ↦ cell-before run c top mark fits (3 * d + 2) (omega arith) ∙ w .mark d (omega arith)
           ]
 
-      rest : drop (3 * (c + 1)) (cellSet run c top mark) ≡ drop (3 * (c + 1)) before
+      rest : drop (3 * (c + 1)) (stored c 0 top mark run) ≡ drop (3 * (c + 1)) before
       rest =
           let k : 3 * (c + 1) ≡ 3 * c + 3 = omega arith in
           rw k (cell-behind run c top mark fits ∙ sym (drop-drop 3 (3 * c) run) ∙ ap (drop 3) (w .rest) ∙ drop-drop 3 (3 * c) before)

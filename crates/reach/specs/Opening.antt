@@ -2,8 +2,8 @@
 use mathlib.Core.Path.{_≡_}
 use mathlib.Core.Bool.{Bool}
 use mathlib.Core.List.{List}
-use Prim.Native.Nat.{ℕ, _+_, _*_, _<_}
-use lib.ListN.{length, drop, set}
+use Prim.Native.Nat.{ℕ, _*_, _<_}
+use lib.ListN.{length, drop}
 use Rattle.fixpoint.specs.KnowledgeOrder.{unknown}
 use mathlib.Core.Option.{none}
 use Rattle.semantics.specs.Area.{pageOf}
@@ -22,10 +22,6 @@ openingOf (Opened reached edges bound) = openedWith reached edges bound
 -- the outcome where no cause holds
 abbrev pub accepted : List ℕ → List ℕ → List ℕ → Outcome
 accepted a qs r = openAs none (pageOf a) (closure (pageOf a) qs) r
-
--- low, high and mark of the condition c
-abbrev pub cellSet : List ℕ → ℕ → ℕ → ℕ → List ℕ
-cellSet run c high mark = set (set (set run (3 * c) 0) (3 * c + 1) high) (3 * c + 2) mark
 
 -- n conditions hold [0;top], marked 2 if they are reached and 0 if not; what stands behind them stays
 pub record Written (n top : ℕ) (marks : List Bool) (before after : List ℕ) : Type 0 where

@@ -4,7 +4,7 @@ ghost use mathlib.Core.List.{map};
 ghost use Prim.Native.Nat.{_≤_, _+_, _<_, _*_};
 ghost use lib.Dec.{eqb, leb};
 ghost use lib.ListN.{length, getD, take, drop};
-ghost use Rattle.semantics.specs.Area.{sound, lineAt, lineTests, every, allUnder, kind, spanAs, literalOf, pageOf, topOf, conditionsOf};
+ghost use Rattle.semantics.specs.Area.{sound, lineAt, lineTests, every, allUnder, literalOf, pageOf, topOf, conditionsOf};
 ghost use Rattle.fixpoint.specs.ChaoticIteration.{DependencyClosed};
 ghost use Rattle.fixpoint.specs.Sum.{count};
 ghost use Rattle.semantics.specs.Operation.{openOf};
@@ -13,7 +13,7 @@ ghost use Rattle.semantics.specs.Reading.{countE};
 ghost use Rattle.semantics.specs.RunArea.{markOf};
 ghost use Rattle.semantics.specs.Table.{member, listed};
 ghost use Rattle.page.specs.Graded.{RuleAt};
-ghost use Rattle.reach.specs.Opening.{openingOf, accepted, cellSet, Written};
+ghost use Rattle.reach.specs.Opening.{openingOf, accepted, Written};
 ghost use Rattle.reach.specs.Marks.{ClosureMarks, Below, Adds, lineNames, namedBy, Passed};
 
 // Marks c; answers how many marks are new.
@@ -75,18 +75,6 @@ fn mark_line(a: &[u16], at: usize, left: usize, heads: &[bool], marks: &mut [boo
     }
 }
 
-// How many numbers the entry at `at` takes.
-fn span_at(a: &[u16], at: usize) -> usize
-    requires { ⌜ at + 4 ≤ length (now a) ⌝ }
-    ensures { λ r. ⌜ r ≡ spanAs (kind (getD (now (a .entry)) (at + 1) 0)) (getD (now (a .entry)) (at + 3) 0) ⌝ }
-{
-    let k = a[at + 1];
-    match k {
-        1..=5 => 4 + a[at + 3] as usize,
-        _ => 4,
-    }
-}
-
 // Marks every condition that an R line of a condition of the set names, in one scan over the lines; answers how many marks are new.
 fn mark_named(a: &[u16], heads: &[bool], marks: &mut [bool]) -> u32
     requires { ⌜ (sound (now a) ≡ true) × (length (now heads) ≡ 512) × (length (now marks) ≡ 512) ⌝ }
@@ -94,13 +82,12 @@ fn mark_named(a: &[u16], heads: &[bool], marks: &mut [bool]) -> u32
 {
     let count = a[2];
     let used = a[3] as usize;
-    let mut at: usize = 4;
-    let mut k: u16 = 0;
+    let mut line = page::Cursor::first(a);
     let mut new: u32 = 0;
-    while k < count {
+    while line.passed < count {
+        let at = line.at;
         new += mark_line(a, at, used - at, heads, marks);
-        at += span_at(a, at);
-        k += 1;
+        line = line.next(a);
     }
     new
 }
@@ -190,16 +177,6 @@ fn first_mark(reached: bool) -> u16
     0
 }
 
-// Writes low, high and mark of c.
-fn write_cell(run: &mut [u16], c: usize, high: u16, mark: u16)
-    requires { ⌜ 3 * c + 3 ≤ length (now run) ⌝ }
-    ensures { λ _. ⌜ now (run .exit) ≡ cellSet (now (run .entry)) c high mark ⌝ }
-{
-    run[3 * c] = 0;
-    run[3 * c + 1] = high;
-    run[3 * c + 2] = mark;
-}
-
 // Writes n conditions: each holds [0;top], and waits if it is marked.
 pub fn write_run(run: &mut [u16], n: u16, top: u16, marks: &[bool])
     requires { ⌜ (3 * n ≤ length (now run)) × (n ≤ length (now marks)) ⌝ }
@@ -207,8 +184,8 @@ pub fn write_run(run: &mut [u16], n: u16, top: u16, marks: &[bool])
 {
     let mut c: u16 = 0;
     while c < n {
-        let k = c as usize;
-        write_cell(run, k, top, first_mark(marks[k]));
+        let mark = first_mark(marks[c as usize]);
+        worklist::store_cell(run, c, 0, top, mark);
         c += 1;
     }
 }

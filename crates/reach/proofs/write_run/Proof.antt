@@ -15,12 +15,10 @@ abbrev μ-loop : tie.MeasureT-loop
 μ-loop run₀ n top marks c₀ run c = n - c
 
 loop-holds : tie.Need-loop-holds Inv-loop μ-loop
-loop-holds c =
-    let z = c .before .before .args in
-    (omega arith, written-first (z .top) (z .marks .now) (z .run .now))
+loop-holds c = (omega arith, written-first (c .before .before .args .top) (c .before .before .args .marks .now) (c .before .before .args .run .now))
 
-cast-k : tie.Need-cast-k Inv-loop μ-loop
-cast-k c = omega arith
+cast-first-mark : tie.Need-cast-first-mark Inv-loop μ-loop
+cast-first-mark c = omega arith
 
 shared-slice-read-first-mark : tie.Need-shared-slice-read-first-mark Inv-loop μ-loop
 shared-slice-read-first-mark c = omega arith
@@ -28,10 +26,8 @@ shared-slice-read-first-mark c = omega arith
 first-mark-requires : tie.Need-first-mark-requires Inv-loop μ-loop
 first-mark-requires c κs = tt
 
-write-cell-requires : tie.Need-write-cell-requires Inv-loop μ-loop
-write-cell-requires c κs =
-    let z = c .before .before .before .before .before .before .before in
-    omega (arith, z .pre .0, c .before .before .before .before .loop .inv .1 .size)
+store-cell-requires : tie.Need-store-cell-requires Inv-loop μ-loop
+store-cell-requires c κs = omega (arith, c .before .before .before .before .before .before .before .pre .0, c .before .before .before .before .loop .inv .1 .size)
 
 add-c : tie.Need-add-c Inv-loop μ-loop
 add-c c = omega arith
@@ -40,21 +36,13 @@ loop-less : tie.Need-loop-less Inv-loop μ-loop
 loop-less c = omega arith
 
 loop-again : tie.Need-loop-again Inv-loop μ-loop
-loop-again c =
-    let z = c .before .before .before .before .before .before .before .before .before .before in
-    let h = c .before .before .before .before .before .before .before .loop in
-    let k : 3 * h .c + 3 ≤ length (h .run) = omega (arith, z .pre .0, h .inv .1 .size) in
-    (omega arith, written-next (z .args .top) (z .args .marks .now) (z .args .run .now) (h .inv .1) k (c .before .before .before .first-mark .ensures) (c .before .before .write-cell .ensures))
+loop-again c = let h = c .before .before .before .before .before .before .before .loop in let k : 3 * h .c + 3 ≤ length (h .run) = omega (arith, c .before .before .before .before .before .before .before .before .before .before .pre .0, h .inv .1 .size) in (omega arith, written-next (c .before .before .before .before .before .before .before .before .before .before .args .top) (c .before .before .before .before .before .before .before .before .before .before .args .marks .now) (c .before .before .before .before .before .before .before .before .before .before .args .run .now) (h .inv .1) k (c .before .before .before .before .first-mark .ensures) (c .before .before .store-cell .ensures))
 
 same-length : tie.Need-same-length Inv-loop μ-loop
 same-length c = c .before .loop .inv .1 .size
 
 returns : tie.Need-returns Inv-loop μ-loop
-returns c =
-    let z = c .before .before .before .before .args in
-    let h = c .before .loop in
-    let e : h .c ≡ z .n = omega arith in
-    subst (λ (k : ℕ). Written k (z .top) (z .marks .now) (z .run .now) (h .run)) e (h .inv .1)
+returns c = let z = c .before .before .before .before .args in let h = c .before .loop in let e : h .c ≡ z .n = omega arith in subst (λ (k : ℕ). Written k (z .top) (z .marks .now) (z .run .now) (h .run)) e (h .inv .1)
 
 pub write-run-spec : {M : Type 1} → statement M
 write-run-spec =
@@ -63,10 +51,10 @@ write-run-spec =
     Inv-loop
     μ-loop
     loop-holds
-    cast-k
+    cast-first-mark
     shared-slice-read-first-mark
     first-mark-requires
-    write-cell-requires
+    store-cell-requires
     add-c
     loop-less
     loop-again
