@@ -5,12 +5,13 @@
  *
  * A slice is a pointer and a count of ELEMENTS (not bytes). NULL with a count of 0 is a legal empty slice.
  * A call returns a result of 0 or more, or minus the number of its refusal. A refused call changes nothing
- * that was lent to it, and no out-parameter. No call keeps anything between calls, allocates or blocks.
+ * that was lent to it, and no out-parameter but the line of simjorad_read. No call keeps anything between calls, allocates or blocks.
  *
  * simjorad_drive_indexed and simjorad_closed_indexed give the same answers and the same areas as simjorad_drive and
  * simjorad_closed. They are lent one more slice, a workspace, for an index of the page's lines: with room for it they take
- * fewer steps, without room they go through the lines as the other two do. A workspace holds nothing between calls: its content
- * before a call does not matter, and a workspace may serve every page.
+ * fewer steps, without room they go through the lines as the other two do. Building the index takes about as long as a few evaluations,
+ * so a drive of a few evaluations is faster without it. A workspace holds nothing between calls: its content before a call
+ * does not matter, and one workspace may serve every page.
  *
  * What no proof covers: these declarations, and the caller's duty that a slice which a call writes
  * (and each out-parameter) shares no number with another slice or out-parameter lent to that call.
@@ -49,13 +50,13 @@ extern "C" {
  */
 #define SIMJORAD_STACK_READ 256
 #define SIMJORAD_STACK_SHOW_LINE 64
-#define SIMJORAD_STACK_OPEN 3840
-#define SIMJORAD_STACK_EVALUATE 1344
-#define SIMJORAD_STACK_DRIVE 1472
-#define SIMJORAD_STACK_DRIVE_INDEXED 1536
+#define SIMJORAD_STACK_OPEN 1792
+#define SIMJORAD_STACK_EVALUATE 1472
+#define SIMJORAD_STACK_DRIVE 1600
+#define SIMJORAD_STACK_DRIVE_INDEXED 1664
 #define SIMJORAD_STACK_VALUE 128
-#define SIMJORAD_STACK_CLOSED 2816
-#define SIMJORAD_STACK_CLOSED_INDEXED 2816
+#define SIMJORAD_STACK_CLOSED 1792
+#define SIMJORAD_STACK_CLOSED_INDEXED 1856
 
 /* Refusals, each with its cause. */
 #define SIMJORAD_TEXT_TOO_LONG 1      /* more than 65,535 bytes */

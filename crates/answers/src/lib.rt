@@ -44,7 +44,7 @@ fn closed_answer(page: &[u16], c: u16, workspace: &mut [u16]) -> Ends
     let mut scratch = [0u16; 3072];
     let mut answers = [0u16; 2];
     let queries = [c];
-    closed::closed_reading(page, &queries, &mut scratch, &mut answers);
+    closed::closed_indexed(page, &queries, &mut scratch, &mut answers, workspace);
     Ends {
         low: answers[0],
         high: answers[1],

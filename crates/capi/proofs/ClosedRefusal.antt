@@ -1,5 +1,5 @@
 -- The closed reading allows one answer: the refusal of its first cause, or none. Assumes nothing.
-use mathlib.Core.Path.{_≡_, ap, _∙_}
+use mathlib.Core.Path.{_≡_, ap}
 use mathlib.Core.List.{List}
 use mathlib.Core.Option.{Option, none, some}
 use Prim.Native.Nat.{ℕ}
@@ -16,6 +16,6 @@ module _ (answer : Option ℕ) (a qs s w s′ w′ : List ℕ) (h : ClosedOf ans
   unfolding ClosedOf closedRefusal
   refusal-is = refusal-as (firstOf (closedCauses a qs s w)) a qs s w s′ w′ h
 
-  -- what is told of the answer o
-  pub closed-told : {o : Option ℕ} → o ≡ answer → (closedCode o ≡ closedCode (closedRefusal a qs s w)) × ClosedOf (closedRefusal a qs s w) a qs s w s′ w′
-  closed-told e = (ap closedCode (e ∙ refusal-is), rw refusal-is at h)
+  -- what is told of the answer
+  pub closed-told : (closedCode answer ≡ closedCode (closedRefusal a qs s w)) × ClosedOf (closedRefusal a qs s w) a qs s w s′ w′
+  closed-told = (ap closedCode refusal-is, rw refusal-is at h)

@@ -5,7 +5,9 @@ ghost use lib.ListN.{length, take, drop};
 ghost use Rattle.semantics.specs.ReadPage.{readOf, lineOf, startOf};
 ghost use Rattle.semantics.specs.Operation.{openOf, evaluateOf, driveOf, valueOf, ClosedOf, driveWorkspace, closedWorkspace};
 ghost use Rattle.run.specs.Answers.{statusIf, driveAnswerOf};
+ghost use Rattle.closed.specs.Answer.{refusalOf};
 ghost use Rattle.capi.specs.Codes.{minus as Codes·minus, statusCode, answerCode, takenOr, intervalOr, openCode, countsOr, readCode, lineCode, closedCode, closedRefusal};
+use closed::ClosedAnswer;
 use run::DriveAnswer;
 
 // Minus the number of a refusal.
@@ -177,6 +179,16 @@ pub extern "C" fn simjorad_value(
     }
 }
 
+// What a closed reading answers: 0, or minus a refusal.
+fn closed_code(answer: ClosedAnswer) -> i32
+    ensures { λ r. ⌜ r ≡ closedCode (refusalOf answer) ⌝ }
+{
+    match answer {
+        ClosedAnswer::Refused(k) => minus(k),
+        ClosedAnswer::Done => 0,
+    }
+}
+
 // Closed reading: 0, or minus 10, 11, 12, 18 or 19.
 #[no_mangle]
 pub extern "C" fn simjorad_closed(
@@ -189,8 +201,22 @@ pub extern "C" fn simjorad_closed(
     ensures areas { λ _. ⌜ ClosedOf (closedRefusal (now (page .entry)) (now (queries .entry)) (now (scratch .entry)) (now (answers .entry))) (now (page .entry)) (now (queries .entry)) (now (scratch .entry)) (now (answers .entry)) (now (scratch .exit)) (now (answers .exit)) ⌝ }
 {
     let answer = closed::closed_reading(page, queries, scratch, answers);
-    match answer {
-        closed::ClosedAnswer::Refused(k) => minus(k),
-        closed::ClosedAnswer::Done => 0,
-    }
+    closed_code(answer)
+}
+
+// Closed reading, with an index in the workspace.
+#[no_mangle]
+pub extern "C" fn simjorad_closed_indexed(
+    page: &[u16],
+    queries: &[u16],
+    scratch: &mut [u16],
+    answers: &mut [u16],
+    workspace: &mut [u16],
+) -> i32
+    ensures code { λ r. ⌜ r ≡ closedCode (closedRefusal (now (page .entry)) (now (queries .entry)) (now (scratch .entry)) (now (answers .entry))) ⌝ }
+    ensures areas { λ _. ⌜ ClosedOf (closedRefusal (now (page .entry)) (now (queries .entry)) (now (scratch .entry)) (now (answers .entry))) (now (page .entry)) (now (queries .entry)) (now (scratch .entry)) (now (answers .entry)) (now (scratch .exit)) (now (answers .exit)) ⌝ }
+    ensures workspace { λ _. ⌜ now (workspace .exit) ≡ closedWorkspace (now (page .entry)) (now (queries .entry)) (now (scratch .entry)) (now (answers .entry)) (now (workspace .entry)) ⌝ }
+{
+    let answer = closed::closed_indexed(page, queries, scratch, answers, workspace);
+    closed_code(answer)
 }

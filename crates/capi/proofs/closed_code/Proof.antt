@@ -1,0 +1,28 @@
+-- `capi::closed_code` meets its contract: its number is that of the answer. Assumes nothing.
+use mathlib.Core.Path.{sym, ap, _∙_}
+use Rattle.closed.specs.Answer.{refusalOf}
+use Rattle.closed.specs.declared.ClosedAnswer.{ClosedAnswer}
+use Rattle.capi.specs.Codes.{closedCode}
+use Rattle.capi.proofs.Signs.{returned}
+use borrow.Author.Needs.{needs}
+use Rattle.capi.proofs.closed_code.Statement.{statement}
+use Rattle.capi.proofs.closed_code.Tie as tie
+
+enum-known-answer : tie.Need-enum-known-answer
+enum-known-answer c = search needs
+
+minus-requires : tie.Need-minus-requires
+minus-requires c κs = search needs
+
+enum-told : tie.Need-enum-told
+enum-told c = search needs
+
+returns : tie.Need-returns
+returns c = returned (c .minus .result) (c .minus .ok) ∙ c .minus .ensures ∙ ap (λ (r : ClosedAnswer). closedCode (refusalOf r)) (sym (c .before .before .answer .given .1))
+
+returns-2 : tie.Need-returns-2
+returns-2 c = ap (λ (r : ClosedAnswer). closedCode (refusalOf r)) (sym (c .enum-told .given .1))
+
+pub closed-code-spec : {M : Type 1} → statement M
+closed-code-spec =
+    tie.close (tie.spec enum-known-answer minus-requires enum-told returns returns-2)
