@@ -1,5 +1,5 @@
 -- The operation as a whole: the start from the closure, the answers in list order, the cleared scratch, and the refusals. Assumes nothing.
-use mathlib.Core.Path.{_≡_, refl, sym, _∙_, ap, ap₂, subst}
+use mathlib.Core.Path.{_≡_, refl, sym, _∙_, ap, ap₂}
 use mathlib.Core.Bool.{Bool, true, false, not, _&&_, true≢false, or-true}
 use mathlib.Core.Logic.{_≢_, inl, inr}
 use mathlib.Core.List.{List, [], _∷_, _++_, append-assoc}
@@ -14,10 +14,10 @@ use mir.Val.{boolByte}
 use borrow.Rule.Slice.PartAt.{part-to-end}
 use borrow.Author.Tests.{le-leb, lt-leb, leb-true, ltb-true, eq-eqb, eqb-true, not-false}
 use Rattle.fixpoint.specs.Interval.{Interval, Assign}
-use Rattle.semantics.specs.Area.{sound, pageOf, topOf, conditionsOf, allUnder}
+use Rattle.semantics.specs.Area.{sound, pageOf, conditionsOf, allUnder}
 use Rattle.semantics.specs.Body.{unknownByDefault}
 use Rattle.semantics.specs.Call.{Cause, cause, firstOf}
-use Rattle.semantics.specs.Operation.{ends, zeros, scratchLength, queryCauses, closedCauses, linesLength, indexLength, usedWorkspace, closedWorkspace, ClosedAnswers, ClosedAs, ClosedOf}
+use Rattle.semantics.specs.Operation.{ends, zeros, scratchLength, queryCauses, closedCauses, linesLength, indexLength, usedWorkspace, closedWorkspace, ClosedAnswers, ClosedOf}
 use Rattle.semantics.specs.Reading.{queried, closure, reached}
 use Rattle.semantics.specs.Table.{listed, member}
 use Rattle.semantics.proofs.Closure.{reached-closed, reached-complete}

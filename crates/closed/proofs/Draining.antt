@@ -1,7 +1,7 @@
 -- An end settled over an index: whoever is reached and does not wait rests, until nobody waits. Assumes nothing.
 use mathlib.Core.Path.{_≡_, refl, sym, _∙_, ap, subst}
-use mathlib.Core.Logic.{_≢_, _⊎_, inl, inr, ⊎-elim}
-use mathlib.Core.Bool.{Bool, true, false, not, _&&_, _||_, or-true, and-true, true≢false, false≢true}
+use mathlib.Core.Logic.{_≢_}
+use mathlib.Core.Bool.{Bool, true, false, not, _&&_, _||_, or-true, and-true, true≢false}
 use mathlib.Core.List.{List, [], _∷_}
 use Prim.Native.Nat.{ℕ, zero, suc, _+_, _*_, _-_, _≤_, _<_}
 use native.Mathlib.Decide.{ℕ-discrete}
@@ -13,7 +13,6 @@ use Rattle.fixpoint.specs.Sum.{sum, bit}
 use Rattle.fixpoint.proofs.Cond.{by-bool}
 use Rattle.fixpoint.proofs.Sum.{sum-le, sum-const, sum-drop}
 use Rattle.semantics.specs.Area.{sound, lineAt, pageOf, topOf, conditionsOf, countOf}
-use Rattle.semantics.specs.Body.{T}
 use Rattle.semantics.specs.Grade.{End}
 use Rattle.semantics.specs.Page.{Line, fact, rule, query}
 use Rattle.page.specs.Places.{placeOf, LineOf}
@@ -252,9 +251,6 @@ module _ {e : End} {a first places users : List ℕ} {base : ℕ} {s₀ s words 
 
   pub drains-group : Lookable a places (getD first c 0) (getD first (c + 1) 0)
   drains-group = group-lookable a first places (v .draining .settling .half .page-sound) (v .draining .groups) c drains-real
-
-  pub drains-ends : getD first (c + 1) 0 ≤ length places
-  drains-ends = group-within (v .draining .groups) (c + 1) (omega (arith, drains-real))
 
   module _ (words₁ : List ℕ) (x : Removed c words words₁) where
     pub drains-set : WaitSet (conditionsOf a) words₁

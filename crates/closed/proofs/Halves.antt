@@ -48,10 +48,6 @@ pub ends-in : (e : End) {top : ℕ} (p : Interval) → endOf e p ≤ top → end
 ends-in upper p w v = record { low-in = v; high-in = w }
 ends-in lower p w v = record { low-in = w; high-in = v }
 
-pub ends-eq : (e : End) (p q : Interval) → endOf e p ≡ endOf e q → endOf (other e) p ≡ endOf (other e) q → p ≡ q
-ends-eq upper p q h g = pair-eq g h
-ends-eq lower p q h g = pair-eq h g
-
 -- K, with the ends e of I
 given-eq : (e : End) (top : ℕ) (K I : Assign) (b : ℕ) → endOf (other e) (I b) ≡ endOf (other e) (K b) → given e K (oneEnd top e I) b ≡ I b
 given-eq upper top K I b h = pair-eq (sym h) refl

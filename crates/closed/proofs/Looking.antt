@@ -2,23 +2,20 @@
 use mathlib.Core.Path.{_≡_, refl, sym, _∙_, ap, subst}
 use mathlib.Core.Logic.{_≢_}
 use mathlib.Core.Bool.{Bool, true, false, _||_, false≢true}
-use mathlib.Core.List.{List, [], _∷_}
-use Prim.Native.Nat.{ℕ, zero, suc, _+_, _*_, _≤_, _<_}
+use mathlib.Core.List.{List}
+use Prim.Native.Nat.{ℕ, zero, suc, _+_, _≤_, _<_}
 use native.Mathlib.Numerals.{add-one}
 use native.Mathlib.Decide.{ℕ-discrete}
 use native.Mathlib.Omega.{arith}
 use lib.ListN.{length, getD, drop}
-use Rattle.fixpoint.specs.Interval.{Interval}
 use Rattle.fixpoint.proofs.Cond.{by-bool}
 use Rattle.semantics.specs.Area.{firstLine, lineAt, topOf, conditionsOf}
-use Rattle.semantics.specs.Body.{lineBody}
 use Rattle.semantics.specs.Grade.{End}
 use Rattle.fixpoint.proofs.Evaluation.{or-false}
-use Rattle.index.specs.Readers.{linesRead}
 use Rattle.page.specs.Lines.{stepAt}
 use Rattle.page.specs.Places.{placeOf}
 use Rattle.value.specs.Table.{endOf, other}
-use Rattle.closed.specs.Scratch.{baseOf, held, reachedAt, roomAt, Half, Steady, LineIn, Covered, Raised, placeAs, placeIn, Lookable, Looked}
+use Rattle.closed.specs.Scratch.{baseOf, held, Half, LineIn, Covered, Raised, placeAs, placeIn, Lookable, Looked}
 use Rattle.closed.proofs.EndReads.{line-level}
 use Rattle.closed.proofs.Raising.{line-ranged, room-less, steady-same, steady-on}
 

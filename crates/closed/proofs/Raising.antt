@@ -1,7 +1,7 @@
 -- One line: what raising the end of its head leaves. Assumes nothing.
 use mathlib.Core.Path.{_≡_, refl, sym, _∙_, ap, subst}
 use mathlib.Core.Logic.{_≢_}
-use mathlib.Core.Bool.{Bool, true, false, true≢false, false≢true}
+use mathlib.Core.Bool.{true, false, true≢false, false≢true}
 use mathlib.Core.List.{List, [], _∷_}
 use Prim.Native.Nat.{ℕ, zero, suc, _+_, _*_, _-_, _≤_, _<_}
 use native.Mathlib.Decide.{ℕ-discrete}
@@ -9,13 +9,13 @@ use native.Mathlib.Omega.{arith}
 use lib.Dec.{leb}
 use lib.ListN.{length, getD, set, take, drop, length-set}
 use borrow.Author.Tests.{le-leb}
-use Rattle.fixpoint.specs.Interval.{Interval, Within, Assign}
+use Rattle.fixpoint.specs.Interval.{Interval, Assign}
 use Rattle.fixpoint.specs.System.{System}
 use Rattle.fixpoint.proofs.Sum.{sum-le, sum-drop}
 use Rattle.semantics.specs.Area.{sound, lineAt, pageOf, topOf, conditionsOf, countOf}
 use Rattle.semantics.specs.Body.{lineBody, T, unknownByDefault}
-use Rattle.semantics.specs.Grade.{End, lower, upper}
-use Rattle.semantics.specs.Page.{Line, InRange, AllInRange, names}
+use Rattle.semantics.specs.Grade.{End}
+use Rattle.semantics.specs.Page.{InRange, AllInRange, names}
 use Rattle.semantics.proofs.Readings.{page-system}
 use Rattle.semantics.proofs.Soundness.{sound-proper}
 use Rattle.page.specs.Places.{placeOf, LineOf}
@@ -27,7 +27,7 @@ use Rattle.page.proofs.LineNumbers.{scanning-at, lines-from, line-of}
 use Rattle.value.specs.Table.{endOf, other, Grades}
 use Rattle.value.specs.LineEnds.{LineEnd}
 use Rattle.value.proofs.BodyEnds.{body-has}
-use Rattle.closed.specs.Ends.{reads, EndLocal, settledEnd, room}
+use Rattle.closed.specs.Ends.{reads, EndLocal, room}
 use Rattle.closed.specs.Scratch.{baseOf, tableOf, held, reachedAt, settledAt, roomAt, Half, Steady, LineIn, Covered, Raised}
 use Rattle.closed.proofs.EndReads.{line-level, page-ends}
 use Rattle.closed.proofs.Halves.{ends-in, end-in, below-T, settled-others}

@@ -3,14 +3,13 @@ use mathlib.Core.Path.{_≡_, refl, sym, _∙_, ap, subst}
 use mathlib.Core.Bool.{Bool, true, false, true≢false}
 use mathlib.Core.Logic.{inl, inr, ⊎-elim}
 use mathlib.Core.List.{List}
-use Prim.Native.Nat.{ℕ, suc, _+_, _*_, _-_, _≤_, _<_}
+use Prim.Native.Nat.{ℕ, suc, _+_, _*_, _-_, _<_}
 use native.Mathlib.Decide.{ℕ-discrete}
 use native.Mathlib.Omega.{arith}
 use lib.ListN.{length, getD, drop}
 use Rattle.fixpoint.specs.Interval.{Interval, Within, Assign}
 use Rattle.fixpoint.specs.Tables.{Turned}
 use Rattle.fixpoint.proofs.Cond.{by-bool}
-use Rattle.fixpoint.proofs.KnowledgeOrder.{pair-eq}
 use Rattle.fixpoint.proofs.Sum.{sum-eq}
 use Rattle.semantics.specs.Area.{pageOf, topOf, conditionsOf}
 use Rattle.semantics.specs.Body.{T, bodyless, unknownByDefault}

@@ -1,20 +1,16 @@
 -- One end of every reached condition, settled: where no line adds more than its head holds. Assumes nothing.
 use mathlib.Core.Path.{_≡_, refl, sym, _∙_, ap, subst}
 use mathlib.Core.Bool.{Bool, true, false, false≢true}
-use mathlib.Core.List.{List, [], _∷_}
-use Prim.Native.Nat.{ℕ, _+_, _*_, _≤_, _<_}
+use mathlib.Core.List.{List, []}
+use Prim.Native.Nat.{ℕ, _<_}
 use native.Mathlib.Omega.{arith}
-use lib.ListN.{length}
-use Rattle.semantics.specs.Area.{pageOf, topOf, conditionsOf, countOf}
+use Rattle.semantics.specs.Area.{conditionsOf, countOf}
 use Rattle.semantics.specs.Body.{T, unknownByDefault}
 use Rattle.semantics.specs.Grade.{End}
-use Rattle.page.specs.Places.{placeOf}
-use Rattle.value.specs.Table.{endOf, other}
+use Rattle.value.specs.Table.{endOf}
 use Rattle.value.proofs.BodyEnds.{body-most}
-use Rattle.closed.specs.Ends.{settledEnd}
-use Rattle.closed.specs.Scratch.{held, reachedAt, settledAt, roomAt, Half, Steady, Lookable, Looked, RestsAt, Settled}
+use Rattle.closed.specs.Scratch.{held, reachedAt, roomAt, Half, Steady, Lookable, Looked, RestsAt, Settled}
 use Rattle.closed.proofs.Halves.{settled-at, settled-others}
-use Rattle.closed.proofs.Scratch.{shut-over}
 use Rattle.closed.proofs.Raising.{S, E, room-less, steady-same, steady-on}
 
 -- without an index all lines are looked at

@@ -1,23 +1,20 @@
 -- A round of the alternating fixed point on the reached conditions: what holds where each half starts, and where the rounds end. Assumes nothing.
 use mathlib.Core.Path.{_≡_, refl, sym, _∙_, ap}
-use mathlib.Core.Bool.{Bool, true, false, not, _&&_, true≢false, false≢true}
-use Prim.Native.Nat.{ℕ, suc, _≤_, _<_, min, max}
+use mathlib.Core.Bool.{Bool, true, false, true≢false}
+use Prim.Native.Nat.{ℕ, suc, _≤_, _<_}
 use native.Mathlib.Omega.{arith}
 use Rattle.fixpoint.specs.Interval.{Interval, Assign}
-use Rattle.fixpoint.specs.KnowledgeOrder.{Alike, join}
+use Rattle.fixpoint.specs.KnowledgeOrder.{Alike}
 use Rattle.fixpoint.specs.System.{System}
-use Rattle.fixpoint.specs.LeastFixpoint.{Operator, iter, lfp}
+use Rattle.fixpoint.specs.LeastFixpoint.{iter}
 use Rattle.fixpoint.specs.ChaoticIteration.{DependencyClosed}
-use Rattle.fixpoint.specs.Support.{roof, raise}
 use Rattle.fixpoint.specs.WellFounded.{closed}
-use Rattle.fixpoint.specs.AlternatingFixpoint.{mix, floor, highs, lift, lows, turn, turns}
+use Rattle.fixpoint.specs.AlternatingFixpoint.{highs, lows, turn, turns}
 use Rattle.fixpoint.specs.Tables.{Turned, Topped}
-use Rattle.fixpoint.proofs.Cond.{by-bool}
 use Rattle.fixpoint.proofs.KnowledgeOrder.{pair-eq}
-use Rattle.fixpoint.proofs.LeastFixpoint.{lfp-fixed, lfp-within}
 use Rattle.fixpoint.proofs.PlainReading.{operator}
 use Rattle.fixpoint.proofs.AlternatingFixpoint.{turns-floor}
-use Rattle.fixpoint.proofs.Reachable.{lfp-alike, highs-alike, lows-alike}
+use Rattle.fixpoint.proofs.Reachable.{highs-alike, lows-alike}
 use Rattle.fixpoint.proofs.ChaoticHalves.{KeptLows}
 use Rattle.fixpoint.proofs.Tables.{turned-first, turned-start, turned-closed}
 use Rattle.semantics.specs.Grade.{lower, upper}

@@ -3,7 +3,7 @@ ghost use mathlib.Core.Path.{_≡_};
 ghost use mathlib.Core.List.{_++_};
 ghost use mathlib.Core.Option.{none};
 ghost use Prim.Native.Nat.{ℕ, _≤_, _+_, _<_, _*_};
-ghost use lib.ListN.{length, getD, set, drop};
+ghost use lib.ListN.{length, getD, drop};
 ghost use Rattle.semantics.specs.Operation.{ends, indexLength, usedWorkspace, closedWorkspace, ClosedOf};
 ghost use Rattle.closed.specs.Scratch.{held};
 ghost use Rattle.closed.specs.Waiting.{MaybeIndex};

@@ -3,13 +3,13 @@ use mathlib.Core.Path.{_≡_, refl, sym, _∙_, ap}
 use mathlib.Core.Logic.{⊎-elim}
 use mathlib.Core.Bool.{true}
 use mathlib.Core.List.{List, [], _∷_}
-use Prim.Native.Nat.{ℕ, zero, suc, _+_, _-_, _≤_, _<_, max}
+use Prim.Native.Nat.{ℕ, zero, suc, _-_, _≤_, _<_, max}
 use native.Mathlib.Decide.{ℕ-discrete}
 use native.Mathlib.Omega.{arith}
-use lib.ListN.{length, getD, drop}
+use lib.ListN.{drop}
 use Rattle.fixpoint.specs.Interval.{Interval, Assign}
 use Rattle.fixpoint.proofs.KnowledgeOrder.{pair-eq}
-use Rattle.semantics.specs.Area.{lineAt, pageOf, sound, topOf, conditionsOf, countOf}
+use Rattle.semantics.specs.Area.{lineAt, pageOf, sound, topOf, countOf}
 use Rattle.semantics.specs.Body.{lineBody, bodies, bodyless, largestOf, T}
 use Rattle.semantics.specs.Grade.{End, lower, upper, foldFrom, largest}
 use Rattle.semantics.specs.Page.{Line}

@@ -1,7 +1,7 @@
 -- What an F or R line adds to the body of its head, at one end. Assumes nothing.
 use mathlib.Core.Path.{_≡_, refl}
 use mathlib.Core.Bool.{true}
-use mathlib.Core.List.{List, [], map}
+use mathlib.Core.List.{List, map}
 use Prim.Native.Nat.{ℕ, _+_, _-_, _≤_}
 use lib.ListN.{getD, take, drop}
 use borrow.Author.Tests.{eq-eqb}

@@ -1,6 +1,6 @@
 -- An end of a rule's value over a table of that end: the ends of `foldFrom` and `weighted`, and what the rule's entry holds.
 -- Assumes nothing.
-use mathlib.Core.Path.{_≡_, refl, sym, _∙_, ap, ap₂, subst}
+use mathlib.Core.Path.{_≡_, refl, sym, _∙_, ap, ap₂}
 use mathlib.Core.Bool.{true}
 use mathlib.Core.List.{List, [], _∷_, map, foldl}
 use Prim.Native.Nat.{ℕ, _+_, _*_, _-_, _≤_, _<_}

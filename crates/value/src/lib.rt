@@ -2,8 +2,7 @@
 ghost use mathlib.Core.Path.{_≡_};
 ghost use mathlib.Core.Bool.{true};
 ghost use Prim.Native.Nat.{_≤_, _<_, _+_, _*_, min, max};
-ghost use lib.ListN.{length, getD};
-ghost use Rattle.fixpoint.specs.Interval.{Interval};
+ghost use lib.ListN.{getD};
 ghost use Rattle.semantics.specs.Area.{sound, pageOf, topOf, conditionsOf, kind, ruleKind};
 ghost use Rattle.semantics.specs.Body.{bodyless};
 ghost use Rattle.semantics.specs.Grade.{Op, combine, divided};

@@ -1,8 +1,7 @@
 -- `begin` stores a low end and a mark for one condition after the other (`Beginning`).
 use native.Mathlib.Omega.{arith}
-use borrow.Author.Needs.{needs}
 use Prim.Native.Nat.{_-_}
-use lib.ListN.{length, length-set}
+use lib.ListN.{length-set}
 use Rattle.closed.proofs.Answering.{Beginning, beginning-first, beginning-next, beginning-last, byte-is}
 use Rattle.closed.proofs.begin.Statement.{statement}
 use Rattle.closed.proofs.begin.Tie as tie

@@ -1,7 +1,6 @@
 -- `write_answers` stores both ends of one query after the other (`Answering`).
 use mathlib.Core.Path.{refl}
 use native.Mathlib.Omega.{arith}
-use borrow.Author.Needs.{needs}
 use Prim.Native.Nat.{_-_}
 use lib.ListN.{length, length-set}
 use Rattle.closed.specs.Scratch.{held}

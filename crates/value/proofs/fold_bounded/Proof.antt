@@ -1,7 +1,7 @@
 -- `fold_bounded`: the sum, at most top, literal by literal (`Folding`).
 use Prim.Native.Nat.{_-_, _≤_}
 use native.Mathlib.Omega.{arith}
-use lib.ListN.{length, getD}
+use lib.ListN.{length}
 use Rattle.value.specs.LineEnds.{bounded}
 use Rattle.value.proofs.Folds.{Folding, folding-first, folding-next, folding-last}
 use Rattle.value.proofs.fold_bounded.Statement.{statement}

@@ -1,7 +1,7 @@
 -- `fold_excess`: what a sum has over top, literal by literal (`Folding`).
 use Prim.Native.Nat.{_-_, _≤_}
 use native.Mathlib.Omega.{arith}
-use lib.ListN.{length, getD}
+use lib.ListN.{length}
 use Rattle.value.specs.LineEnds.{excess}
 use Rattle.value.proofs.Folds.{Folding, folding-first, folding-next, folding-last}
 use Rattle.value.proofs.fold_excess.Statement.{statement}

@@ -1,7 +1,7 @@
 -- `fold_largest`: the largest, literal by literal (`Folding`).
 use Prim.Native.Nat.{_-_, max}
 use native.Mathlib.Omega.{arith}
-use lib.ListN.{length, getD}
+use lib.ListN.{length}
 use Rattle.value.proofs.Folds.{Folding, folding-first, folding-next, folding-last}
 use Rattle.value.proofs.fold_largest.Statement.{statement}
 use Rattle.value.proofs.fold_largest.Tie as tie

@@ -1,7 +1,7 @@
 -- `fold_product`: the product divided by top, literal by literal (`Folding`).
 use Prim.Native.Nat.{_-_, _≤_}
 use native.Mathlib.Omega.{arith}
-use lib.ListN.{length, getD}
+use lib.ListN.{length}
 use Rattle.value.specs.LineEnds.{product}
 use Rattle.semantics.proofs.Ops.{divided-bounded}
 use Rattle.page.proofs.Entries.{small-product}

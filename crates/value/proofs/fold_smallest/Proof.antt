@@ -1,7 +1,7 @@
 -- `fold_smallest`: the smallest, literal by literal (`Folding`).
 use Prim.Native.Nat.{_-_, min}
 use native.Mathlib.Omega.{arith}
-use lib.ListN.{length, getD}
+use lib.ListN.{length}
 use Rattle.value.proofs.Folds.{Folding, folding-first, folding-next, folding-last}
 use Rattle.value.proofs.fold_smallest.Statement.{statement}
 use Rattle.value.proofs.fold_smallest.Tie as tie

@@ -1,7 +1,6 @@
 -- `alternate` makes rounds until one moves no low end (`Alternating`).
 use mathlib.Core.Path.{refl, _∙_, sym}
 use native.Mathlib.Omega.{arith}
-use borrow.Author.Needs.{needs}
 use Rattle.semantics.specs.Area.{conditionsOf}
 use Rattle.semantics.specs.Grade.{lower}
 use Rattle.page.proofs.Head.{head-of}

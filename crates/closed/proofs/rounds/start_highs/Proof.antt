@@ -2,7 +2,7 @@
 use mathlib.Core.Path.{refl, ap}
 use native.Mathlib.Omega.{arith}
 use Prim.Native.Nat.{_-_}
-use lib.ListN.{length, length-set}
+use lib.ListN.{length-set}
 use Rattle.page.proofs.Head.{head-of}
 use Rattle.fixpoint.specs.Interval.{Interval}
 use Rattle.closed.proofs.Starting.{StartingHighs, highs-first, highs-next, highs-last, low-read}

@@ -1,8 +1,7 @@
 -- `start_lows` negates one condition after the other (`StartingLows`).
 use mathlib.Core.Path.{sym, _∙_}
-use Prim.Native.Nat.{_+_, _*_, _-_}
+use Prim.Native.Nat.{_-_}
 use native.Mathlib.Omega.{arith}
-use borrow.Author.Needs.{needs}
 use Rattle.page.proofs.Head.{head-of}
 use Rattle.closed.proofs.Starting.{StartingLows, lows-first, high-read, lows-next, lows-last}
 use Rattle.closed.proofs.rounds.start_lows.Statement.{statement}

@@ -3,10 +3,9 @@ use mathlib.Core.Path.{sym, _∙_, ap}
 use mathlib.Core.Logic.{⊎-elim}
 use Prim.Native.Nat.{_+_}
 use native.Mathlib.Omega.{arith}
-use borrow.Author.Needs.{needs}
 use lib.ListN.{length}
 use Rattle.value.specs.Table.{side}
-use Rattle.closed.proofs.Draining.{left, draining-first, Drains, drains-real, drains-few, drains-group, drains-ends, drains-set, drains-rose, rose-less, drains-still, still-less, drains-last}
+use Rattle.closed.proofs.Draining.{left, draining-first, Drains, drains-real, drains-few, drains-group, drains-set, drains-rose, rose-less, drains-still, still-less, drains-last}
 use Rattle.closed.proofs.settle.drain.Statement.{statement}
 use Rattle.closed.proofs.settle.drain.Tie as tie
 

@@ -1,8 +1,7 @@
 -- `settle_sweeping` looks at all lines until nothing rises (`Settling`).
-use mathlib.Core.Path.{_≡_, ap, _∙_}
+use mathlib.Core.Path.{_∙_}
 use native.Mathlib.Omega.{arith}
 use borrow.Author.Needs.{needs}
-use lib.ListN.{length}
 use Rattle.page.proofs.Head.{head-of}
 use Rattle.value.specs.Table.{side}
 use Rattle.closed.specs.Scratch.{roomAt}
