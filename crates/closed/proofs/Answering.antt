@@ -17,7 +17,7 @@ use Rattle.fixpoint.specs.Interval.{Interval, Assign}
 use Rattle.semantics.specs.Area.{sound, pageOf, conditionsOf, allUnder}
 use Rattle.semantics.specs.Body.{unknownByDefault}
 use Rattle.semantics.specs.Call.{Cause, cause, firstOf}
-use Rattle.semantics.specs.Operation.{ends, zeros, scratchLength, queryCauses, closedCauses, linesLength, indexLength, usedWorkspace, closedWorkspace, ClosedAnswers, ClosedOf}
+use Rattle.semantics.specs.Operation.{ends, zeros, scratchLength, queryCauses, closedCauses, indexLength, usedWorkspace, closedWorkspace, ClosedAnswers, ClosedOf}
 use Rattle.semantics.specs.Reading.{queried, closure, reached}
 use Rattle.semantics.specs.Table.{listed, member}
 use Rattle.semantics.proofs.Closure.{reached-closed, reached-complete}
@@ -25,7 +25,7 @@ use Rattle.semantics.proofs.Invariant.{no-cause-holds}
 use Rattle.semantics.proofs.Readings.{names-inside, closed-is}
 use Rattle.semantics.proofs.Soundness.{sound-proper, both-true}
 use Rattle.semantics.proofs.Table.{or-cases}
-use Rattle.index.specs.Parts.{Index}
+use Rattle.index.specs.Parts.{linesLength, Index}
 use Rattle.reach.specs.Marks.{Marks}
 use Rattle.reach.proofs.Refusals.{first-10, first-11, first-12, first-behind}
 use Rattle.closed.specs.Scratch.{held, reachedAt}
@@ -161,12 +161,6 @@ under-listed n (q ∷ qs) h c e =
       | inl f ↦ omega (arith, ltb-true q n (b .0), eqb-true q c f)
       | inr f ↦ under-listed n qs (b .1) c f
     ]
-
-pub under-at : (n : ℕ) (qs : List ℕ) → allUnder n qs ≡ true → (k : ℕ) → k < length qs → getD qs k 0 < n
-unfolding allUnder
-under-at n [] h k l = absurd (omega arith)
-under-at n (q ∷ qs) h zero l = ltb-true q n (both-true (ltb q n) (allUnder n qs) h .0)
-under-at n (q ∷ qs) h (suc k) l = under-at n qs (both-true (ltb q n) (allUnder n qs) h .1) k (omega arith)
 
 ends-same : (I J : Assign) (qs : List ℕ) → ((q : ℕ) → listed q qs ≡ true → I q ≡ J q) → ends I qs ≡ ends J qs
 unfolding listed

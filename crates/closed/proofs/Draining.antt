@@ -15,7 +15,7 @@ use Rattle.fixpoint.proofs.Sum.{sum-le, sum-const, sum-drop}
 use Rattle.semantics.specs.Area.{sound, lineAt, pageOf, topOf, conditionsOf, countOf}
 use Rattle.semantics.specs.Grade.{End}
 use Rattle.semantics.specs.Page.{Line, fact, rule, query}
-use Rattle.page.specs.Places.{placeOf, LineOf}
+use Rattle.page.specs.Places.{placeOf, LineIn, LineOf}
 use Rattle.page.proofs.Head.{head-of}
 use Rattle.page.proofs.Scanning.{linesLeft, lines-first}
 use Rattle.page.proofs.LineNumbers.{lines-from, line-of}
@@ -25,12 +25,12 @@ use Rattle.index.specs.Parts.{Users}
 use Rattle.index.specs.Readers.{among, linesRead}
 use Rattle.value.specs.Table.{endOf, other}
 use Rattle.value.proofs.BodyEnds.{body-most}
-use Rattle.closed.specs.Scratch.{baseOf, held, reachedAt, roomAt, Half, LineIn, placeIn, Lookable, Looked, RestsAt, Settled}
+use Rattle.closed.specs.Scratch.{baseOf, held, reachedAt, roomAt, Half, placeIn, Lookable, Looked, RestsAt, Settled}
 use Rattle.closed.specs.Waiting.{WaitSet, Woken, Waiting}
 use Rattle.closed.proofs.Looking.{place-index}
 use Rattle.closed.proofs.Raising.{E}
 use Rattle.closed.proofs.Settling.{Settling, settling-first, settling-next, settling-last}
-use Rattle.closed.proofs.Waking.{group-within}
+use Rattle.index.proofs.Grouped.{group-within}
 
 -- what a line reads its page reads
 read-cons : (code : ℕ) (l : Line) (ls : List Line) (c : ℕ) → linesRead code (l ∷ ls) c ≡ (linesRead code (l ∷ []) c || linesRead code ls c)

@@ -13,9 +13,9 @@ use Rattle.semantics.specs.Area.{firstLine, lineAt, topOf, conditionsOf}
 use Rattle.semantics.specs.Grade.{End}
 use Rattle.fixpoint.proofs.Evaluation.{or-false}
 use Rattle.page.specs.Lines.{stepAt}
-use Rattle.page.specs.Places.{placeOf}
+use Rattle.page.specs.Places.{placeOf, LineIn}
 use Rattle.value.specs.Table.{endOf, other}
-use Rattle.closed.specs.Scratch.{baseOf, held, Half, LineIn, Covered, Raised, placeAs, placeIn, Lookable, Looked}
+use Rattle.closed.specs.Scratch.{baseOf, held, Half, Covered, Raised, placeAs, placeIn, Lookable, Looked}
 use Rattle.closed.proofs.EndReads.{line-level}
 use Rattle.closed.proofs.Raising.{line-ranged, room-less, steady-same, steady-on}
 

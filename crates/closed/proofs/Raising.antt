@@ -18,7 +18,7 @@ use Rattle.semantics.specs.Grade.{End}
 use Rattle.semantics.specs.Page.{InRange, AllInRange, names}
 use Rattle.semantics.proofs.Readings.{page-system}
 use Rattle.semantics.proofs.Soundness.{sound-proper}
-use Rattle.page.specs.Places.{placeOf, LineOf}
+use Rattle.page.specs.Places.{placeOf, LineIn, LineOf}
 use Rattle.page.specs.Lines.{EntryIn}
 use Rattle.page.proofs.Head.{head-of}
 use Rattle.page.proofs.Scan.{entry-head}
@@ -28,7 +28,7 @@ use Rattle.value.specs.Table.{endOf, other, Grades}
 use Rattle.value.specs.LineEnds.{LineEnd}
 use Rattle.value.proofs.BodyEnds.{body-has}
 use Rattle.closed.specs.Ends.{reads, EndLocal, room}
-use Rattle.closed.specs.Scratch.{baseOf, tableOf, held, reachedAt, settledAt, roomAt, Half, Steady, LineIn, Covered, Raised}
+use Rattle.closed.specs.Scratch.{baseOf, tableOf, held, reachedAt, settledAt, roomAt, Half, Steady, Covered, Raised}
 use Rattle.closed.proofs.EndReads.{line-level, page-ends}
 use Rattle.closed.proofs.Halves.{ends-in, end-in, below-T, settled-others}
 use Rattle.closed.proofs.Scratch.{end-at, base-in, part-is, shut-over, half-table, half-grades, put-here, put-else, put-other, put-negated, put-rest, put-mark, put-beyond}

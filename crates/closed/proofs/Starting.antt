@@ -20,7 +20,7 @@ use Rattle.index.specs.Readers.{linesRead}
 use Rattle.closed.specs.Scratch.{Half}
 use Rattle.closed.specs.Waiting.{WaitSet, Woken}
 use Rattle.closed.specs.Round.{HighsBegun, LowsBegun, Renegated, Woke}
-use Rattle.closed.proofs.Waking.{reads-below}
+use Rattle.index.proofs.Readers.{reads-below}
 
 -- a fact of every condition before c, and of c
 pub upto : (P : ℕ → Type 0) (c : ℕ) → ((d : ℕ) → d < c → P d) → P c → (d : ℕ) → d < c + 1 → P d

@@ -20,22 +20,11 @@ use Rattle.bits.proofs.Sets.{word-none}
 use Rattle.index.specs.Groups.{Groups, LinesByHead, HeadsByLiteral}
 use Rattle.index.specs.Parts.{Lines, Users, MaybeUsers}
 use Rattle.index.specs.Readers.{among, linesRead}
+use Rattle.index.proofs.Grouped.{group-within}
 use Rattle.index.proofs.Parts.{has-lines, has-users}
+use Rattle.index.proofs.Readers.{reads-below}
 use Rattle.closed.specs.Scratch.{reachedAt}
-use Rattle.closed.specs.Waiting.{WaitSet, AllWait, HeadsWoken, Woken, Indexed, MaybeIndexed, MaybeIndex}
-
--- groups one behind the other
-module _ {m : ℕ} {Has : ℕ → ℕ → Type 0} {start items : List ℕ} (g : Groups m Has start items) where
-  group-order : (k t : ℕ) → t + k ≤ m → getD start t 0 ≤ getD start (t + k) 0
-  group-order zero t l = subst (λ (x : ℕ). getD start t 0 ≤ getD start x 0) {x = t} (omega arith) (omega arith)
-  group-order (suc k) t l =
-      let h : getD start (t + 1) 0 ≤ getD start (t + suc k) 0 = subst (λ (x : ℕ). getD start (t + 1) 0 ≤ getD start x 0) (omega arith) (group-order k (t + 1) (omega arith)) in
-      omega (arith, g .ordered t (omega arith))
-
-  pub group-within : (t : ℕ) → t ≤ m → getD start t 0 ≤ length items
-  group-within t l =
-      let h : getD start t 0 ≤ getD start m 0 = subst (λ (x : ℕ). getD start t 0 ≤ getD start x 0) (omega arith) (group-order (m - t) t (omega arith)) in
-      omega (arith, g .within)
+use Rattle.closed.specs.Waiting.{WaitSet, AllWait, HeadsWait, Woken, Indexed, MaybeIndexed, MaybeIndex}
 
 -- heads join the set one after the other
 module _ (heads : List ℕ) (from to : ℕ) (words₀ : List ℕ) where
@@ -44,7 +33,7 @@ module _ (heads : List ℕ) (from to : ℕ) (words₀ : List ℕ) where
     pub within : i ≤ to
     pub inside : to ≤ length heads
     pub small : (j : ℕ) → from ≤ j → j < to → getD heads j 0 < 512
-    pub woken : HeadsWoken heads from i words₀ words
+    pub woken : HeadsWait heads from i words₀ words
 
   pub waking-first : length words₀ ≡ 8 → from ≤ to → to ≤ length heads → ((j : ℕ) → from ≤ j → j < to → getD heads j 0 < 512) → Waking words₀ from
   waking-first h o l q = record { begun = omega arith; within = o; inside = l; small = q; woken = record { size = h; kept = λ c l r. r; woken = λ j l u. absurd (omega arith); only = λ c l r. inl r } }
@@ -73,26 +62,13 @@ module _ (heads : List ℕ) (from to : ℕ) (words₀ : List ℕ) where
       old : (j : ℕ) → from ≤ j → j < i → has words′ (getD heads j 0) ≡ true
       old j l u = w .1 (getD heads j 0) (v .small j l (omega arith)) ∙ rw (v .woken .woken j l u)
 
-  pub waking-last : {words : List ℕ} {i : ℕ} → Waking words i → to ≤ i → HeadsWoken heads from to words₀ words
-  waking-last {words} {i} v l = let q : i ≡ to = omega (arith, v .within) in subst (λ (x : ℕ). HeadsWoken heads from x words₀ words) q (v .woken)
-
--- a head that has a rule is a condition
-read-below : (top n : ℕ) (ls : List Line) → AllInRange top n ls → (code h : ℕ) → linesRead code ls h ≡ true → h < n
-unfolding linesRead
-read-below top n [] w code h e = absurd (true≢false (sym e))
-read-below top n (fact d l u ∷ ls) w code h e = read-below top n ls (w .1) code h e
-read-below top n (rule d v op lits ∷ ls) w code h e =
-    ⊎-elim (λ q. omega (arith, eqb-true d h (both-true (eqb d h) (among code lits) q .0), w .0 .0)) (λ q. read-below top n ls (w .1) code h q) (or-cases _ (linesRead code ls h) e)
-read-below top n (query r d ∷ ls) w code h e = read-below top n ls (w .1) code h e
+  pub waking-last : {words : List ℕ} {i : ℕ} → Waking words i → to ≤ i → HeadsWait heads from to words₀ words
+  waking-last {words} {i} v l = let q : i ≡ to = omega (arith, v .within) in subst (λ (x : ℕ). HeadsWait heads from x words₀ words) q (v .woken)
 
 -- the parts of an index as the code takes them
 module _ (a : List ℕ) (ok : sound a ≡ true) where
   abbrev n : ℕ
   n = conditionsOf a
-
-  pub reads-below : (code h : ℕ) → linesRead code (pageOf a .lines) h ≡ true → h < n
-  unfolding pageOf
-  reads-below code h q = read-below (pageOf a .top) (pageOf a .conditions) (pageOf a .lines) (sound-proper a ok .ranged) code h q
 
   module _ (users : List ℕ) (u : Users a users) where
     abbrev pub starts : List ℕ
@@ -112,15 +88,15 @@ module _ (a : List ℕ) (ok : sound a ≡ true) where
       code-within = group-within user-groups (code + 1) (omega arith)
 
       pub heads-small : (j : ℕ) → getD starts code 0 ≤ j → j < getD starts (code + 1) 0 → getD heads j 0 < 512
-      heads-small j o h = omega (arith, reads-below code (getD heads j 0) (user-groups .only code j l o h), head-of a ok .few)
+      heads-small j o h = omega (arith, reads-below a ok code (getD heads j 0) (user-groups .only code j l o h), head-of a ok .few)
 
-      pub woken-by : {words words′ : List ℕ} → WaitSet n words → HeadsWoken heads (getD starts code 0) (getD starts (code + 1) 0) words words′ → Woken a code words words′
+      pub woken-by : {words words′ : List ℕ} → WaitSet n words → HeadsWait heads (getD starts code 0) (getD starts (code + 1) 0) words words′ → Woken a code words words′
       woken-by {words} {words′} s w =
           record {
             set = record {
               size = w .size;
               inside = λ c m r. ⊎-elim (λ q. s .inside c m q)
-                  (λ q. rw (← q .3) (reads-below code (getD heads (q .0) 0) (user-groups .only code (q .0) l (q .1) (q .2)))) (w .only c m r);
+                  (λ q. rw (← q .3) (reads-below a ok code (getD heads (q .0) 0) (user-groups .only code (q .0) l (q .1) (q .2)))) (w .only c m r);
             };
             kept = w .kept;
             woken = λ h r. let q = user-groups .every code h l r in subst (λ (x : ℕ). has words′ x ≡ true) (q .3) (w .woken (q .0) (q .1) (q .2));

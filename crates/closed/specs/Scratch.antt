@@ -17,7 +17,7 @@ use Rattle.semantics.specs.Body.{lineBody, T, unknownByDefault}
 use Rattle.semantics.specs.Grade.{End, lower, upper}
 use Rattle.semantics.specs.Page.{names}
 use Rattle.index.specs.Readers.{linesRead}
-use Rattle.page.specs.Places.{placeOf}
+use Rattle.page.specs.Places.{placeOf, LineIn}
 use Rattle.value.specs.Table.{endOf, other}
 use Rattle.closed.specs.Ends.{settledEnd, room}
 
@@ -62,12 +62,6 @@ pub record Steady (e : End) (n : ℕ) (s s′ : List ℕ) : Type 0 where
   pub rises : (c : ℕ) → c < n → endOf e (held n s c) ≤ endOf e (held n s′ c)
   pub negations : (c : ℕ) → c < n → getD s′ (baseOf n (other e) + (2 * c + 1)) 0 ≡ getD s (baseOf n (other e) + (2 * c + 1)) 0
   pub beyond : drop (6 * n) s′ ≡ drop (6 * n) s
-
--- a line stands at a place
-pub record LineIn (a : List ℕ) (at : ℕ) : Type 0 where
-  pub number : ℕ
-  pub in-count : number < countOf a
-  pub place : at ≡ placeOf a number
 
 -- The line at a place is looked at between s and s′: if what it names plainly holds in s′ what it held in s, it adds to no reached
 -- condition more than that holds.

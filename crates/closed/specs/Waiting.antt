@@ -23,7 +23,7 @@ pub record AllWait (n : ℕ) (s words : List ℕ) : Type 0 where
   pub waits : (c : ℕ) → c < n → reachedAt n s c ≡ true → has words c ≡ true
 
 -- a part of a list of heads joins the set
-pub record HeadsWoken (heads : List ℕ) (from to : ℕ) (words words′ : List ℕ) : Type 0 where
+pub record HeadsWait (heads : List ℕ) (from to : ℕ) (words words′ : List ℕ) : Type 0 where
   pub size : length words′ ≡ 8
   pub kept : (c : ℕ) → c < 512 → has words c ≡ true → has words′ c ≡ true
   pub woken : (j : ℕ) → from ≤ j → j < to → has words′ (getD heads j 0) ≡ true

@@ -4,11 +4,12 @@ ghost use mathlib.Core.Bool.{true};
 ghost use Prim.Native.Nat.{ℕ, _*_, _≤_, _<_};
 ghost use lib.ListN.{length, getD};
 ghost use Rattle.semantics.specs.Area.{sound, conditionsOf};
+ghost use Rattle.page.specs.Places.{LineIn};
 ghost use Rattle.index.specs.Groups.{LinesByHead};
 ghost use Rattle.index.specs.Parts.{Users};
 ghost use Rattle.value.specs.Table.{side};
-ghost use Rattle.closed.specs.Scratch.{baseOf, Half, LineIn, Raised, Lookable, Looked, Settled};
-ghost use Rattle.closed.specs.Waiting.{WaitSet, HeadsWoken, Woken, Waiting, MaybeIndexed};
+ghost use Rattle.closed.specs.Scratch.{baseOf, Half, Raised, Lookable, Looked, Settled};
+ghost use Rattle.closed.specs.Waiting.{WaitSet, HeadsWait, Woken, Waiting, MaybeIndexed};
 use value::End;
 
 // If the line at `at` is an F or R line of a reached condition, that condition's end becomes the line's where the line's is higher;
@@ -84,7 +85,7 @@ fn settle_sweeping(a: &[u16], scratch: &mut [u16], base: usize, end: End) -> boo
 // The heads from one place up to another wait.
 fn wake_heads(words: &mut [u64], heads: &[u16], from: usize, to: usize)
     requires { ⌜ (length (now words) ≡ 8) × (from ≤ to) × (to ≤ length (now heads)) × ((j : ℕ) → from ≤ j → j < to → getD (now heads) j 0 < 512) ⌝ }
-    ensures { λ _. ⌜ HeadsWoken (now (heads .entry)) from to (now (words .entry)) (now (words .exit)) ⌝ }
+    ensures { λ _. ⌜ HeadsWait (now (heads .entry)) from to (now (words .entry)) (now (words .exit)) ⌝ }
 {
     let mut i = from;
     while i < to {

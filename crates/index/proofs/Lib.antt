@@ -13,3 +13,5 @@ pub mod Lent
 pub mod Parts
 -- the groups in the items
 pub mod Grouped
+-- the heads whose rules have a literal
+pub mod Readers

@@ -9,9 +9,9 @@ use lib.ListN.{length, getD, take, drop, replicate, length-replicate, getD-repli
 use lib.Seq.{drop-at, length-take-le}
 use borrow.Rule.Slice.PartAt.{part-to-end}
 use Rattle.semantics.specs.Area.{conditionsOf}
-use Rattle.semantics.specs.Operation.{zeros, linesLength}
+use Rattle.semantics.specs.Operation.{zeros}
 use Rattle.index.specs.Groups.{LinesByHead, HeadsByLiteral, Cleared}
-use Rattle.index.specs.Parts.{Lines, Users, MaybeLines, MaybeUsers, Index}
+use Rattle.index.specs.Parts.{linesLength, Lines, Users, MaybeLines, MaybeUsers, Index}
 
 -- a part that is not empty is an index
 pub has-lines : (a lines : List ℕ) → MaybeLines a lines → (length lines ≡ 0 → ⊥)

@@ -62,9 +62,6 @@ module _ (a : List ℕ) where
     pub room : at + 4 ≤ length a
     room = entry-here .four
 
-    pub next-in : at + step ≤ length a
-    next-in = entry-here .whole
-
     -- the lines still to come are this one and those behind it
     pub lines-on : linesLeft at k ≡ lineAt (drop at a) ∷ linesLeft (at + step) (k + 1)
     unfolding linesOf

@@ -11,6 +11,12 @@ unfoldable pub placeOf : List ℕ → ℕ → ℕ
 placeOf a zero = firstLine a
 placeOf a (suc k) = placeOf a k + stepAt a (placeOf a k)
 
+-- a line begins at a place
+pub record LineIn (a : List ℕ) (at : ℕ) : Type 0 where
+  pub number : ℕ
+  pub in-count : number < countOf a
+  pub place : at ≡ placeOf a number
+
 -- an F or R line of the condition c begins at a place
 pub record LineOf (a : List ℕ) (c at : ℕ) : Type 0 where
   pub number : ℕ

@@ -13,7 +13,7 @@ use Rattle.fixpoint.proofs.KnowledgeOrder.{pair-eq}
 use Rattle.semantics.specs.Area.{sound, pageOf, topOf, conditionsOf, countOf, usedOf, lineAt}
 use Rattle.semantics.specs.Body.{lineBody, bodyless, T}
 use Rattle.semantics.specs.Grade.{End, lower, upper}
-use Rattle.page.specs.Places.{placeOf, LineOf}
+use Rattle.page.specs.Places.{placeOf, LineIn, LineOf}
 use Rattle.page.specs.Lines.{stepAt, EntryIn, Next}
 use Rattle.semantics.proofs.UsedLength.{used-most}
 use Rattle.page.proofs.Scanning.{entry-here}
@@ -23,13 +23,13 @@ use Rattle.value.specs.LineEnds.{LineEnd}
 use Rattle.value.proofs.BodyEnds.{body-most, body-has, body-none}
 use Rattle.ends.specs.Mirror.{mirrored}
 use Rattle.index.specs.Groups.{LinesByHead}
-use Rattle.run.specs.Body.{LineHere, TakenLine, PassedLine, Taken, Largest, BestOf, Body}
+use Rattle.run.specs.Body.{TakenLine, PassedLine, Taken, Largest, BestOf, Body}
 
 -- the entry of a line lies in the area, and where it is an F or R line of its head
-pub here-entry : (a : List ℕ) → sound a ≡ true → {at : ℕ} → LineHere a at → EntryIn a at
+pub here-entry : (a : List ℕ) → sound a ≡ true → {at : ℕ} → LineIn a at → EntryIn a at
 here-entry a ok h = subst (EntryIn a) (sym (h .place)) (entry-here a (scanning-at a ok (h .number) (omega (arith, h .in-count))) (h .in-count))
 
-pub here-line : {a : List ℕ} {c at : ℕ} → LineHere a at → getD a at 0 ≡ c → getD a (at + 1) 0 ≤ 5 → LineOf a c at
+pub here-line : {a : List ℕ} {c at : ℕ} → LineIn a at → getD a at 0 ≡ c → getD a (at + 1) 0 ≤ 5 → LineOf a c at
 here-line h e b = record { number = h .number; in-count = h .in-count; place = h .place; head = e; body = b }
 
 -- one end over the places seen

@@ -9,16 +9,10 @@ use Rattle.fixpoint.specs.Interval.{Interval, Assign}
 use Rattle.semantics.specs.Area.{pageOf, topOf, conditionsOf, countOf, lineAt}
 use Rattle.semantics.specs.Body.{lineBody, T}
 use Rattle.semantics.specs.Grade.{End, lower, upper}
-use Rattle.page.specs.Places.{placeOf, LineOf}
+use Rattle.page.specs.Places.{LineOf}
 use Rattle.value.specs.Table.{endOf, EndTable}
 use Rattle.value.specs.LineEnds.{LineEnd}
 use Rattle.ends.specs.Mirror.{mirrored}
-
--- a line begins at a place
-pub record LineHere (a : List ℕ) (at : ℕ) : Type 0 where
-  pub number : ℕ
-  pub in-count : number < countOf a
-  pub place : at ≡ placeOf a number
 
 -- an F or R line of c at a place makes both ends at least its own; any other line changes nothing
 pub record TakenLine (a values : List ℕ) (c at low high : ℕ) (found′ : Bool) (low′ high′ : ℕ) : Type 0 where

@@ -7,7 +7,8 @@ ghost use Rattle.semantics.specs.Area.{sound, topOf, conditionsOf};
 ghost use Rattle.ends.specs.Mirror.{Mirrored};
 ghost use Rattle.index.specs.Groups.{LinesByHead};
 ghost use Rattle.index.specs.Parts.{MaybeLines};
-ghost use Rattle.run.specs.Body.{LineHere, Taken, BestOf, Body};
+ghost use Rattle.page.specs.Places.{LineIn};
+ghost use Rattle.run.specs.Body.{Taken, BestOf, Body};
 use value::Ends;
 
 // The largest ends over the lines of a condition that are seen, and whether there is one.
@@ -29,7 +30,7 @@ fn no_line() -> Best
 
 // The line at `at` is taken in if it is an F or R line of c.
 fn take_line(a: &[u16], at: usize, values: &[u8], c: u16, best: Best) -> Best
-    requires { ⌜ (sound (now a) ≡ true) × Mirrored (topOf (now a)) (conditionsOf (now a)) (now values) × LineHere (now a) at ⌝ }
+    requires { ⌜ (sound (now a) ≡ true) × Mirrored (topOf (now a)) (conditionsOf (now a)) (now values) × LineIn (now a) at ⌝ }
     ensures { λ r. ⌜ Taken (now (a .entry)) (now (values .entry)) c at (best .found) (best .low) (best .high) (r .found) (r .low) (r .high) ⌝ }
 {
     if a[at] != c {

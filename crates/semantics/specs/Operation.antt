@@ -57,6 +57,7 @@ abbrev pub leftAs : Option ℕ → Page → List ℕ → Outcome → Left
 leftAs (some k) page r o = record { answer = refused k; run = r }
 leftAs none page r o = record { answer = o .answer; run = runOf page (reachedOf page r) (o .state) ++ drop (3 * page .conditions) r }
 
+-- refusals 10 and 14 of Evaluate, Drive and Value; the others are among the answers of `outcome`
 abbrev pub runCauses : List ℕ → List ℕ → List Cause
 runCauses a r = cause (not (sound a)) 10 ∷ cause (not (runSound (pageOf a) r)) 14 ∷ []
 
@@ -76,14 +77,8 @@ valueOf a r c = operation a r (value c) .answer
 
 -- A workspace: numbers lent for an index of the page, which makes a drive and the closed reading fast and changes no answer. The index
 -- takes C + 1 numbers and one for each line, then 2 × C + 1 and one for each literal.
-abbrev pub linesLength : List ℕ → ℕ
-linesLength a = conditionsOf a + 1 + countOf a
-
-abbrev pub usersLength : List ℕ → ℕ
-usersLength a = 2 * conditionsOf a + 1 + (usedOf a - (firstLine a + 4 * countOf a))
-
 abbrev pub indexLength : List ℕ → ℕ
-indexLength a = linesLength a + usersLength a
+indexLength a = (conditionsOf a + 1 + countOf a) + (2 * conditionsOf a + 1 + (usedOf a - (firstLine a + 4 * countOf a)))
 
 unfoldable pub zeros : ℕ → List ℕ
 zeros zero = []

@@ -18,6 +18,7 @@ use Rattle.worklist.specs.Cells.{DependantsMarked}
 use Rattle.page.proofs.Head.{head-of, conditions-is}
 use Rattle.index.specs.Groups.{HeadsByLiteral}
 use Rattle.index.proofs.Grouped.{group-order, group-within}
+use Rattle.index.proofs.Readers.{reads-below}
 use Rattle.index.specs.Readers.{among, linesRead}
 use Rattle.worklist.specs.Waiting.{WordsMatch}
 use Rattle.worklist.proofs.Matching.{lt-or-le}
@@ -61,16 +62,6 @@ names-codes (rule d w op lits ∷ ls) h c =
     ∙ regroup (eqb d h && among (2 * c) lits) (eqb d h && among (2 * c + 1) lits) (linesRead (2 * c) ls h) (linesRead (2 * c + 1) ls h)
 names-codes (query r d ∷ ls) h c = names-codes ls h c
 
--- a head is a condition of the page
-read-below : (top n : ℕ) (ls : List Line) → AllInRange top n ls → (code h : ℕ) → linesRead code ls h ≡ true → h < n
-unfolding linesRead
-read-below top n [] w code h e = absurd (true≢false (sym e))
-read-below top n (fact d l u ∷ ls) w code h e = read-below top n ls (w .1) code h e
-read-below top n (rule d v op lits ∷ ls) w code h e =
-    ⊎-elim (λ q. omega (arith, eqb-true d h (both-true (eqb d h) (among code lits) q .0), w .0 .0)) (λ q. read-below top n ls (w .1) code h q)
-    (or-cases (eqb d h && among code lits) (linesRead code ls h) e)
-read-below top n (query r d ∷ ls) w code h e = read-below top n ls (w .1) code h e
-
 -- the marks, if the heads woken are those of a test
 module _ {heads run run′ : List ℕ} {from to : ℕ} (s : HeadsWoken heads from to run run′) where
   marks-by : (t : Bool) (h : ℕ) → (Among heads from to h → t ≡ true) → (t ≡ true → Among heads from to h)
@@ -89,9 +80,6 @@ module _ (a start heads : List ℕ) (e : sound a ≡ true) (g : HeadsByLiteral a
 
   abbrev startOf : ℕ → ℕ
   startOf t = getD start t 0
-
-  reads-below : (code h : ℕ) → linesRead code (pageOf a .lines) h ≡ true → h < n
-  reads-below code h q = rw (sym (conditions-is a)) (read-below (pageOf a .top) (pageOf a .conditions) (pageOf a .lines) (sound-proper a e .ranged) code h q)
 
   -- a part of whole groups whose heads are conditions
   part-in : {run : List ℕ} (t k : ℕ) → t + k ≤ 2 * n → 3 * n ≤ length run → HeadsBelow n heads (startOf t) (startOf (t + k)) → HeadsIn heads (startOf t) (startOf (t + k)) run
@@ -118,7 +106,7 @@ module _ (a start heads : List ℕ) (e : sound a ≡ true) (g : HeadsByLiteral a
     part-reads j u v = ⊎-elim (λ m. inl (g .only (2 * c) j (omega arith) u m)) (λ m. inr (g .only (2 * c + 1) j (omega arith) m (rw two v))) (lt-or-le j (startOf (2 * c + 1)))
 
     dependants-below : HeadsBelow n heads from to
-    dependants-below j u v = ⊎-elim (reads-below _ _) (reads-below _ _) (part-reads j u v)
+    dependants-below j u v = ⊎-elim (reads-below a e _ _) (reads-below a e _ _) (part-reads j u v)
 
     pub dependants-in : {run : List ℕ} → 3 * n ≤ length run → HeadsIn heads from to run
     dependants-in long = part-in (2 * c) 2 (omega arith) long dependants-below

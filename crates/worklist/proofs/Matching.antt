@@ -53,10 +53,6 @@ module _ {n : ℕ} {run words : List ℕ} (w : WordsMatch n run words) where
   pub none-waits : {r : ℕ} → LowestIn words r → 512 ≤ r → n ≤ 512 → Lowest n run n
   none-waits {r} s l f = record { within = omega arith; below = λ k m. not-in-set (omega arith) m (s .below k (omega arith)); found = λ m. absurd (omega arith) }
 
-  -- only who waits matters
-  pub match-same : {run′ : List ℕ} → ((k : ℕ) → k < n → markAt run′ k ≡ markAt run k) → WordsMatch n run′ words
-  match-same h = record { size = w .size; bits = λ k l. w .bits k l ∙ below-cong k n (λ m. ap (λ (x : ℕ). eqb x 2) (sym (h k m))) }
-
   -- c waits no longer
   pub match-removed : {c : ℕ} {run′ words′ : List ℕ} → Removed c words words′ → markAt run′ c ≢ 2 → ((k : ℕ) → k < n → k ≢ c → markAt run′ k ≡ markAt run k)
       → WordsMatch n run′ words′

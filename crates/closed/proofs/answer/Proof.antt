@@ -2,7 +2,8 @@
 use native.Mathlib.Omega.{arith}
 use borrow.Author.Needs.{needs}
 use Rattle.page.proofs.Head.{head-of}
-use Rattle.closed.proofs.Answering.{under-at, solve-ready, room}
+use Rattle.reach.proofs.Naming.{under-at}
+use Rattle.closed.proofs.Answering.{solve-ready, room}
 use Rattle.closed.proofs.answer.Statement.{statement}
 use Rattle.closed.proofs.answer.Tie as tie
 

@@ -4,7 +4,8 @@ use mathlib.Core.Logic.{⊎-elim}
 use Prim.Native.Nat.{_-_}
 use native.Mathlib.Omega.{arith}
 use Rattle.value.specs.Table.{side}
-use Rattle.closed.specs.Scratch.{LineIn, placeIn}
+use Rattle.page.specs.Places.{LineIn}
+use Rattle.closed.specs.Scratch.{placeIn}
 use Rattle.closed.proofs.Raising.{line-entry}
 use Rattle.closed.proofs.Looking.{Looking, looking-first, here-index, here-scan, line-here, looking-next, looking-last}
 use Rattle.closed.proofs.settle.look.Statement.{statement}
