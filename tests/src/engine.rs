@@ -122,6 +122,17 @@ impl Engine {
         (loan_start, slice.len(), std::mem::size_of::<T>())
     }
 
+    /// A workspace, or no slice where none is lent.
+    fn note_room(
+        workspace: Option<&[u16]>,
+        room: &Option<(Loan<u16>, usize)>,
+    ) -> (usize, usize, usize) {
+        match (workspace, room) {
+            (Some(numbers), Some((loan, _))) => Self::note(numbers, loan.ptr() as usize),
+            _ => (0, 0, 0),
+        }
+    }
+
     pub fn read(
         &mut self,
         text: &[u8],
@@ -281,33 +292,7 @@ impl Engine {
         run: &mut [u16],
         allowance: u32,
     ) -> Result<Result<Driven, Refusal>, String> {
-        let (page_loan, page_length) = self.lend_area(0, page);
-        let (run_loan, run_length) = self.lend_area(1, run);
-        let mut taken = self.out(|number| number as u32);
-        slot::mine().enter(
-            "drive",
-            u64::from(allowance),
-            &[
-                Self::note(page, page_loan.ptr() as usize),
-                Self::note(run, run_loan.ptr() as usize),
-            ],
-        );
-        // SAFETY: the slices and the out-parameter are valid and apart.
-        let code = unsafe {
-            simjorad_drive(
-                page_loan.ptr(),
-                page_length,
-                run_loan.ptr_mut(),
-                run_length,
-                allowance,
-                taken.ptr(),
-            )
-        };
-        slot::mine().leave();
-        self.calls += 1;
-        page_loan.end_const("page", page)?;
-        run_loan.end_mut("run", run)?;
-        driven(code, &taken)
+        self.drive_with(page, run, None, allowance)
     }
 
     pub fn drive_indexed(
@@ -317,37 +302,65 @@ impl Engine {
         workspace: &mut [u16],
         allowance: u32,
     ) -> Result<Result<Driven, Refusal>, String> {
+        self.drive_with(page, run, Some(workspace), allowance)
+    }
+
+    fn drive_with(
+        &mut self,
+        page: &[u16],
+        run: &mut [u16],
+        workspace: Option<&mut [u16]>,
+        allowance: u32,
+    ) -> Result<Result<Driven, Refusal>, String> {
         let (page_loan, page_length) = self.lend_area(0, page);
         let (run_loan, run_length) = self.lend_area(1, run);
-        let (workspace_loan, workspace_length) = self.lend_area(2, workspace);
+        let room = workspace
+            .as_deref()
+            .map(|numbers| self.lend_area(2, numbers));
         let mut taken = self.out(|number| number as u32);
         slot::mine().enter(
-            "drive_indexed",
+            if room.is_some() {
+                "drive_indexed"
+            } else {
+                "drive"
+            },
             u64::from(allowance),
             &[
                 Self::note(page, page_loan.ptr() as usize),
                 Self::note(run, run_loan.ptr() as usize),
-                Self::note(workspace, workspace_loan.ptr() as usize),
+                Self::note_room(workspace.as_deref(), &room),
             ],
         );
         // SAFETY: the slices and the out-parameter are valid and apart.
         let code = unsafe {
-            simjorad_drive_indexed(
-                page_loan.ptr(),
-                page_length,
-                run_loan.ptr_mut(),
-                run_length,
-                workspace_loan.ptr_mut(),
-                workspace_length,
-                allowance,
-                taken.ptr(),
-            )
+            match &room {
+                None => simjorad_drive(
+                    page_loan.ptr(),
+                    page_length,
+                    run_loan.ptr_mut(),
+                    run_length,
+                    allowance,
+                    taken.ptr(),
+                ),
+                Some((loan, length)) => simjorad_drive_indexed(
+                    page_loan.ptr(),
+                    page_length,
+                    run_loan.ptr_mut(),
+                    run_length,
+                    loan.ptr_mut(),
+                    *length,
+                    allowance,
+                    taken.ptr(),
+                ),
+            }
         };
         slot::mine().leave();
         self.calls += 1;
         page_loan.end_const("page", page)?;
         run_loan.end_mut("run", run)?;
-        workspace_loan.end_mut("workspace", workspace)?;
+        if let (Some((loan, _)), Some(numbers)) = (room, workspace) {
+            loan.end_mut("workspace", numbers)?;
+        }
         driven(code, &taken)
     }
 
@@ -407,40 +420,7 @@ impl Engine {
         scratch: &mut [u16],
         answers: &mut [u16],
     ) -> Result<Result<(), Refusal>, String> {
-        let (page_loan, page_length) = self.lend_area(0, page);
-        let queries_loan = self.lend(1, queries);
-        let (scratch_loan, scratch_length) = self.lend_area(2, scratch);
-        let (answers_loan, answers_length) = self.lend_area(3, answers);
-        slot::mine().enter(
-            "closed",
-            0,
-            &[
-                Self::note(page, page_loan.ptr() as usize),
-                Self::note(queries, queries_loan.ptr() as usize),
-                Self::note(scratch, scratch_loan.ptr() as usize),
-                Self::note(answers, answers_loan.ptr() as usize),
-            ],
-        );
-        // SAFETY: the slices are valid and apart.
-        let code = unsafe {
-            simjorad_closed(
-                page_loan.ptr(),
-                page_length,
-                queries_loan.ptr(),
-                queries.len(),
-                scratch_loan.ptr_mut(),
-                scratch_length,
-                answers_loan.ptr_mut(),
-                answers_length,
-            )
-        };
-        slot::mine().leave();
-        self.calls += 1;
-        page_loan.end_const("page", page)?;
-        queries_loan.end_const("queries", queries)?;
-        scratch_loan.end_mut("scratch", scratch)?;
-        answers_loan.end_mut("answers", answers)?;
-        read_closed(code)
+        self.closed_with(page, queries, scratch, answers, None)
     }
 
     pub fn closed_indexed(
@@ -451,36 +431,65 @@ impl Engine {
         answers: &mut [u16],
         workspace: &mut [u16],
     ) -> Result<Result<(), Refusal>, String> {
+        self.closed_with(page, queries, scratch, answers, Some(workspace))
+    }
+
+    fn closed_with(
+        &mut self,
+        page: &[u16],
+        queries: &[u16],
+        scratch: &mut [u16],
+        answers: &mut [u16],
+        workspace: Option<&mut [u16]>,
+    ) -> Result<Result<(), Refusal>, String> {
         let (page_loan, page_length) = self.lend_area(0, page);
         let queries_loan = self.lend(1, queries);
         let (scratch_loan, scratch_length) = self.lend_area(2, scratch);
         let (answers_loan, answers_length) = self.lend_area(3, answers);
-        let (workspace_loan, workspace_length) = self.lend_area(4, workspace);
+        let room = workspace
+            .as_deref()
+            .map(|numbers| self.lend_area(4, numbers));
         slot::mine().enter(
-            "closed_indexed",
+            if room.is_some() {
+                "closed_indexed"
+            } else {
+                "closed"
+            },
             0,
             &[
                 Self::note(page, page_loan.ptr() as usize),
                 Self::note(queries, queries_loan.ptr() as usize),
                 Self::note(scratch, scratch_loan.ptr() as usize),
                 Self::note(answers, answers_loan.ptr() as usize),
-                Self::note(workspace, workspace_loan.ptr() as usize),
+                Self::note_room(workspace.as_deref(), &room),
             ],
         );
         // SAFETY: the slices are valid and apart.
         let code = unsafe {
-            simjorad_closed_indexed(
-                page_loan.ptr(),
-                page_length,
-                queries_loan.ptr(),
-                queries.len(),
-                scratch_loan.ptr_mut(),
-                scratch_length,
-                answers_loan.ptr_mut(),
-                answers_length,
-                workspace_loan.ptr_mut(),
-                workspace_length,
-            )
+            match &room {
+                None => simjorad_closed(
+                    page_loan.ptr(),
+                    page_length,
+                    queries_loan.ptr(),
+                    queries.len(),
+                    scratch_loan.ptr_mut(),
+                    scratch_length,
+                    answers_loan.ptr_mut(),
+                    answers_length,
+                ),
+                Some((loan, length)) => simjorad_closed_indexed(
+                    page_loan.ptr(),
+                    page_length,
+                    queries_loan.ptr(),
+                    queries.len(),
+                    scratch_loan.ptr_mut(),
+                    scratch_length,
+                    answers_loan.ptr_mut(),
+                    answers_length,
+                    loan.ptr_mut(),
+                    *length,
+                ),
+            }
         };
         slot::mine().leave();
         self.calls += 1;
@@ -488,12 +497,13 @@ impl Engine {
         queries_loan.end_const("queries", queries)?;
         scratch_loan.end_mut("scratch", scratch)?;
         answers_loan.end_mut("answers", answers)?;
-        workspace_loan.end_mut("workspace", workspace)?;
+        if let (Some((loan, _)), Some(numbers)) = (room, workspace) {
+            loan.end_mut("workspace", numbers)?;
+        }
         read_closed(code)
     }
 }
 
-/// The answer of a drive in either form.
 fn driven(code: i32, taken: &Out<u32>) -> Result<Result<Driven, Refusal>, String> {
     match code {
         0 | 1 => Ok(Ok(Driven {
