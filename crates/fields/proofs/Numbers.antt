@@ -46,7 +46,7 @@ module _ (b r : ℕ) (e : (r + 48) % 4294967296 ≡ b) where
       go false = omega arith
 
 -- What a class says of its byte.
-class-digit : (b : ℕ) → classOf b ≤ 9 → isDigit b ≡ true
+pub class-digit : (b : ℕ) → classOf b ≤ 9 → isDigit b ≡ true
 unfolding classOf
 class-digit b = go (isDigit b) (eqb b 44 || eqb b 10)
   where
@@ -55,7 +55,7 @@ class-digit b = go (isDigit b) (eqb b 44 || eqb b 10)
     go false true h = absurd (omega arith)
     go false false h = absurd (omega arith)
 
-class-value : (b : ℕ) → isDigit b ≡ true → classOf b ≡ b - 48
+pub class-value : (b : ℕ) → isDigit b ≡ true → classOf b ≡ b - 48
 unfolding classOf
 class-value b e = rw e
 

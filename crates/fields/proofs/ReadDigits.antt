@@ -1,17 +1,19 @@
 -- The digits at a place, as they are read one after the other. Assumes nothing.
-use mathlib.Core.Path.{_≡_, refl, _∙_, ap, subst}
-use mathlib.Core.Bool.{false}
+use mathlib.Core.Path.{_≡_, refl, sym, _∙_, ap, subst}
+use mathlib.Core.Bool.{true, false, false≢true}
 use mathlib.Core.List.{List}
-use Prim.Native.Nat.{ℕ, _+_, _*_, _<_}
+use mathlib.Core.Logic.{_⊎_, inl, inr}
+use Prim.Native.Nat.{ℕ, _+_, _*_, _-_, _≤_, _<_}
 use native.Mathlib.Omega.{arith}
-use native.Mathlib.Decide.{ℕ-discrete}
+use native.Mathlib.Decide.{ℕ-discrete, decLt}
 use lib.ListN.{length, getD}
 use Rattle.semantics.specs.Text.{isNumber}
 use Rattle.fields.specs.declared.Class.{Class}
 use Rattle.fields.specs.declared.Class.the-variants.{Digit, Other}
-use Rattle.fields.specs.Cursor.{Within, fieldAt, classOf, DigitIs, DigitAs, Digits}
+use Rattle.semantics.proofs.TextNumbers.{digit-range}
+use Rattle.fields.specs.Cursor.{Within, fieldAt, classOf, DigitIs, DigitAs, FirstDigit, Digits, NumberTo}
 use Rattle.fields.proofs.Places.{byte-here, within-next}
-use Rattle.fields.proofs.Numbers.{class-most, none-first, one-number, none-second, none-leading, two-number, none-third, three-number, none-longer}
+use Rattle.fields.proofs.Numbers.{class-most, class-digit, class-value, none-first, one-number, none-second, none-leading, two-number, none-third, three-number, none-longer}
 
 -- a byte that is no digit and ends no field
 eleven : (b : ℕ) → 9 < classOf b → (classOf b ≡ 10 → ⊥) → classOf b ≡ 11
@@ -50,12 +52,12 @@ module _ (s : List ℕ) (at : ℕ) (w : Within s at) where
   no-digits o = none-first s at (classOf (getD s at 10)) refl (other-class s at w o)
 
   module _ {A : ℕ} (p : DigitIs (getD s at 0) A) where
-    pub zero-only : A ≡ 0 → Digits s at A (at + 1)
+    pub zero-only : A ≡ 0 → Digits s at 0 (at + 1)
     zero-only e =
         let a = digit-class s at w p in
         let b = classOf (getD s (at + 1) 10) in
         record {
-          ends = λ t. one-number s at A a b refl (p .most) t;
+          ends = λ t. rw e at (one-number s at A a b refl (p .most) t);
           other = λ t. none-leading s at A a b refl e t;
           most = omega arith;
           ahead = omega arith;
@@ -80,6 +82,13 @@ module _ (s : List ℕ) (at : ℕ) (w : Within s at) where
       third-place =
           let two : at + 1 + 1 ≡ at + 2 = omega arith in
           rw two at (digit-next s (at + 1) (digit-next s at w p) q)
+
+      -- a digit follows the first, which is not `0` then
+      pub not-zero : (A ≡ 0 → ⊥) ⊎ (isNumber (fieldAt s at) ≡ true) → A ≡ 0 → ⊥
+      not-zero (inl n) e = n e
+      not-zero (inr n) e =
+          false≢true
+          (sym (none-leading s at A (digit-class s at w p) B (digit-class s (at + 1) (digit-next s at w p) q) e (λ z. omega (arith, q .most))) ∙ n)
 
       module _ (n : A ≡ 0 → ⊥) where
         pub two-only : 9 < classOf (getD s (at + 2) 0) → Digits s at (A * 10 + B) (at + 2)
@@ -113,3 +122,28 @@ module _ (s : List ℕ) (at : ℕ) (w : Within s at) where
               ahead = omega arith;
               place = rw three at (digit-next s (at + 2) third-place r);
             }
+
+-- The field at a place is known to be a number.
+module _ (s : List ℕ) (at : ℕ) (w : Within s at) (n : isNumber (fieldAt s at) ≡ true) where
+  first-class : classOf (getD s at 0) ≤ 9
+  first-class = go (decLt 9 (classOf (getD s at 0)))
+    where
+      go : Dec (9 < classOf (getD s at 0)) → classOf (getD s at 0) ≤ 9
+      go (yes o) = absurd (false≢true (sym (no-digits s at w o) ∙ n))
+      go (no o) = omega arith
+
+  pub digit-byte : (48 ≤ getD s at 0) × (getD s at 0 ≤ 57)
+  digit-byte = digit-range (getD s at 0) (class-digit (getD s at 0) first-class)
+
+  pub first-digit : FirstDigit s at (getD s at 0 - 48)
+  first-digit =
+      let b = getD s at 0 in
+      let v = class-value b (class-digit b first-class) in
+      record { place = w; digit = record { is = sym v; most = omega (arith, first-class) }; leads = inr n }
+
+  pub number-to : {v e : ℕ} → Digits s at v e → NumberTo s at v e
+  number-to {v} {e} d = record { numbered = d .ends (go (ℕ-discrete (classOf (getD s e 10)) 10)); most = d .most; ahead = d .ahead; place = d .place }
+    where
+      go : Dec (classOf (getD s e 10) ≡ 10) → classOf (getD s e 10) ≡ 10
+      go (yes t) = t
+      go (no t) = absurd (false≢true (sym (d .other t) ∙ n))

@@ -3,19 +3,19 @@ use mathlib.Core.Path.{_≡_, refl, sym, _∙_, ap, subst}
 use mathlib.Core.Bool.{Bool, true, false, _&&_}
 use mathlib.Core.List.{List, [], _∷_}
 use mathlib.Core.Logic.{_⊎_, inl, inr, ⊎-elim}
-use Prim.Native.Nat.{ℕ, suc, _+_, _*_, _≤_, _<_}
+use Prim.Native.Nat.{ℕ, _+_, _*_, _≤_, _<_}
 use native.Mathlib.Omega.{arith}
 use native.Mathlib.Nat.{add-zero}
 use native.Mathlib.Decide.{ℕ-discrete}
 use lib.Dec.{eqb}
 use lib.ListN.{length, getD, drop}
 use borrow.Author.Tests.{eq-eqb, ne-eqb, eqb-true, eqb-false}
+use Rattle.semantics.specs.Area.{codeOf}
 use Rattle.semantics.specs.Text.{textLines, isNumber, valueOf, isLiteral, literalIn}
 use Rattle.semantics.proofs.Soundness.{both-true}
-use Rattle.semantics.proofs.TextNumbers.{value-most}
 use Rattle.fields.specs.declared.Field.{Field}
 use Rattle.fields.specs.declared.Field.the-variants.{Number, Bad}
-use Rattle.fields.specs.Cursor.{Within, fieldsAt, fieldAt, linesAfter, classOf, pick, Numbered, Digits, DigitsAt, Coded, SignIs, numberBefore, literalTo}
+use Rattle.fields.specs.Cursor.{Within, fieldsAt, fieldAt, linesAfter, classOf, pick, Numbered, Digits, DigitsAt, SignIs, numberBefore, NumberTo, LiteralIs, LiteralAt, CodeTo}
 use Rattle.fields.proofs.Places.{byte-here, within, within-next}
 use Rattle.fields.proofs.Numbers.{field-more, field-end}
 use Rattle.fields.proofs.Fields.{some-field, Comma, Newline, comma-after, newline-after, follows}
@@ -83,14 +83,48 @@ pub record NumberLast (s : List ℕ) (at v e : ℕ) : Type 0 where
   pub lines : linesAfter (drop at s) ≡ textLines (drop e s)
   pub ahead : at < e
 
+-- a number, by the byte that follows it
+module _ (s : List ℕ) (at : ℕ) where
+  comma-then : Within s at → {v e : ℕ} → Numbered s at v e → getD s e 10 ≡ 44 → NumberThen s at v (e + 1)
+  comma-then p {v} {e} n b =
+      let c = comma-after s at e (n .end) b in
+      let g : e < length s = within s e (λ z. omega arith) in
+      record {
+        number = n .number;
+        value = n .value;
+        fields = c .fields;
+        lines = c .lines;
+        ahead = omega (arith, n .end);
+        place = within-next s e (record { inside = g; ended = p .ended }) (λ z. omega arith);
+      }
+
+  newline-last : {v e : ℕ} → Numbered s at v e → getD s e 10 ≡ 10 → NumberLast s at v (e + 1)
+  newline-last {v} {e} n b =
+      let c = newline-after s at e (n .end) b in
+      record { number = n .number; value = n .value; fields = c .fields; lines = c .lines; ahead = omega (arith, n .end) }
+
+  -- a comma follows where there are more fields, byte 10 where there are none
+  pub number-more : Within s at → {v e : ℕ} → NumberTo s at v e → 2 ≤ length (fieldsAt (drop at s)) → NumberThen s at v (e + 1)
+  number-more p {v} {e} n l =
+      ⊎-elim (λ (k : (getD s e 10 ≡ 44) × Comma s at e). comma-then p (n .numbered) (k .0))
+      (λ (k : (getD s e 10 ≡ 10) × Newline s at e). absurd (omega (arith, ap length (k .1 .fields))))
+      (follows s at e (n .numbered .end))
+
+  pub number-only : {v e : ℕ} → NumberTo s at v e → length (fieldsAt (drop at s)) ≡ 1 → NumberLast s at v (e + 1)
+  number-only {v} {e} n l =
+      ⊎-elim
+      (λ (k : (getD s e 10 ≡ 44) × Comma s at e). absurd (omega (arith, ap length (k .1 .fields), some-field (drop (e + 1) s))))
+      (λ (k : (getD s e 10 ≡ 10) × Newline s at e). newline-last (n .numbered) (k .0))
+      (follows s at e (n .numbered .end))
+
 module _ {r : Field} (s : List ℕ) (at m : ℕ) (a : r ≡ numberBefore s at m) where
-  ended : {v e : ℕ} → r ≡ Number v e → (isNumber (fieldAt s at) ≡ true) × (getD s (at + length (fieldAt s at)) 10 ≡ m) × (valueOf (fieldAt s at) ≡ v) × (at + length (fieldAt s at) + 1 ≡ e)
+  ended : {v e : ℕ} → r ≡ Number v e → Numbered s at v (at + length (fieldAt s at)) × (getD s (at + length (fieldAt s at)) 10 ≡ m) × (at + length (fieldAt s at) + 1 ≡ e)
   unfolding numberBefore
   ended {v} {e} h =
       let f = fieldAt s at in
       let w = picked-number (isNumber f && eqb (getD s (at + length f) 10) m) (valueOf f) (at + length f + 1) v e (sym a ∙ h) in
       let b = both-true (isNumber f) (eqb (getD s (at + length f) 10) m) (w .0) in
-      (b .0, eqb-true (getD s (at + length f) 10) m (b .1), w .1, w .2)
+      (record { number = b .0; value = w .1; end = refl }, eqb-true (getD s (at + length f) 10) m (b .1), w .2)
 
   not-ended : r ≡ Bad → (isNumber (fieldAt s at) && eqb (getD s (at + length (fieldAt s at)) 10) m) ≡ false
   unfolding numberBefore
@@ -105,33 +139,10 @@ second-false false u e = inl refl
 
 module _ {r : Field} (s : List ℕ) (at : ℕ) where
   pub number-then : Within s at → r ≡ numberBefore s at 44 → {v e : ℕ} → r ≡ Number v e → NumberThen s at v e
-  number-then p a {v} {e} h =
-      let w = ended s at 44 a h in
-      let n = at + length (fieldAt s at) in
-      let c = comma-after s at n refl (w .1) in
-      let g : n < length s = within s n (λ z. omega (arith, w .1)) in
-      let q : Within s n = record { inside = g; ended = p .ended } in
-      record {
-        number = w .0;
-        value = w .2;
-        fields = c .fields ∙ rw (w .3);
-        lines = c .lines ∙ rw (w .3);
-        ahead = omega (arith, w .3);
-        place = rw (w .3) at (within-next s n q (λ z. omega (arith, w .1)));
-      }
+  number-then p a {v} {e} h = let w = ended s at 44 a h in rw (w .2) at (comma-then s at p (w .0) (w .1))
 
   pub number-last : r ≡ numberBefore s at 10 → {v e : ℕ} → r ≡ Number v e → NumberLast s at v e
-  number-last a {v} {e} h =
-      let w = ended s at 10 a h in
-      let n = at + length (fieldAt s at) in
-      let c = newline-after s at n refl (w .1) in
-      record {
-        number = w .0;
-        value = w .2;
-        fields = c .fields;
-        lines = c .lines ∙ rw (w .3);
-        ahead = omega (arith, w .3);
-      }
+  number-last a {v} {e} h = let w = ended s at 10 a h in rw (w .2) at (newline-last s at (w .0) (w .1))
 
   -- no number, or no comma behind it: then it is the last field
   pub no-number-then : r ≡ numberBefore s at 44 → r ≡ Bad → (isNumber (fieldAt s at) ≡ false) ⊎ (length (fieldsAt (drop at s)) ≡ 1)
@@ -155,13 +166,6 @@ module _ {r : Field} (s : List ℕ) (at : ℕ) where
       (follows s at n refl))
       (second-false (isNumber (fieldAt s at)) (eqb (getD s n 10) 10) (not-ended s at 10 a h))
 
--- a number has at most three digits
-pub then-most : {s : List ℕ} {at v e : ℕ} → NumberThen s at v e → v ≤ 999
-then-most {s} {at} {v} {e} h = omega (arith, h .value, value-most (fieldAt s at) (h .number))
-
-pub last-most : {s : List ℕ} {at v e : ℕ} → NumberLast s at v e → v ≤ 999
-last-most {s} {at} {v} {e} h = omega (arith, h .value, value-most (fieldAt s at) (h .number))
-
 -- a comma and byte 10 end a field
 pub comma-class : classOf 44 ≡ 10
 unfolding classOf
@@ -184,28 +188,17 @@ module _ (s : List ℕ) (at : ℕ) (w : Within s at) where
         field-more s at (at + 1) refl (λ (z : classOf (getD s at 10) ≡ 10). let k : 11 ≡ 10 = ap classOf (sym e) ∙ z in omega arith)
         ∙ ap (λ (y : ℕ). y ∷ fieldAt s (at + 1)) e
 
-    negated-none : isNumber (fieldAt s (at + 1)) ≡ false → Bad ≡ literalTo s at
-    unfolding literalTo isLiteral
-    negated-none h = rw (negated-field, h)
+    negated-none : isNumber (fieldAt s (at + 1)) ≡ isLiteral (fieldAt s at)
+    unfolding isLiteral
+    negated-none = rw negated-field
 
-    negated-literal : {v e : ℕ} → Numbered s (at + 1) v e → Number (2 * v + 1) e ≡ literalTo s at
-    unfolding literalTo isLiteral literalIn
+    negated-literal : {v e : ℕ} → Numbered s (at + 1) v e → LiteralIs s at v e × (codeOf (literalIn (fieldAt s at)) ≡ 2 * v + 1)
+    unfolding literalIn
     negated-literal {v} {e} h =
-        let g : at + suc (length (fieldAt s (at + 1))) ≡ e = omega (arith, h .end) in
-        rw (negated-field, h .number, h .value, g)
+        (record { literal = sym negated-none ∙ h .number; condition = rw (negated-field, h .value); end = omega (arith, ap length negated-field, h .end) }, rw (negated-field, h .value))
 
     negated-place : Within s (at + 1)
     negated-place = within-next s at w (λ z. omega (arith, byte-first))
-
-    negated-coded : {v e : ℕ} → Digits s (at + 1) v e → Coded s at (2 * v + 1) e
-    negated-coded {v} {e} d =
-        record {
-          ends = λ t. negated-literal (d .ends t);
-          other = λ t. negated-none (d .other t);
-          most = omega (arith, d .most);
-          ahead = omega (arith, d .ahead);
-          place = d .place;
-        }
 
   module _ (n : getD s at 0 ≡ 33 → ⊥) where
     not-negated : eqb (getD (fieldAt s at) 0 0) 33 ≡ false
@@ -215,23 +208,14 @@ module _ (s : List ℕ) (at : ℕ) (w : Within s at) where
         go (yes e) = rw (field-end s at e)
         go (no k) = rw (field-more s at (at + 1) refl k) (ne-eqb (getD s at 10) 33 (λ z. n (byte-first ∙ z)))
 
-    positive-none : isNumber (fieldAt s at) ≡ false → Bad ≡ literalTo s at
-    unfolding literalTo isLiteral
-    positive-none h = rw (not-negated, h)
+    positive-none : isNumber (fieldAt s at) ≡ isLiteral (fieldAt s at)
+    unfolding isLiteral
+    positive-none = rw not-negated
 
-    positive-literal : {v e : ℕ} → Numbered s at v e → Number (2 * v) e ≡ literalTo s at
-    unfolding literalTo isLiteral literalIn
-    positive-literal {v} {e} h = rw (not-negated, h .number, h .value, h .end)
-
-    positive-coded : {v e : ℕ} → Digits s at v e → Coded s at (2 * v) e
-    positive-coded {v} {e} d =
-        record {
-          ends = λ t. positive-literal (d .ends t);
-          other = λ t. positive-none (d .other t);
-          most = omega (arith, d .most);
-          ahead = d .ahead;
-          place = d .place;
-        }
+    positive-literal : {v e : ℕ} → Numbered s at v e → LiteralIs s at v e × (codeOf (literalIn (fieldAt s at)) ≡ 2 * v)
+    unfolding literalIn
+    positive-literal {v} {e} h =
+        (record { literal = sym positive-none ∙ h .number; condition = rw (not-negated, h .value); end = h .end }, rw (not-negated, h .value))
 
   -- by what `sign` answers
   module _ {k : ℕ} (g : SignIs (getD s at 0) k) where
@@ -242,19 +226,36 @@ module _ (s : List ℕ) (at : ℕ) (w : Within s at) where
         go (inl h) = rw (h .1) (negated-place (h .0))
         go (inr h) = rw (h .1, add-zero) w
 
-    pub literal-coded : {v e : ℕ} → Digits s (at + k) v e → Coded s at (2 * v + k) e
-    literal-coded {v} {e} d = go g
+    pub literal-number : isNumber (fieldAt s (at + k)) ≡ isLiteral (fieldAt s at)
+    literal-number = go g
       where
-        go : SignIs (getD s at 0) k → Coded s at (2 * v + k) e
-        go (inl h) = rw (h .1) (negated-coded (h .0) (rw (h .1) at d))
-        go (inr h) = rw (h .1, add-zero) (positive-coded (h .0) (rw (h .1, add-zero) at d))
+        go : SignIs (getD s at 0) k → isNumber (fieldAt s (at + k)) ≡ isLiteral (fieldAt s at)
+        go (inl h) = rw (h .1) (negated-none (h .0))
+        go (inr h) = rw (h .1, add-zero) (positive-none (h .0))
 
-    pub literal-none : isNumber (fieldAt s (at + k)) ≡ false → Bad ≡ literalTo s at
-    literal-none d = go g
+    literal-is : {v e : ℕ} → Numbered s (at + k) v e → LiteralIs s at v e × (codeOf (literalIn (fieldAt s at)) ≡ 2 * v + k)
+    literal-is {v} {e} d = go g
       where
-        go : SignIs (getD s at 0) k → Bad ≡ literalTo s at
-        go (inl h) = negated-none (h .0) (rw (h .1) at d)
-        go (inr h) = positive-none (h .0) (rw (h .1, add-zero) at d)
+        go : SignIs (getD s at 0) k → LiteralIs s at v e × (codeOf (literalIn (fieldAt s at)) ≡ 2 * v + k)
+        go (inl h) = rw (h .1) (negated-literal (h .0) (rw (h .1) at d))
+        go (inr h) = rw (h .1, add-zero) (positive-literal (h .0) (rw (h .1, add-zero) at d))
+
+    -- what `read_literal` answers, by the digits behind the sign
+    pub literal-at : (r : Field) → DigitsAt s (at + k) r → LiteralAt s at r
+    literal-at (Number v e) d =
+        record {
+          ends = λ t. literal-is (d .ends t) .0;
+          other = λ t. sym literal-number ∙ d .other t;
+          ahead = omega (arith, d .ahead);
+          place = d .place;
+        }
+    literal-at Bad d = sym literal-number ∙ d
+
+    -- what `checked_literal` answers
+    pub literal-code : {v e : ℕ} → NumberTo s (at + k) v e → CodeTo s at (2 * v + k) e
+    literal-code {v} {e} n =
+        let l = literal-is (n .numbered) in
+        record { is = l .1; end = l .0 .end; ahead = omega (arith, n .ahead); place = n .place }
 
     pub sign-most : k ≤ 1
     sign-most = go g

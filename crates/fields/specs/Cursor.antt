@@ -7,6 +7,7 @@ use mathlib.Core.Logic.{_⊎_}
 use Prim.Native.Nat.{ℕ, _+_, _-_, _≤_, _<_}
 use lib.Dec.{eqb, leb}
 use lib.ListN.{length, getD, drop}
+use Rattle.semantics.specs.Page.{conditionOf}
 use Rattle.semantics.specs.Area.{codeOf}
 use Rattle.semantics.specs.Text.{textLines, fieldsOf, field, isDigit, isNumber, valueOf, isLiteral, literalIn}
 use Rattle.fields.specs.declared.Class.{Class}
@@ -59,6 +60,12 @@ pub record Numbered (s : List ℕ) (at v e : ℕ) : Type 0 where
   pub value : valueOf (fieldAt s at) ≡ v
   pub end : at + length (fieldAt s at) ≡ e
 
+-- a number whose first digit has the value a stands at a place; if it begins with `0`, the field is known to be a number
+pub record FirstDigit (s : List ℕ) (at a : ℕ) : Type 0 where
+  pub place : Within s at
+  pub digit : DigitIs (getD s at 0) a
+  pub leads : (a ≡ 0 → ⊥) ⊎ (isNumber (fieldAt s at) ≡ true)
+
 -- digits of value v stand from a place to the place e: where a comma or byte 10 follows, the field is that number, else it is none
 pub record Digits (s : List ℕ) (at v e : ℕ) : Type 0 where
   pub ends : classOf (getD s e 10) ≡ 10 → Numbered s at v e
@@ -71,27 +78,40 @@ abbrev pub DigitsAt : List ℕ → ℕ → Field → Type 0
 DigitsAt s at (Number v e) = Digits s at v e
 DigitsAt s at Bad = isNumber (fieldAt s at) ≡ false
 
--- the code of the literal that is the field at a place, and the place where the field ends
-unfoldable pub literalTo : List ℕ → ℕ → Field
-literalTo s at =
-    let f = fieldAt s at in
-    pick (isLiteral f) (Number (codeOf (literalIn f)) (at + length f)) Bad
+-- the field at a place, which is known to be a number, has the value v and ends at the place e
+pub record NumberTo (s : List ℕ) (at v e : ℕ) : Type 0 where
+  pub numbered : Numbered s at v e
+  pub most : v ≤ 999
+  pub ahead : at < e
+  pub place : Within s e
 
 -- what `sign` answers for a byte
 abbrev pub SignIs : ℕ → ℕ → Type 0
 SignIs b r = ((b ≡ 33) × (r ≡ 1)) ⊎ ((b ≡ 33 → ⊥) × (r ≡ 0))
 
--- a literal's code stands from a place to the place e: where a comma or byte 10 follows, the field is that literal, else it is none
-pub record Coded (s : List ℕ) (at code e : ℕ) : Type 0 where
-  pub ends : classOf (getD s e 10) ≡ 10 → Number code e ≡ literalTo s at
-  pub other : (classOf (getD s e 10) ≡ 10 → ⊥) → Bad ≡ literalTo s at
-  pub most : code ≤ 1999
+-- the field at a place is a literal of the condition c and ends at the place e
+pub record LiteralIs (s : List ℕ) (at c e : ℕ) : Type 0 where
+  pub literal : isLiteral (fieldAt s at) ≡ true
+  pub condition : conditionOf (literalIn (fieldAt s at)) ≡ c
+  pub end : at + length (fieldAt s at) ≡ e
+
+-- a sign or none and digits stand from a place to the place e: where a comma or byte 10 follows, the field is that literal, else it is none
+pub record LiteralTo (s : List ℕ) (at c e : ℕ) : Type 0 where
+  pub ends : classOf (getD s e 10) ≡ 10 → LiteralIs s at c e
+  pub other : (classOf (getD s e 10) ≡ 10 → ⊥) → isLiteral (fieldAt s at) ≡ false
   pub ahead : at < e
   pub place : Within s e
 
 abbrev pub LiteralAt : List ℕ → ℕ → Field → Type 0
-LiteralAt s at (Number code e) = Coded s at code e
-LiteralAt s at Bad = Bad ≡ literalTo s at
+LiteralAt s at (Number c e) = LiteralTo s at c e
+LiteralAt s at Bad = isLiteral (fieldAt s at) ≡ false
+
+-- the literal that is the field at a place has this code, and the field ends at the place e
+pub record CodeTo (s : List ℕ) (at code e : ℕ) : Type 0 where
+  pub is : codeOf (literalIn (fieldAt s at)) ≡ code
+  pub end : at + length (fieldAt s at) ≡ e
+  pub ahead : at < e
+  pub place : Within s e
 
 -- the letter that is the first of several fields, or 0
 unfoldable pub letterThen : List (List ℕ) → ℕ

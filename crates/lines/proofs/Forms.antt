@@ -1,24 +1,22 @@
 -- The forms of the lines, by what the parser has read of them. Assumes nothing.
-use mathlib.Core.Path.{_≡_, refl, sym, _∙_, ap, subst}
+use mathlib.Core.Path.{_≡_, refl, sym, _∙_, ap}
 use mathlib.Core.Bool.{Bool, true, false, cond, _&&_, _||_, false≢true}
-use mathlib.Core.List.{List, [], _∷_, map, map-map}
+use mathlib.Core.List.{List, [], _∷_, map}
 use mathlib.Core.Logic.{_⊎_, inl, inr, ⊎-elim}
 use Prim.Native.Nat.{ℕ, suc, _+_, _≤_}
 use native.Mathlib.Omega.{arith}
+use lib.Dec.{leb}
 use lib.ListN.{length, getD, drop, length-drop, length-map}
 use borrow.Author.Tests.{ne-eqb, eqb-true, le-leb, lt-leb, leb-true}
 use Rattle.semantics.specs.Area.{every, codeOf, lineCode}
-use Rattle.semantics.specs.Page.{Reading, K, W, Line, fact, rule, query}
+use Rattle.semantics.specs.Page.{Reading, K, W, fact, rule, query}
 use Rattle.semantics.specs.Text.{field, isNumber, valueOf, isLetter, isOp, opIn, isReading, readingIn, literalIn, allLiterals, factForm, isFact, ruleForm, isRule, queryForm, isQuery, hasForm, lineIn}
 use Rattle.semantics.proofs.TestLists.{fails, passes}
 use Rattle.fields.specs.Cursor.{Within, fieldsAt, fieldAt, letterThen}
 use Rattle.fields.proofs.Tokens.{NumberLast}
 use Rattle.fields.proofs.Fields.{some-field}
 use Rattle.fields.proofs.Letters.{LetterThen, letter-absent, letter-or}
-use Rattle.lines.specs.declared.Entry.{Entry}
-use Rattle.lines.specs.declared.Entry.the-variants.{Good, Form}
-use Rattle.lines.specs.Pairs.{pairTests, PairThen}
-use Rattle.lines.specs.Lines.{codeIn, LineFits, Ends, Put, LinePut, EntryAt, RestAt, areLiterals, restTests, restCodes, kindAt, readingAt}
+use Rattle.lines.specs.Lines.{Ends, Says, PairThen, areLiterals, LiteralsTo, RuleSays, kindAt, readingAt}
 use Rattle.lines.proofs.LetterCodes.{op-one, op-known, op-none, reading-one, reading-known, reading-none}
 
 or-false : (t : Bool) → (t || false) ≡ t
@@ -33,26 +31,8 @@ unless : (t : Bool) → (t ≡ true → ⊥) → t ≡ false
 unless true h = absurd (h refl)
 unless false h = refl
 
--- the line at a place says `line`, and the next begins at the place `next`
-pub record Says (s : List ℕ) (at : ℕ) (line : Line) (next : ℕ) : Type 0 where
-  pub form : hasForm (fieldsAt (drop at s)) ≡ true
-  pub is : lineIn (fieldsAt (drop at s)) ≡ line
-  pub ends : Ends s at next
-
-pub put-entry : {s : List ℕ} {at : ℕ} {line : Line} {next : ℕ} → Says s at line next → {area : List ℕ} {start : ℕ} {area′ : List ℕ} {end : ℕ}
-    → Put area start (lineCode line) area′ end → LinePut s at area start area′ next end
-put-entry h p = record { form = h .form; entry = rw (h .is) p; ends = h .ends }
-
--- what is read of a line, by the cases of the answer
-module _ (s : List ℕ) (at : ℕ) (area : List ℕ) (start : ℕ) (area′ : List ℕ) {r : Entry} (q : EntryAt s at area start area′ r) where
-  pub put-told : {next end : ℕ} → r ≡ Good next end → LinePut s at area start area′ next end
-  put-told e = subst (EntryAt s at area start area′) e q
-
-  pub form-told : r ≡ Form → hasForm (fieldsAt (drop at s)) ≡ false
-  form-told e = subst (EntryAt s at area start area′) e q
-
 -- how long the entry of a line is
-query-size : (r : Reading) (c : ℕ) → length (lineCode (query r c)) ≡ 4
+pub query-size : (r : Reading) (c : ℕ) → length (lineCode (query r c)) ≡ 4
 query-size K c = refl
 query-size W c = refl
 
@@ -76,13 +56,17 @@ form-size fs = go (every (factForm fs)) (every (ruleForm fs)) (every (queryForm 
         (omega (arith, length-drop 4 fs, query-size (readingIn (field fs 1)) (valueOf (field fs 2))), omega (arith, length-drop 4 fs))
     go false false false p q r h = absurd (false≢true h)
 
+-- two numbers, and another field behind them
+abbrev pub pairTests : List (List ℕ) → List Bool
+pairTests fs = isNumber (field fs 0) ∷ isNumber (field fs 1) ∷ leb 3 (length fs) ∷ []
+
 -- A fact: `F`, and the fields gs.
 module _ (gs : List (List ℕ)) where
-  fact-form : hasForm ((70 ∷ []) ∷ gs) ≡ isFact ((70 ∷ []) ∷ gs)
+  pub fact-form : hasForm ((70 ∷ []) ∷ gs) ≡ isFact ((70 ∷ []) ∷ gs)
   unfolding hasForm isRule isQuery
   fact-form = or-false (isFact ((70 ∷ []) ∷ gs))
 
-  no-fact : every (pairTests gs) ≡ false → hasForm ((70 ∷ []) ∷ gs) ≡ false
+  pub no-fact : every (pairTests gs) ≡ false → hasForm ((70 ∷ []) ∷ gs) ≡ false
   unfolding isFact
   no-fact h =
       let ts = factForm ((70 ∷ []) ∷ gs) in
@@ -93,48 +77,43 @@ module _ (gs : List (List ℕ)) where
       let ok : every (pairTests gs) ≡ true = rw (passes ts 2 e, passes ts 3 e) (rw (le-leb 3 (length gs) (omega arith))) in
       false≢true (sym h ∙ ok))
 
-module _ (s : List ℕ) (at : ℕ) (k₀ : LetterThen s at 70) where
-  pub no-pair : every (pairTests (fieldsAt (drop (at + 2) s))) ≡ false → hasForm (fieldsAt (drop at s)) ≡ false
-  no-pair h = rw (k₀ .fields) (no-fact (fieldsAt (drop (at + 2) s)) h)
+module _ (s : List ℕ) (at : ℕ) (x : getD s at 10 ≡ 70) {v w b : ℕ} (k : PairThen s at v w b) where
+  two-fields : fieldsAt (drop at s) ≡ (70 ∷ []) ∷ k .f ∷ k .g ∷ fieldsAt (drop b s)
+  two-fields = k .fields ∙ ap (λ (y : ℕ). (y ∷ []) ∷ k .f ∷ k .g ∷ fieldsAt (drop b s)) x
 
-  module _ {v w b : ℕ} (k : PairThen s (at + 2) v w b) where
-    pub no-high : (isNumber (fieldAt s b) ≡ false) ⊎ (2 ≤ length (fieldsAt (drop b s))) → hasForm (fieldsAt (drop at s)) ≡ false
+  pub no-high : (isNumber (fieldAt s b) ≡ false) ⊎ (2 ≤ length (fieldsAt (drop b s))) → hasForm (fieldsAt (drop at s)) ≡ false
+  unfolding isFact
+  no-high h = rw (two-fields, fact-form (k .f ∷ k .g ∷ fieldsAt (drop b s))) (go h)
+    where
+      go : (isNumber (fieldAt s b) ≡ false) ⊎ (2 ≤ length (fieldsAt (drop b s))) → isFact ((70 ∷ []) ∷ k .f ∷ k .g ∷ fieldsAt (drop b s)) ≡ false
+      go (inl n) = fails (factForm ((70 ∷ []) ∷ k .f ∷ k .g ∷ fieldsAt (drop b s))) 4 n
+      go (inr l) =
+          fails (factForm ((70 ∷ []) ∷ k .f ∷ k .g ∷ fieldsAt (drop b s))) 1
+          (ne-eqb (suc (suc (suc (length (fieldsAt (drop b s)))))) 4 (λ z. omega arith))
+
+  module _ {h e : ℕ} (l : NumberLast s b h e) where
+    fact-fields : fieldsAt (drop at s) ≡ (70 ∷ []) ∷ k .f ∷ k .g ∷ fieldAt s b ∷ []
+    fact-fields = two-fields ∙ ap (λ (fs : List (List ℕ)). (70 ∷ []) ∷ k .f ∷ k .g ∷ fs) (l .fields)
+
+    is-fact : isFact ((70 ∷ []) ∷ k .f ∷ k .g ∷ fieldAt s b ∷ []) ≡ true
     unfolding isFact
-    no-high h = rw (k₀ .fields, k .fields, fact-form (k .f ∷ k .g ∷ fieldsAt (drop b s))) (go h)
-      where
-        go : (isNumber (fieldAt s b) ≡ false) ⊎ (2 ≤ length (fieldsAt (drop b s))) → isFact ((70 ∷ []) ∷ k .f ∷ k .g ∷ fieldsAt (drop b s)) ≡ false
-        go (inl n) = fails (factForm ((70 ∷ []) ∷ k .f ∷ k .g ∷ fieldsAt (drop b s))) 4 n
-        go (inr l) =
-            fails (factForm ((70 ∷ []) ∷ k .f ∷ k .g ∷ fieldsAt (drop b s))) 1
-            (ne-eqb (suc (suc (suc (length (fieldsAt (drop b s)))))) 4 (λ z. omega arith))
+    is-fact = rw (k .first, k .second, l .number)
 
-    module _ {h e : ℕ} (l : NumberLast s b h e) where
-      fact-fields : fieldsAt (drop at s) ≡ (70 ∷ []) ∷ k .f ∷ k .g ∷ fieldAt s b ∷ []
-      fact-fields =
-          k₀ .fields ∙ ap (λ (fs : List (List ℕ)). (70 ∷ []) ∷ fs) (k .fields ∙ ap (λ (fs : List (List ℕ)). k .f ∷ k .g ∷ fs) (l .fields))
+    fact-line : lineIn ((70 ∷ []) ∷ k .f ∷ k .g ∷ fieldAt s b ∷ []) ≡ fact v w h
+    unfolding lineIn
+    fact-line = rw (is-fact, k .value, k .value′, l .value)
 
-      is-fact : isFact ((70 ∷ []) ∷ k .f ∷ k .g ∷ fieldAt s b ∷ []) ≡ true
-      unfolding isFact
-      is-fact = rw (k .first, k .second, l .number)
-
-      fact-line : lineIn ((70 ∷ []) ∷ k .f ∷ k .g ∷ fieldAt s b ∷ []) ≡ fact v w h
-      unfolding lineIn
-      fact-line = rw (is-fact, k .value, k .value′, l .value)
-
-      pub a-fact : Says s at (fact v w h) e
-      a-fact =
-          record {
-            form = ap hasForm fact-fields ∙ fact-form (k .f ∷ k .g ∷ fieldAt s b ∷ []) ∙ is-fact;
-            is = ap lineIn fact-fields ∙ fact-line;
-            ends = record {
-              lines = k₀ .lines ∙ k .lines ∙ l .lines;
-              ahead = omega (arith, k .ahead, l .ahead);
-            };
-          }
+    pub a-fact : Says s at (fact v w h) e
+    a-fact =
+        record {
+          form = ap hasForm fact-fields ∙ fact-form (k .f ∷ k .g ∷ fieldAt s b ∷ []) ∙ is-fact;
+          is = ap lineIn fact-fields ∙ fact-line;
+          ends = record { lines = k .lines ∙ l .lines; ahead = omega (arith, k .ahead, l .ahead) };
+        }
 
 -- A query: `Q`, and the fields gs.
 module _ (gs : List (List ℕ)) where
-  query-form : hasForm ((81 ∷ []) ∷ gs) ≡ isQuery ((81 ∷ []) ∷ gs)
+  pub query-form : hasForm ((81 ∷ []) ∷ gs) ≡ isQuery ((81 ∷ []) ∷ gs)
   unfolding hasForm isFact isRule
   query-form = refl
 
@@ -198,11 +177,11 @@ module _ (s : List ℕ) (at : ℕ) (k₀ : LetterThen s at 81) where
 
 -- A rule: `R`, and the fields gs.
 module _ (gs : List (List ℕ)) where
-  rule-form : hasForm ((82 ∷ []) ∷ gs) ≡ isRule ((82 ∷ []) ∷ gs)
+  pub rule-form : hasForm ((82 ∷ []) ∷ gs) ≡ isRule ((82 ∷ []) ∷ gs)
   unfolding hasForm isFact isQuery
   rule-form = or-false (isRule ((82 ∷ []) ∷ gs))
 
-  no-rule : every (pairTests gs) ≡ false → hasForm ((82 ∷ []) ∷ gs) ≡ false
+  pub no-rule : every (pairTests gs) ≡ false → hasForm ((82 ∷ []) ∷ gs) ≡ false
   unfolding isRule
   no-rule h =
       let ts = ruleForm ((82 ∷ []) ∷ gs) in
@@ -213,68 +192,64 @@ module _ (gs : List (List ℕ)) where
       let ok : every (pairTests gs) ≡ true = rw (passes ts 3 e, passes ts 4 e) (rw (le-leb 3 (length gs) (omega (arith, length-drop 3 gs)))) in
       false≢true (sym h ∙ ok))
 
--- behind the condition and the weight: an op letter and 1 to 8 literals
-pub no-rest : (gs : List (List ℕ)) → kindAt (letterThen gs) ≡ 0 → every (restTests gs) ≡ false
+-- the fields of a rule behind its condition and weight: an op letter and 1 to 8 literals
+abbrev pub restTests : List (List ℕ) → List Bool
+restTests gs = leb 1 (length (drop 1 gs)) ∷ leb (length (drop 1 gs)) 8 ∷ isOp (field gs 0) ∷ allLiterals (drop 1 gs) ∷ []
+
+no-rest : (gs : List (List ℕ)) → kindAt (letterThen gs) ≡ 0 → every (restTests gs) ≡ false
 no-rest gs h = go (letter-absent isOp op-one gs (op-none (letterThen gs) h))
   where
     go : (isOp (field gs 0) ≡ false) ⊎ (length gs ≤ 1) → every (restTests gs) ≡ false
     go (inl n) = fails (restTests gs) 2 n
     go (inr l) = fails (restTests gs) 0 (lt-leb 1 (length (drop 1 gs)) (omega (arith, length-drop 1 gs)))
 
-module _ (s : List ℕ) (at : ℕ) {r : ℕ} (k : LetterThen s at r) (n : kindAt r ≡ 0 → ⊥) where
-  pub rest-form : every (restTests (fieldsAt (drop at s))) ≡ areLiterals (fieldsAt (drop (at + 2) s))
-  rest-form =
-      let hs = fieldsAt (drop (at + 2) s) in
-      rw (k .fields, le-leb 1 (length hs) (some-field (drop (at + 2) s)), op-known r n .0, and-true (allLiterals hs))
+module _ (s : List ℕ) (at : ℕ) (x : getD s at 10 ≡ 82) {v w b : ℕ} (k : PairThen s at v w b) where
+  rule-fields : fieldsAt (drop at s) ≡ (82 ∷ []) ∷ k .f ∷ k .g ∷ fieldsAt (drop b s)
+  rule-fields = k .fields ∙ ap (λ (y : ℕ). (y ∷ []) ∷ k .f ∷ k .g ∷ fieldsAt (drop b s)) x
 
-  pub rest-codes : (c w : ℕ) → restCodes c w (fieldsAt (drop at s)) ≡ c ∷ kindAt r ∷ w ∷ length (fieldsAt (drop (at + 2) s)) ∷ map codeIn (fieldsAt (drop (at + 2) s))
-  rest-codes c w = rw (k .fields, op-known r n .1)
+  is-rule : isRule ((82 ∷ []) ∷ k .f ∷ k .g ∷ fieldsAt (drop b s)) ≡ every (restTests (fieldsAt (drop b s)))
+  unfolding isRule
+  is-rule = rw (k .first, k .second)
 
-module _ (s : List ℕ) (at : ℕ) (k₀ : LetterThen s at 82) where
-  pub no-rule-pair : every (pairTests (fieldsAt (drop (at + 2) s))) ≡ false → hasForm (fieldsAt (drop at s)) ≡ false
-  no-rule-pair h = rw (k₀ .fields) (no-rule (fieldsAt (drop (at + 2) s)) h)
+  pub has-rule : hasForm (fieldsAt (drop at s)) ≡ every (restTests (fieldsAt (drop b s)))
+  has-rule = ap hasForm rule-fields ∙ rule-form (k .f ∷ k .g ∷ fieldsAt (drop b s)) ∙ is-rule
 
-  module _ {v w b : ℕ} (k : PairThen s (at + 2) v w b) where
-    rule-fields : fieldsAt (drop at s) ≡ (82 ∷ []) ∷ k .f ∷ k .g ∷ fieldsAt (drop b s)
-    rule-fields = k₀ .fields ∙ ap (λ (fs : List (List ℕ)). (82 ∷ []) ∷ fs) (k .fields)
+  -- no op letter
+  pub no-op : kindAt (letterThen (fieldsAt (drop b s))) ≡ 0 → hasForm (fieldsAt (drop at s)) ≡ false
+  no-op h = has-rule ∙ no-rest (fieldsAt (drop b s)) h
 
-    is-rule : isRule ((82 ∷ []) ∷ k .f ∷ k .g ∷ fieldsAt (drop b s)) ≡ every (restTests (fieldsAt (drop b s)))
-    unfolding isRule
-    is-rule = rw (k .first, k .second)
+  module _ {r : ℕ} (o : LetterThen s b r) (n : kindAt r ≡ 0 → ⊥) where
+    rest-form : every (restTests (fieldsAt (drop b s))) ≡ areLiterals (fieldsAt (drop (b + 2) s))
+    rest-form =
+        let hs = fieldsAt (drop (b + 2) s) in
+        rw (o .fields, le-leb 1 (length hs) (some-field (drop (b + 2) s)), op-known r n .0, and-true (allLiterals hs))
 
-    has-rule : hasForm (fieldsAt (drop at s)) ≡ every (restTests (fieldsAt (drop b s)))
-    has-rule = ap hasForm rule-fields ∙ rule-form (k .f ∷ k .g ∷ fieldsAt (drop b s)) ∙ is-rule
+    pub literals-form : hasForm (fieldsAt (drop at s)) ≡ areLiterals (fieldsAt (drop (b + 2) s))
+    literals-form = has-rule ∙ rest-form
 
-    abbrev the-rule : Line
-    the-rule = rule v w (opIn (field (fieldsAt (drop b s)) 0)) (map literalIn (drop 1 (fieldsAt (drop b s))))
-
-    module _ (t : every (restTests (fieldsAt (drop b s))) ≡ true) where
-      rule-line : lineIn (fieldsAt (drop at s)) ≡ the-rule
+    -- 1 to 8 literals
+    module _ (t : areLiterals (fieldsAt (drop (b + 2) s)) ≡ true) where
+      rule-line : lineIn (fieldsAt (drop at s)) ≡ rule v w (opIn (r ∷ [])) (map literalIn (fieldsAt (drop (b + 2) s)))
       unfolding lineIn isFact
-      rule-line = ap lineIn rule-fields ∙ rw (is-rule, t, k .value, k .value′)
+      rule-line = ap lineIn rule-fields ∙ rw (is-rule, rest-form, t, k .value, k .value′) (rw (o .fields))
 
-      rule-codes : restCodes v w (fieldsAt (drop b s)) ≡ lineCode the-rule
-      rule-codes = let hs = drop 1 (fieldsAt (drop b s)) in rw (length-map hs literalIn, map-map codeOf literalIn hs)
-
-      a-rule : {next : ℕ} → Ends s b next → Says s at the-rule next
+      pub a-rule : {next : ℕ} → Ends s (b + 2) next → Says s at (rule v w (opIn (r ∷ [])) (map literalIn (fieldsAt (drop (b + 2) s)))) next
       a-rule e =
           record {
-            form = has-rule ∙ t;
+            form = literals-form ∙ t;
             is = rule-line;
-            ends = record {
-              lines = k₀ .lines ∙ k .lines ∙ e .lines;
-              ahead = omega (arith, k .ahead, e .ahead);
-            };
+            ends = record { lines = k .lines ∙ o .lines ∙ e .lines; ahead = omega (arith, k .ahead, e .ahead) };
           }
 
-    -- the literals have their places
-    pub rule-room : {area : List ℕ} {end : ℕ} → LineFits s at 4 area end → LineFits s b 1 area end
-    rule-room f = record { place = k .place; four = f .four; literals = rw rule-fields at (f .literals) }
-
-    -- a rule by what stands behind its weight
-    pub rule-entry : (area : List ℕ) (start : ℕ) (area′ : List ℕ) (r : Entry) → RestAt s b v w area start area′ r → EntryAt s at area start area′ r
-    rule-entry area start area′ (Good next end) q = put-entry (a-rule (q .form) (q .ends)) (rw (rule-codes (q .form)) at (q .entry))
-    rule-entry area start area′ Form q = has-rule ∙ q
+    pub rule-says : {c m far next : ℕ} → LiteralsTo s (b + 2) c m far next → RuleSays s at c v w m far next
+    rule-says l =
+        record {
+          op = opIn (r ∷ []);
+          literals = map literalIn (fieldsAt (drop (b + 2) s));
+          says = a-rule (l .form) (l .ends);
+          count = l .count ∙ sym (length-map (fieldsAt (drop (b + 2) s)) literalIn);
+          first = l .first;
+        }
 
 -- A line that begins with none of the letters.
 no-line : (fs : List (List ℕ)) → (letterThen fs ≡ 70 → ⊥) → (letterThen fs ≡ 82 → ⊥) → (letterThen fs ≡ 81 → ⊥) → hasForm fs ≡ false

@@ -1,56 +1,93 @@
-// The lines after the first: `F,cond,low,high`, `R,cond,weight,op,literal,...`, `Q,reading,cond`. The entry of a line is written to
-// an area, from the place `end` on. Ranges are not looked at.
+// The lines after the first: `F,cond,low,high`, `R,cond,weight,op,literal,...`, `Q,reading,cond`, parsed by their form. What is out of
+// range is for the caller to refuse, who has every field at hand.
 ghost use mathlib.Core.Path.{_≡_};
-ghost use mathlib.Core.List.{[], _∷_};
-ghost use Prim.Native.Nat.{_≤_, _+_};
-ghost use lib.ListN.{length, getD, drop};
-ghost use lib.Seq.{sets};
-ghost use Rattle.fields.specs.Cursor.{Within, fieldsAt};
-ghost use Rattle.lines.specs.Lines.{Room, LineFits, EntryAt, RestAt, LiteralsAt, kindAt, readingAt};
+ghost use lib.ListN.{getD};
+ghost use Rattle.fields.specs.Cursor.{Within};
+ghost use Rattle.lines.specs.Lines.{PairLetter, PairAt, farWith, LiteralsAt, ParsedAs, kindAt, readingAt};
 use fields::Field;
 use fields::number_before;
 use fields::read_literal;
 
-// What is read of a line: the place of the next line and the end of the entry, or that the line has no form.
-pub enum Entry {
-    Good { next: usize, end: usize },
+// What is read of a line, with the place of the next line; or that it has no form. Of a rule's literals: how many they are, and which is
+// the first whose condition is out of range, from 1, or 0 for none.
+pub enum Parsed {
+    Fact {
+        condition: u16,
+        low: u16,
+        high: u16,
+        next: usize,
+    },
+    Rule {
+        condition: u16,
+        weight: u16,
+        count: usize,
+        far: usize,
+        next: usize,
+    },
+    Query {
+        condition: u16,
+        next: usize,
+    },
     Form,
 }
 
-// Four numbers from a place on.
-pub fn put_four(area: &mut [u16], at: usize, a: u16, b: u16, c: u16, d: u16)
-    requires { ⌜ at + 4 ≤ length (now area) ⌝ }
-    ensures { λ _. ⌜ now (area .exit) ≡ sets (now (area .entry)) at (a ∷ b ∷ c ∷ d ∷ []) ⌝ }
+// The first two numbers behind a letter and the place of the field after them, or that the line has no form.
+enum Pair {
+    Good {
+        first: u16,
+        second: u16,
+        next: usize,
+    },
+    Form,
+}
+
+// The two numbers with which a fact and a rule begin.
+fn parse_pair(bytes: &[u8], at: usize) -> Pair
+    requires { ⌜ Within (now bytes) at × PairLetter (getD (now bytes) at 10) ⌝ }
+    ensures { λ r. ⌜ PairAt (now (bytes .entry)) at r ⌝ }
 {
-    area[at] = a;
-    area[at + 1] = b;
-    area[at + 2] = c;
-    area[at + 3] = d;
+    if bytes[at + 1] != b',' {
+        return Pair::Form;
+    }
+    let Field::Number(first, a) = number_before(bytes, at + 2, b',') else {
+        return Pair::Form;
+    };
+    let Field::Number(second, next) = number_before(bytes, a, b',') else {
+        return Pair::Form;
+    };
+    Pair::Good {
+        first,
+        second,
+        next,
+    }
 }
 
 // The line at a place that begins with `F`.
-fn parse_fact(bytes: &[u8], at: usize, area: &mut [u16], end: usize) -> Entry
-    requires { ⌜ LineFits (now bytes) at 4 (now area) end × (getD (now bytes) at 10 ≡ 70) ⌝ }
-    ensures { λ r. ⌜ EntryAt (now (bytes .entry)) at (now (area .entry)) end (now (area .exit)) r ⌝ }
+fn parse_fact(bytes: &[u8], at: usize, conditions: u16) -> Parsed
+    requires { ⌜ Within (now bytes) at × (getD (now bytes) at 10 ≡ 70) ⌝ }
+    ensures { λ r. ⌜ ParsedAs (now (bytes .entry)) at conditions r ⌝ }
 {
-    if bytes[at + 1] != b',' {
-        return Entry::Form;
+    let Pair::Good {
+        first,
+        second,
+        next: a,
+    } = parse_pair(bytes, at)
+    else {
+        return Parsed::Form;
+    };
+    let Field::Number(high, next) = number_before(bytes, a, b'\n') else {
+        return Parsed::Form;
+    };
+    Parsed::Fact {
+        condition: first,
+        low: second,
+        high,
+        next,
     }
-    let Field::Number(condition, a) = number_before(bytes, at + 2, b',') else {
-        return Entry::Form;
-    };
-    let Field::Number(low, b) = number_before(bytes, a, b',') else {
-        return Entry::Form;
-    };
-    let Field::Number(high, next) = number_before(bytes, b, b'\n') else {
-        return Entry::Form;
-    };
-    put_four(area, end, condition as u16, 0, low as u16, high as u16);
-    Entry::Good { next, end: end + 4 }
 }
 
 // The kind of a rule by its op letter; 0 where it is none.
-fn op_kind(letter: u8) -> u16
+pub fn op_kind(letter: u8) -> u16
     ensures { λ r. ⌜ r ≡ kindAt letter ⌝ }
 {
     match letter {
@@ -63,83 +100,92 @@ fn op_kind(letter: u8) -> u16
     }
 }
 
-// The literals to the end of a rule's line, 1 to 8. Their codes are written as they are read.
-fn parse_literals(bytes: &[u8], at: usize, area: &mut [u16], start: usize) -> Entry
-    requires { ⌜ Within (now bytes) at × Room (now area) start (length (fieldsAt (drop at (now bytes)))) ⌝ }
-    ensures { λ r. ⌜ LiteralsAt (now (bytes .entry)) at (now (area .entry)) start (now (area .exit)) r ⌝ }
+// Which literal is the first out of range, where `far` was before the literal number `n`.
+fn far_with(far: usize, n: usize, condition: u16, conditions: u16) -> usize
+    ensures { λ r. ⌜ r ≡ farWith far n condition conditions ⌝ }
+{
+    if condition < conditions {
+        return far;
+    }
+    if far == 0 {
+        return n;
+    }
+    far
+}
+
+// What is read of the literals of a rule, as in `Parsed`.
+enum Literals {
+    Good {
+        count: usize,
+        far: usize,
+        next: usize,
+    },
+    Form,
+}
+
+// The literals to the end of a rule's line, 1 to 8.
+fn parse_literals(bytes: &[u8], at: usize, conditions: u16) -> Literals
+    requires { ⌜ Within (now bytes) at ⌝ }
+    ensures { λ r. ⌜ LiteralsAt (now (bytes .entry)) at conditions r ⌝ }
 {
     let mut n: usize = 0;
+    let mut far: usize = 0;
     let mut i = at;
     while n < 8 {
-        let Field::Number(code, e) = read_literal(bytes, i) else {
-            return Entry::Form;
+        let Field::Number(condition, e) = read_literal(bytes, i) else {
+            return Literals::Form;
         };
-        area[start + n] = code as u16;
         n += 1;
+        far = far_with(far, n, condition, conditions);
         i = e + 1;
         let b = bytes[e];
         if b == b'\n' {
-            return Entry::Good {
+            return Literals::Good {
+                count: n,
+                far,
                 next: i,
-                end: start + n,
             };
         }
         if b != b',' {
-            return Entry::Form;
+            return Literals::Form;
         }
     }
-    Entry::Form
-}
-
-// A rule from its op letter on, behind its condition and weight.
-fn rule_rest(
-    bytes: &[u8],
-    at: usize,
-    condition: u16,
-    weight: u16,
-    area: &mut [u16],
-    end: usize,
-) -> Entry
-    requires { ⌜ LineFits (now bytes) at 1 (now area) end ⌝ }
-    ensures { λ r. ⌜ RestAt (now (bytes .entry)) at condition weight (now (area .entry)) end (now (area .exit)) r ⌝ }
-{
-    let kind = op_kind(bytes[at]);
-    if kind == 0 {
-        return Entry::Form;
-    }
-    if bytes[at + 1] != b',' {
-        return Entry::Form;
-    }
-    let start = end + 4;
-    let literals = parse_literals(bytes, at + 2, area, start);
-    match literals {
-        Entry::Form => Entry::Form,
-        Entry::Good { next, end: e } => {
-            put_four(area, end, condition, kind, weight, (e - start) as u16);
-            Entry::Good { next, end: e }
-        }
-    }
+    Literals::Form
 }
 
 // The line at a place that begins with `R`.
-fn parse_rule(bytes: &[u8], at: usize, area: &mut [u16], end: usize) -> Entry
-    requires { ⌜ LineFits (now bytes) at 4 (now area) end × (getD (now bytes) at 10 ≡ 82) ⌝ }
-    ensures { λ r. ⌜ EntryAt (now (bytes .entry)) at (now (area .entry)) end (now (area .exit)) r ⌝ }
+fn parse_rule(bytes: &[u8], at: usize, conditions: u16) -> Parsed
+    requires { ⌜ Within (now bytes) at × (getD (now bytes) at 10 ≡ 82) ⌝ }
+    ensures { λ r. ⌜ ParsedAs (now (bytes .entry)) at conditions r ⌝ }
 {
-    if bytes[at + 1] != b',' {
-        return Entry::Form;
+    let Pair::Good {
+        first,
+        second,
+        next: a,
+    } = parse_pair(bytes, at)
+    else {
+        return Parsed::Form;
+    };
+    if op_kind(bytes[a]) == 0 {
+        return Parsed::Form;
     }
-    let Field::Number(condition, a) = number_before(bytes, at + 2, b',') else {
-        return Entry::Form;
+    if bytes[a + 1] != b',' {
+        return Parsed::Form;
+    }
+    let Literals::Good { count, far, next } = parse_literals(bytes, a + 2, conditions) else {
+        return Parsed::Form;
     };
-    let Field::Number(weight, b) = number_before(bytes, a, b',') else {
-        return Entry::Form;
-    };
-    rule_rest(bytes, b, condition as u16, weight as u16, area, end)
+    Parsed::Rule {
+        condition: first,
+        weight: second,
+        count,
+        far,
+        next,
+    }
 }
 
 // The number of a reading letter; 2 where it is none.
-fn reading_code(letter: u8) -> u16
+pub fn reading_code(letter: u8) -> u16
     ensures { λ r. ⌜ r ≡ readingAt letter ⌝ }
 {
     match letter {
@@ -150,37 +196,36 @@ fn reading_code(letter: u8) -> u16
 }
 
 // The line at a place that begins with `Q`.
-fn parse_query(bytes: &[u8], at: usize, area: &mut [u16], end: usize) -> Entry
-    requires { ⌜ LineFits (now bytes) at 4 (now area) end × (getD (now bytes) at 10 ≡ 81) ⌝ }
-    ensures { λ r. ⌜ EntryAt (now (bytes .entry)) at (now (area .entry)) end (now (area .exit)) r ⌝ }
+fn parse_query(bytes: &[u8], at: usize, conditions: u16) -> Parsed
+    requires { ⌜ Within (now bytes) at × (getD (now bytes) at 10 ≡ 81) ⌝ }
+    ensures { λ r. ⌜ ParsedAs (now (bytes .entry)) at conditions r ⌝ }
 {
     if bytes[at + 1] != b',' {
-        return Entry::Form;
+        return Parsed::Form;
     }
     let reading = reading_code(bytes[at + 2]);
     if reading == 2 {
-        return Entry::Form;
+        return Parsed::Form;
     }
     if bytes[at + 3] != b',' {
-        return Entry::Form;
+        return Parsed::Form;
     }
     let Field::Number(condition, next) = number_before(bytes, at + 4, b'\n') else {
-        return Entry::Form;
+        return Parsed::Form;
     };
-    put_four(area, end, condition as u16, 6, reading, 0);
-    Entry::Good { next, end: end + 4 }
+    Parsed::Query { condition, next }
 }
 
-// The line at a place.
-pub fn parse_line(bytes: &[u8], at: usize, area: &mut [u16], end: usize) -> Entry
-    requires { ⌜ LineFits (now bytes) at 4 (now area) end ⌝ }
-    ensures { λ r. ⌜ EntryAt (now (bytes .entry)) at (now (area .entry)) end (now (area .exit)) r ⌝ }
+// The line at a place, of a page with so many conditions.
+pub fn parse_line(bytes: &[u8], at: usize, conditions: u16) -> Parsed
+    requires { ⌜ Within (now bytes) at ⌝ }
+    ensures { λ r. ⌜ ParsedAs (now (bytes .entry)) at conditions r ⌝ }
 {
     let letter = bytes[at];
     match letter {
-        b'F' => parse_fact(bytes, at, area, end),
-        b'R' => parse_rule(bytes, at, area, end),
-        b'Q' => parse_query(bytes, at, area, end),
-        _ => Entry::Form,
+        b'F' => parse_fact(bytes, at, conditions),
+        b'R' => parse_rule(bytes, at, conditions),
+        b'Q' => parse_query(bytes, at, conditions),
+        _ => Parsed::Form,
     }
 }

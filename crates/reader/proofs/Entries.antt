@@ -1,6 +1,6 @@
 -- The entries that the second pass writes, one after the other. Assumes nothing.
 use mathlib.Core.Path.{_≡_, refl, sym, _∙_, ap}
-use mathlib.Core.Bool.{true, false, false≢true}
+use mathlib.Core.Bool.{true}
 use mathlib.Core.List.{List, [], _++_}
 use Prim.Native.Nat.{ℕ, suc, _+_, _≤_, _<_}
 use native.Mathlib.Omega.{arith}
@@ -11,26 +11,23 @@ use Rattle.semantics.specs.Text.{textLines, hasForm, lineIn, linesIn}
 use Rattle.semantics.specs.ReadPage.{badLine}
 use Rattle.semantics.proofs.ReadLines.{GoodLine, good-line}
 use Rattle.fields.specs.Cursor.{fieldsAt, linesAfter}
-use Rattle.lines.specs.declared.Entry.{Entry}
-use Rattle.lines.specs.declared.Entry.the-variants.{Good, Form}
-use Rattle.lines.specs.Lines.{LineFits, LinePut, EntryAt}
 use Rattle.reader.specs.Checks.{entriesOf, LinesFit}
+use Rattle.reader.specs.Entries.{LineFits, LinePut}
 use Rattle.reader.proofs.LinePlaces.{line-here}
-use Rattle.lines.proofs.Forms.{put-told, form-told, form-size}
 use Rattle.reader.proofs.Passes.{entries-here}
-use Rattle.lines.proofs.Writes.{sets-append}
+use Rattle.reader.proofs.Writes.{sets-append}
 
--- The entries from the place `from` of the text on stand in the area from 4 on, as far as the place i of the text and the place e of the area.
-pub record Writing (s : List ℕ) (from : ℕ) (area₀ area : List ℕ) (i e : ℕ) : Type 0 where
-  pub written : sets area₀ 4 (entriesOf s from) ≡ sets area e (entriesOf s i)
+-- The entries from the place `from` of the text on stand in the area from `start` on, as far as the place i of the text and the place e of the area.
+pub record Writing (s : List ℕ) (from : ℕ) (area₀ : List ℕ) (start : ℕ) (area : List ℕ) (i e : ℕ) : Type 0 where
+  pub written : sets area₀ start (entriesOf s from) ≡ sets area e (entriesOf s i)
   pub same : length area ≡ length area₀
   pub fits : LinesFit s i area e
 
-pub writing-first : (s : List ℕ) (from : ℕ) (area : List ℕ) → LinesFit s from area 4 → Writing s from area area from 4
-writing-first s from area f = record { written = refl; same = refl; fits = f }
+pub writing-first : (s : List ℕ) (from : ℕ) (area : List ℕ) (start : ℕ) → LinesFit s from area start → Writing s from area start area from start
+writing-first s from area start f = record { written = refl; same = refl; fits = f }
 
-module _ (s : List ℕ) (from : ℕ) (area₀ : List ℕ) {area : List ℕ} {i e : ℕ} (w : Writing s from area₀ area i e) where
-  pub writing-done : length s ≤ i → area ≡ sets area₀ 4 (entriesOf s from)
+module _ (s : List ℕ) (from : ℕ) (area₀ : List ℕ) (start : ℕ) {area : List ℕ} {i e : ℕ} (w : Writing s from area₀ start area i e) where
+  pub writing-done : length s ≤ i → area ≡ sets area₀ start (entriesOf s from)
   unfolding textLines linesIn lineCodes
   writing-done h = sym (w .written ∙ rw (drop-of-length-le s h))
 
@@ -52,38 +49,24 @@ module _ (s : List ℕ) (from : ℕ) (area₀ : List ℕ) {area : List ℕ} {i e
         let c = lineCode (lineIn (fieldsAt (drop i s))) in
         omega (arith, w .fits .room, ap length (entries-here s i h), length-append c (lineCodes (linesIn (linesAfter (drop i s)))))
 
-    pub line-fits : LineFits s i 4 area e
+    pub line-fits : LineFits s i area e
     line-fits =
-        let z = form-size (fieldsAt (drop i s)) form-here in
+        record { formed = record { place = record { inside = h; ended = w .fits .text .ended }; form = form-here }; room = entry-room }
+
+    pub writing-next : {area′ : List ℕ} {next end : ℕ} → LinePut s i area e area′ next end → Writing s from area₀ start area′ next end
+    writing-next {area′} {next} {end} y =
+        let c = lineCode (lineIn (fieldsAt (drop i s))) in
+        let on : entriesOf s i ≡ c ++ entriesOf s next = rw (y .ends .lines) at (entries-here s i h) in
+        let size : length area′ ≡ length area = ap length (y .entry .put) ∙ length-sets area e c in
         record {
-          place = record { inside = h; ended = w .fits .text .ended };
-          four = omega (arith, entry-room);
-          literals = λ k a b. omega (arith, entry-room);
+          written = w .written ∙ ap (sets area e) on ∙ sym (sets-append area e c (entriesOf s next)) ∙ rw (← y .entry .put, ← y .entry .size);
+          same = size ∙ w .same;
+          fits = record {
+            top = w .fits .top;
+            n = w .fits .n;
+            k = suc (w .fits .k);
+            good = ap (badLine (w .fits .top) (w .fits .n) (suc (w .fits .k))) (sym (y .ends .lines)) ∙ good-here .others;
+            text = w .fits .text;
+            room = omega (arith, w .fits .room, size, ap length on, length-append c (entriesOf s next), y .entry .size);
+          };
         }
-
-    module _ {area′ : List ℕ} {r : Entry} (q : EntryAt s i area e area′ r) where
-      pub never-form : r ≡ Form → area′ ≡ sets area₀ 4 (entriesOf s from)
-      never-form f = absurd (false≢true (sym (form-told s i area e area′ q f) ∙ form-here))
-
-      module _ {next end : ℕ} (f : r ≡ Good next end) where
-        pub put-here : LinePut s i area e area′ next end
-        put-here = put-told s i area e area′ q f
-
-        pub writing-next : Writing s from area₀ area′ next end
-        writing-next =
-            let c = lineCode (lineIn (fieldsAt (drop i s))) in
-            let y = put-here in
-            let on : entriesOf s i ≡ c ++ entriesOf s next = rw (y .ends .lines) at (entries-here s i h) in
-            let size : length area′ ≡ length area = ap length (y .entry .put) ∙ length-sets area e c in
-            record {
-              written = w .written ∙ ap (sets area e) on ∙ sym (sets-append area e c (entriesOf s next)) ∙ rw (← y .entry .put, ← y .entry .size);
-              same = size ∙ w .same;
-              fits = record {
-                top = w .fits .top;
-                n = w .fits .n;
-                k = suc (w .fits .k);
-                good = ap (badLine (w .fits .top) (w .fits .n) (suc (w .fits .k))) (sym (y .ends .lines)) ∙ good-here .others;
-                text = w .fits .text;
-                room = omega (arith, w .fits .room, size, ap length on, length-append c (entriesOf s next), y .entry .size);
-              };
-            }

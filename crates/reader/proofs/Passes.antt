@@ -7,7 +7,7 @@ use native.Mathlib.Omega.{arith}
 use native.Mathlib.Numerals.{add-one}
 use lib.ListN.{length, getD, drop, drop-of-length-le, length-append}
 use borrow.Author.Tests.{eq-eqb, ne-eqb}
-use Rattle.semantics.specs.Area.{lineCode, lineCodes}
+use Rattle.semantics.specs.Area.{headLength, lineCode, lineCodes}
 use Rattle.semantics.specs.Text.{textLines, fieldsOf, lineIn, linesIn}
 use Rattle.semantics.specs.ReadPage.{toldAt, orElse, badLine}
 use Rattle.fields.specs.Cursor.{fieldsAt, linesAfter}
@@ -50,12 +50,12 @@ module _ (s : List ℕ) (i : ℕ) (h : i < length s) where
 pub record Checking (s : List ℕ) (from top n i k u : ℕ) : Type 0 where
   pub bad : badLine top n 2 (textLines (drop from s)) ≡ badLine top n k (textLines (drop i s))
   pub count : 2 + length (textLines (drop from s)) ≡ k + length (textLines (drop i s))
-  pub used : 4 + length (entriesOf s from) ≡ u + length (entriesOf s i)
+  pub used : headLength n + length (entriesOf s from) ≡ u + length (entriesOf s i)
   pub least : 2 ≤ k
   pub most : k ≤ 1026
   pub short : u + 24 ≤ 4 + 12 * k
 
-pub checking-first : (s : List ℕ) (from top n : ℕ) → Checking s from top n from 2 4
+pub checking-first : (s : List ℕ) (from top n : ℕ) → Checking s from top n from 2 (headLength n)
 checking-first s from top n = record { bad = refl; count = refl; used = refl; least = omega arith; most = omega arith; short = omega arith }
 
 module _ (s : List ℕ) (from top n : ℕ) {i k u : ℕ} (w : Checking s from top n i k u) where

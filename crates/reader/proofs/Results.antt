@@ -7,7 +7,7 @@ use native.Mathlib.Omega.{arith}
 use lib.ListN.{length, getD, drop}
 use lib.Seq.{sets, sets-eq}
 use borrow.Author.Tests.{eqb-true, eqb-false, lt-ltb, le-ltb}
-use Rattle.semantics.specs.Area.{areaOf}
+use Rattle.semantics.specs.Area.{headLength, areaOf}
 use Rattle.semantics.specs.Text.{textLines, linesIn, pageIn}
 use Rattle.semantics.specs.ReadPage.{textRefusal, pageRead, usedBy, refusalOf, ReadAnswer, refusedPage, readPage, readOf}
 use Rattle.semantics.proofs.ReadLines.{good-text}
@@ -16,7 +16,7 @@ use Rattle.fields.proofs.Places.{byte-here}
 use Rattle.reader.specs.declared.check.Checked.{Checked}
 use Rattle.reader.specs.declared.check.Checked.the-variants.{Page, Refused}
 use Rattle.reader.specs.Checks.{entriesOf, Accepted, CheckedAs, LinesFit}
-use Rattle.lines.proofs.Writes.{sets-append}
+use Rattle.reader.proofs.Writes.{sets-append}
 
 -- an answer and what the area holds are those of the definition
 abbrev pub Result : List ℕ → List ℕ → ReadAnswer → List ℕ → Type 0
@@ -65,7 +65,7 @@ module _ (s area : List ℕ) {r : Checked} (q : CheckedAs (textRefusal s) s r) w
         }
 
     module _ (h : u ≤ length area) where
-      pub lines-fit : {area₁ : List ℕ} → length area₁ ≡ length area → LinesFit s from area₁ 4
+      pub lines-fit : {area₁ : List ℕ} → length area₁ ≡ length area → LinesFit s from area₁ (headLength n)
       lines-fit l =
           record {
             top = t;
@@ -76,7 +76,7 @@ module _ (s area : List ℕ) {r : Checked} (q : CheckedAs (textRefusal s) s r) w
             room = omega (arith, accepted .all .used);
           }
 
-      whole-area : sets (sets area 0 (t ∷ n ∷ k ∷ u ∷ [])) 4 (entriesOf s from) ≡ areaOf (pageRead s) ++ drop u area
+      whole-area : sets (sets area 0 (t ∷ n ∷ k ∷ u ∷ [])) (headLength n) (entriesOf s from) ≡ areaOf (pageRead s) ++ drop u area
       whole-area =
           let zero-add : 0 + length (t ∷ n ∷ k ∷ u ∷ entriesOf s from) ≡ u = omega (arith, accepted .all .used) in
           sets-append area 0 (t ∷ n ∷ k ∷ u ∷ []) (entriesOf s from)
@@ -84,9 +84,9 @@ module _ (s area : List ℕ) {r : Checked} (q : CheckedAs (textRefusal s) s r) w
           ∙ ap (λ (j : ℕ). (t ∷ n ∷ k ∷ u ∷ entriesOf s from) ++ drop j area) zero-add
           ∙ ap (λ (l : List ℕ). l ++ drop u area) page-area
 
-      pub read-whole : {area₁ area₂ : List ℕ} → area₁ ≡ sets area 0 (t ∷ n ∷ k ∷ u ∷ []) → area₂ ≡ sets area₁ 4 (entriesOf s from) → Result s area (readPage u) area₂
+      pub read-whole : {area₁ area₂ : List ℕ} → area₁ ≡ sets area 0 (t ∷ n ∷ k ∷ u ∷ []) → area₂ ≡ sets area₁ (headLength n) (entriesOf s from) → Result s area (readPage u) area₂
       unfolding readOf refusalOf
       read-whole {area₁} {area₂} a b = (
         rw (none-bad, used-is, le-ltb (length area) u h) (ap readPage (sym used-is)),
-        b ∙ ap (λ (l : List ℕ). sets l 4 (entriesOf s from)) a ∙ whole-area ∙ rw (none-bad, used-is, le-ltb (length area) u h) (rw used-is),
+        b ∙ ap (λ (l : List ℕ). sets l (headLength n) (entriesOf s from)) a ∙ whole-area ∙ rw (none-bad, used-is, le-ltb (length area) u h) (rw used-is),
       )

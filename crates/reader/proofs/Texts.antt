@@ -6,12 +6,11 @@ use mathlib.Core.Option.{some}
 use Prim.Native.Nat.{ℕ, _-_, _≤_, _<_}
 use native.Mathlib.Omega.{arith}
 use lib.ListN.{length, getD, drop}
-use borrow.Author.Tests.{eq-eqb, ne-eqb, lt-ltb, le-ltb, le-leb, lt-leb, leb-true}
+use borrow.Author.Tests.{eq-eqb, ne-eqb, lt-ltb, le-ltb}
 use Rattle.semantics.specs.Area.{every}
 use Rattle.semantics.specs.Text.{textLines, headRanges, topIn, conditionsIn}
 use Rattle.semantics.specs.Call.{cause, firstOf}
 use Rattle.semantics.specs.ReadPage.{toldAt, orElse, badLine, badLineOf, textRefusal}
-use Rattle.semantics.proofs.TestLists.{passes}
 use Rattle.reader.specs.declared.check.Head.{Head}
 use Rattle.reader.specs.declared.check.Head.the-variants as head-as
 use Rattle.reader.specs.declared.check.Tally.{Tally}
@@ -21,25 +20,6 @@ use Rattle.reader.specs.declared.check.Checked.the-variants.{Page, Refus
 use Rattle.fields.specs.Cursor.{Within, fieldsAt, linesAfter}
 use Rattle.fields.proofs.Places.{byte-here}
 use Rattle.reader.specs.Checks.{faultOf, HeadSays, HeadAt, Tallied, CheckedAs}
-
--- What `head_fault` answers.
-module _ (top n : ℕ) where
-  pub top-least : top < 1 → 4 ≡ faultOf (every (headRanges top n))
-  top-least h = rw (lt-leb 1 top h)
-
-  pub top-most : 1 ≤ top → 200 < top → 4 ≡ faultOf (every (headRanges top n))
-  top-most l h = rw (le-leb 1 top l, lt-leb top 200 h)
-
-  module _ (l : 1 ≤ top) (m : top ≤ 200) where
-    pub conditions-least : n < 1 → 4 ≡ faultOf (every (headRanges top n))
-    conditions-least h = rw (le-leb 1 top l, le-leb top 200 m, lt-leb 1 n h)
-
-    module _ (h : 1 ≤ n) where
-      pub conditions-most : 512 < n → 4 ≡ faultOf (every (headRanges top n))
-      conditions-most k = rw (le-leb 1 top l, le-leb top 200 m, le-leb 1 n h, lt-leb n 512 k)
-
-      pub head-good : n ≤ 512 → 0 ≡ faultOf (every (headRanges top n))
-      head-good k = rw (le-leb 1 top l, le-leb top 200 m, le-leb 1 n h, le-leb n 512 k)
 
 -- what is read of the first line, by the cases of the answer
 module _ (s : List ℕ) {r : Head} (w : HeadAt s r) where
@@ -80,9 +60,6 @@ module _ (s : List ℕ) {t n next : ℕ} (w : HeadSays s t n next) {f : ℕ} (r 
         go : (b : Bool) → f ≡ faultOf b → b ≡ true
         go true e = refl
         go false e = absurd (omega arith)
-
-    pub few-conditions : n ≤ 512
-    few-conditions = leb-true n 512 (passes (headRanges t n) 3 in-range)
 
     good-head : badLineOf (textLines s) ≡ badLine t n 2 (textLines (drop next s))
     unfolding badLineOf fieldsAt

@@ -1,12 +1,12 @@
 -- What the two passes over a text hand back and write. Assumes nothing.
 use mathlib.Core.Path.{_≡_}
-use mathlib.Core.Bool.{Bool, true, false, cond, _&&_}
-use mathlib.Core.List.{List}
+use mathlib.Core.Bool.{Bool, true, false}
+use mathlib.Core.List.{List, [], _∷_}
 use mathlib.Core.Option.{Option, none, some}
-use Prim.Native.Nat.{ℕ, _+_, _*_, _≤_}
+use Prim.Native.Nat.{ℕ, _+_, _≤_}
 use lib.Dec.{eqb, ltb, leb}
-use lib.ListN.{length, getD, drop}
-use Rattle.semantics.specs.Area.{allUnder, lineCode, lineCodes}
+use lib.ListN.{length, drop}
+use Rattle.semantics.specs.Area.{headLength, lineCode, lineCodes}
 use Rattle.semantics.specs.Call.{firstOf}
 use Rattle.semantics.specs.Text.{textLines, field, valueOf, isHead, lineIn, topIn, conditionsIn, linesIn}
 use Rattle.semantics.specs.ReadPage.{Refusal, lineCauses, badLine}
@@ -21,22 +21,22 @@ use Rattle.reader.specs.declared.check.Checked.{Checked}
 use Rattle.reader.specs.declared.check.Checked.the-variants.{Page as aPage, Refused}
 use Rattle.lines.specs.Lines.{Ends}
 
--- The ranges of a line, read off its entry e: the fields behind the condition of a fact, of a rule, and all fields.
-unfoldable pub factRange : ℕ → ℕ → ℕ → Bool
-factRange top l h = leb l top && (leb h top && leb l h)
-
-unfoldable pub ruleRange : ℕ → ℕ → List ℕ → Bool
-ruleRange top limit e = leb 1 (getD e 2 0) && (leb (getD e 2 0) top && allUnder limit (drop 4 e))
-
-unfoldable pub entryRange : ℕ → ℕ → List ℕ → Bool
-entryRange top n e =
-    ltb (getD e 0 0) n
-    && cond (eqb (getD e 1 0) 0) (factRange top (getD e 2 0) (getD e 3 0)) (cond (leb (getD e 1 0) 5) (ruleRange top (2 * n) e) true)
+-- the ranges of a rule in the order of its fields, where `far` is its first literal out of range, or 0
+abbrev pub ruleRanges : ℕ → ℕ → ℕ → ℕ → ℕ → List Bool
+ruleRanges top n c w far = ltb c n ∷ leb 1 w ∷ leb w top ∷ eqb far 0 ∷ []
 
 -- the number of the refusal where a test fails, or 0
 abbrev pub faultOf : Bool → ℕ
 faultOf true = 0
 faultOf false = 4
+
+-- a line that has a form, by the refusal for its fields
+abbrev pub lineIf : Bool → Line → Line → Line
+lineIf true x y = x
+lineIf false x y = y
+
+abbrev pub lineBy : ℕ → ℕ → ℕ → Line
+lineBy fault next size = lineIf (eqb fault 0) (line-as.Good next size) (line-as.Bad fault)
 
 -- the refusal of a line that is not line 1,026
 abbrev pub lineRefusal : ℕ → ℕ → List (List ℕ) → Option ℕ
@@ -72,7 +72,7 @@ entriesOf s from = lineCodes (linesIn (textLines (drop from s)))
 pub record AllGood (s : List ℕ) (from top n k u : ℕ) : Type 0 where
   pub good : badLine top n 2 (textLines (drop from s)) ≡ none
   pub count : k ≡ length (textLines (drop from s))
-  pub used : u ≡ 4 + length (entriesOf s from)
+  pub used : u ≡ headLength n + length (entriesOf s from)
   pub few : k ≤ 1024
   pub short : u ≤ 12292
 

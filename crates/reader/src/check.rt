@@ -1,21 +1,24 @@
 // The first pass over a text: each line is parsed and its fields are checked, and the used length is summed.
 ghost use mathlib.Core.Path.{_≡_};
-ghost use Prim.Native.Nat.{_≤_};
-ghost use lib.ListN.{length, drop};
-ghost use Rattle.semantics.specs.Area.{every, allUnder};
-ghost use Rattle.semantics.specs.Text.{textLines, headRanges};
+ghost use lib.Dec.{ltb};
+ghost use Rattle.semantics.specs.Page.{fact};
+ghost use Rattle.semantics.specs.Area.{every, headLength};
+ghost use Rattle.semantics.specs.Text.{textLines, headRanges, rangeTests};
 ghost use Rattle.semantics.specs.ReadPage.{badLineOf, textRefusal};
 ghost use Rattle.fields.specs.Cursor.{Within};
-ghost use Rattle.reader.specs.Checks.{faultOf, factRange, ruleRange, entryRange, LineAs, HeadAt, Tallied, CheckedAs};
+ghost use Rattle.reader.specs.Checks.{faultOf, ruleRanges, lineBy, LineAs, HeadAt, Tallied, CheckedAs};
 use fields::Field;
 use fields::number_before;
-use lines::Entry;
+use lines::Parsed;
 use lines::parse_line;
 
-// The refusal for the first field of a fact that is out of range, behind its condition; 0 where there is none.
-fn fact_fault(low: u16, high: u16, top: u16) -> u16
-    ensures { λ r. ⌜ r ≡ faultOf (factRange top low high) ⌝ }
+// The refusal for the first field of a fact that is out of range; 0 where there is none.
+fn fact_fault(condition: u16, low: u16, high: u16, top: u16, conditions: u16) -> u16
+    ensures { λ r. ⌜ r ≡ faultOf (every (rangeTests top conditions (fact condition low high))) ⌝ }
 {
+    if conditions <= condition {
+        return 4;
+    }
     if top < low {
         return 4;
     }
@@ -28,50 +31,33 @@ fn fact_fault(low: u16, high: u16, top: u16) -> u16
     0
 }
 
-// The refusal for the first literal of a rule whose condition is out of range, by the rule's entry; 0 where there is none.
-fn literals_fault(entry: &[u16], limit: u16) -> u16
-    requires { ⌜ 4 ≤ length (now entry) ⌝ }
-    ensures { λ r. ⌜ r ≡ faultOf (allUnder limit (drop 4 (now (entry .entry)))) ⌝ }
+// The refusal for the first field of a rule that is out of range, where `far` is the first such literal; 0 where there is none.
+fn rule_fault(condition: u16, weight: u16, far: usize, top: u16, conditions: u16) -> u16
+    ensures { λ r. ⌜ r ≡ faultOf (every (ruleRanges top conditions condition weight far)) ⌝ }
 {
-    let mut i: usize = 4;
-    while i < entry.len() {
-        if limit <= entry[i] {
-            return 4;
-        }
-        i += 1;
+    if conditions <= condition {
+        return 4;
     }
-    0
-}
-
-// The refusal for the first field of a rule that is out of range, behind its condition; 0 where there is none.
-fn rule_fault(entry: &[u16], top: u16, limit: u16) -> u16
-    requires { ⌜ 4 ≤ length (now entry) ⌝ }
-    ensures { λ r. ⌜ r ≡ faultOf (ruleRange top limit (now (entry .entry))) ⌝ }
-{
-    let weight = entry[2];
     if weight < 1 {
         return 4;
     }
     if top < weight {
         return 4;
     }
-    literals_fault(entry, limit)
-}
-
-// The refusal for the first field of a line that is out of range, by the line's entry; 0 where there is none.
-fn range_fault(entry: &[u16], top: u16, conditions: u16) -> u16
-    requires { ⌜ (4 ≤ length (now entry)) × (conditions ≤ 512) ⌝ }
-    ensures { λ r. ⌜ r ≡ faultOf (entryRange top conditions (now (entry .entry))) ⌝ }
-{
-    if conditions <= entry[0] {
+    if far != 0 {
         return 4;
     }
-    let kind = entry[1];
-    match kind {
-        0 => fact_fault(entry[2], entry[3], top),
-        1..=5 => rule_fault(entry, top, 2 * conditions),
-        _ => 0,
+    0
+}
+
+// The refusal for the condition of a query; 0 where there is none.
+fn query_fault(condition: u16, conditions: u16) -> u16
+    ensures { λ r. ⌜ r ≡ faultOf (ltb condition conditions) ⌝ }
+{
+    if conditions <= condition {
+        return 4;
     }
+    0
 }
 
 // What a line comes to: the place of the next line and the numbers of its entry, or the number of its refusal.
@@ -80,20 +66,43 @@ pub enum Line {
     Bad(u16),
 }
 
-// The line at a place, and its refusal: its form first, then its fields in their order. The longest entry has 12 numbers.
+// A line that has a form, by the refusal for its fields.
+fn by_fault(fault: u16, next: usize, size: usize) -> Line
+    ensures { λ r. ⌜ r ≡ lineBy fault next size ⌝ }
+{
+    if fault == 0 {
+        return Line::Good { next, size };
+    }
+    Line::Bad(fault)
+}
+
+// The line at a place, and its refusal: its form first, then its fields in their order. No other function refuses a line by what it says.
 fn check_line(bytes: &[u8], at: usize, top: u16, conditions: u16) -> Line
-    requires { ⌜ Within (now bytes) at × (conditions ≤ 512) ⌝ }
+    requires { ⌜ Within (now bytes) at ⌝ }
     ensures { λ r. ⌜ LineAs (now (bytes .entry)) at top conditions r ⌝ }
 {
-    let mut entry = [0u16; 12];
-    let Entry::Good { next, end } = parse_line(bytes, at, &mut entry, 0) else {
-        return Line::Bad(3);
-    };
-    let fault = range_fault(&entry[..end], top, conditions);
-    if fault != 0 {
-        return Line::Bad(fault);
+    let parsed = parse_line(bytes, at, conditions);
+    match parsed {
+        Parsed::Fact {
+            condition,
+            low,
+            high,
+            next,
+        } => by_fault(fact_fault(condition, low, high, top, conditions), next, 4),
+        Parsed::Rule {
+            condition,
+            weight,
+            count,
+            far,
+            next,
+        } => by_fault(
+            rule_fault(condition, weight, far, top, conditions),
+            next,
+            4 + count,
+        ),
+        Parsed::Query { condition, next } => by_fault(query_fault(condition, conditions), next, 4),
+        Parsed::Form => Line::Bad(3),
     }
-    Line::Good { next, size: end }
 }
 
 // What is read of the first line, `G,top,C`: top, C and the place of the next line, or that the line has no form.
@@ -123,8 +132,8 @@ fn parse_head(bytes: &[u8]) -> Head
         return Head::Form;
     };
     Head::Good {
-        top: top as u16,
-        conditions: conditions as u16,
+        top,
+        conditions,
         next,
     }
 }
@@ -135,14 +144,21 @@ pub enum Tally {
     Bad { number: u16, line: usize },
 }
 
+// How many numbers stand before the lines of a page area, with so many conditions.
+pub fn head_length(conditions: u16) -> usize
+    ensures { λ r. ⌜ r ≡ headLength conditions ⌝ }
+{
+    4
+}
+
 // The lines from a place on, which is where line 2 begins.
 fn check_lines(bytes: &[u8], from: usize, top: u16, conditions: u16) -> Tally
-    requires { ⌜ Within (now bytes) 0 × (conditions ≤ 512) ⌝ }
+    requires { ⌜ Within (now bytes) 0 ⌝ }
     ensures { λ r. ⌜ Tallied (now (bytes .entry)) from top conditions r ⌝ }
 {
     let mut at = from;
     let mut line: usize = 2;
-    let mut used: usize = 4;
+    let mut used = head_length(conditions);
     while at < bytes.len() {
         if line == 1026 {
             return Tally::Bad { number: 5, line };

@@ -11,8 +11,8 @@ use crate::check::Checked;
 use crate::check::check_page;
 use crate::show::line_end;
 use crate::show::next_line;
+use crate::write::put_head;
 use crate::write::write_lines;
-use lines::put_four;
 
 // The used length of a page that is read, or the number and the line of a refusal.
 pub enum ReadAnswer {
@@ -38,8 +38,8 @@ pub fn read_page(bytes: &[u8], area: &mut [u16]) -> ReadAnswer
             if area.len() < used {
                 return ReadAnswer::Refused { number: 6, line: 0 };
             }
-            put_four(area, 0, top, conditions, count as u16, used as u16);
-            write_lines(bytes, from, area);
+            let start = put_head(area, top, conditions, count as u16, used as u16);
+            write_lines(bytes, from, area, start);
             ReadAnswer::Read(used)
         }
     }

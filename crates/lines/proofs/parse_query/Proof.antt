@@ -2,61 +2,60 @@
 use borrow.Author.Needs.{needs}
 use Prim.Native.Nat.{ℕ, _+_}
 use mathlib.Core.Path.{_≡_, sym, _∙_, ap}
-use mathlib.Core.List.{List, [], _∷_}
+use mathlib.Core.List.{[], _∷_}
 use native.Mathlib.Omega.{arith}
-use lib.ListN.{length, getD, drop}
-use lib.Seq.{sets}
+use lib.ListN.{getD, drop}
 use Rattle.semantics.specs.Page.{query}
 use Rattle.semantics.specs.Text.{readingIn}
 use Rattle.fields.specs.Cursor.{Within, fieldsAt}
 use Rattle.fields.proofs.Places.{byte-here}
 use Rattle.fields.proofs.Letters.{LetterThen, plain, letter-next, letter-here, letter-gone}
-use Rattle.fields.proofs.Tokens.{NumberLast, number-last, no-number-last, last-most, newline-class}
-use Rattle.lines.specs.Lines.{readingAt}
+use Rattle.fields.proofs.Tokens.{NumberLast, number-last, no-number-last, newline-class}
+use Rattle.lines.specs.Lines.{Says, readingAt}
 use Rattle.lines.proofs.LetterCodes.{reading-plain, zero-reading, none-reading}
-use Rattle.lines.proofs.Forms.{Says, gone-line, no-reading-letter, query-place, no-query, query-codes, a-query, put-entry}
+use Rattle.lines.proofs.Forms.{gone-line, no-reading-letter, query-place, no-query, a-query}
 use Rattle.lines.proofs.parse_query.Statement.{statement}
 use Rattle.lines.proofs.parse_query.Tie as tie
 
 -- the letter, the reading, the condition, and what the line says
-the-letter : (c : tie.Else1) → LetterThen (c .before .before .before .before .args .bytes .now) (c .before .before .before .before .args .at) 81
-the-letter c = letter-here (c .before .before .before .before .args .bytes .now) (c .before .before .before .before .args .at) (c .before .before .before .before .pre .0 .place) (c .before .before .before .before .pre .1) (plain 81 (omega arith)) (c .if1 .left)
+the-letter : (c : tie.Else1) → LetterThen (c .before .before .before .args .bytes .now) (c .before .before .before .args .at) 81
+the-letter c = letter-here (c .before .before .before .args .bytes .now) (c .before .before .before .args .at) (c .before .before .before .pre .0) (c .before .before .before .pre .1) (plain 81 (omega arith)) (c .if1 .left)
 
-byte-two : (c : tie.Else1) → getD (c .before .before .before .before .args .bytes .now) (c .before .before .before .before .args .at + 2) 0 ≡ getD (c .before .before .before .before .args .bytes .now) (c .before .before .before .before .args .at + 2) 10
-byte-two c = byte-here (c .before .before .before .before .args .bytes .now) (c .before .before .before .before .args .at + 2) (the-letter c .place .inside)
+byte-two : (c : tie.Else1) → getD (c .before .before .before .args .bytes .now) (c .before .before .before .args .at + 2) 0 ≡ getD (c .before .before .before .args .bytes .now) (c .before .before .before .args .at + 2) 10
+byte-two c = byte-here (c .before .before .before .args .bytes .now) (c .before .before .before .args .at + 2) (the-letter c .place .inside)
 
-a-reading : (c : tie.Else2) → readingAt (getD (c .before .before .before .before .before .before .before .args .bytes .now) (c .before .before .before .before .before .before .before .args .at + 2) 0) ≡ 2 → ⊥
+a-reading : (c : tie.Else2) → readingAt (getD (c .before .before .before .before .before .before .args .bytes .now) (c .before .before .before .before .before .before .args .at + 2) 0) ≡ 2 → ⊥
 a-reading c e = c .if2 .left (c .before .reading-code .ensures ∙ e)
 
-reading-next : (c : tie.Else2) → Within (c .before .before .before .before .before .before .before .args .bytes .now) (c .before .before .before .before .before .before .before .args .at + 2 + 1)
+reading-next : (c : tie.Else2) → Within (c .before .before .before .before .before .before .args .bytes .now) (c .before .before .before .before .before .before .args .at + 2 + 1)
 reading-next c =
-    let r = getD (c .before .before .before .before .before .before .before .args .bytes .now) (c .before .before .before .before .before .before .before .args .at + 2) 0 in
-    letter-next (c .before .before .before .before .before .before .before .args .bytes .now) (c .before .before .before .before .before .before .before .args .at + 2) (the-letter (c .before .before .before) .place) (sym (byte-two (c .before .before .before))) (reading-plain r (a-reading c))
+    let r = getD (c .before .before .before .before .before .before .args .bytes .now) (c .before .before .before .before .before .before .args .at + 2) 0 in
+    letter-next (c .before .before .before .before .before .before .args .bytes .now) (c .before .before .before .before .before .before .args .at + 2) (the-letter (c .before .before .before) .place) (sym (byte-two (c .before .before .before))) (reading-plain r (a-reading c))
 
 three : (at : ℕ) → at + 2 + 1 ≡ at + 3
 three at = omega arith
 
-the-reading : (c : tie.Else3) → LetterThen (c .before .before .before .before .before .before .before .before .before .args .bytes .now) (c .before .before .before .before .before .before .before .before .before .args .at + 2) (getD (c .before .before .before .before .before .before .before .before .before .args .bytes .now) (c .before .before .before .before .before .before .before .before .before .args .at + 2) 0)
+the-reading : (c : tie.Else3) → LetterThen (c .before .before .before .before .before .before .before .before .args .bytes .now) (c .before .before .before .before .before .before .before .before .args .at + 2) (getD (c .before .before .before .before .before .before .before .before .args .bytes .now) (c .before .before .before .before .before .before .before .before .args .at + 2) 0)
 the-reading c =
-    let r = getD (c .before .before .before .before .before .before .before .before .before .args .bytes .now) (c .before .before .before .before .before .before .before .before .before .args .at + 2) 0 in
+    let r = getD (c .before .before .before .before .before .before .before .before .args .bytes .now) (c .before .before .before .before .before .before .before .before .args .at + 2) 0 in
     let n = a-reading (c .before .before) in
-    letter-here (c .before .before .before .before .before .before .before .before .before .args .bytes .now) (c .before .before .before .before .before .before .before .before .before .args .at + 2) (the-letter (c .before .before .before .before .before) .place) (sym (byte-two (c .before .before .before .before .before))) (reading-plain r n)
-    (ap (λ (i : ℕ). getD (c .before .before .before .before .before .before .before .before .before .args .bytes .now) i 0) (three (c .before .before .before .before .before .before .before .before .before .args .at)) ∙ c .if3 .left)
+    letter-here (c .before .before .before .before .before .before .before .before .args .bytes .now) (c .before .before .before .before .before .before .before .before .args .at + 2) (the-letter (c .before .before .before .before .before) .place) (sym (byte-two (c .before .before .before .before .before))) (reading-plain r n)
+    (ap (λ (i : ℕ). getD (c .before .before .before .before .before .before .before .before .args .bytes .now) i 0) (three (c .before .before .before .before .before .before .before .before .args .at)) ∙ c .if3 .left)
 
-the-condition : (c : tie.After-known-told) → NumberLast (c .before .before .before .before .before .before .before .before .before .before .before .before .before .args .bytes .now) (c .before .before .before .before .before .before .before .before .before .before .before .before .before .args .at + 4) (c .before .condition .given .0 .0) (c .before .condition .given .0 .1 .0)
-the-condition c = number-last (c .before .before .before .before .before .before .before .before .before .before .before .before .before .args .bytes .now) (c .before .before .before .before .before .before .before .before .before .before .before .before .before .args .at + 4) (c .before .before .before .number-before .ensures) (c .before .condition .given .1)
+the-condition : (c : tie.After-known-told) → NumberLast (c .before .before .before .before .before .before .before .before .before .before .before .before .args .bytes .now) (c .before .before .before .before .before .before .before .before .before .before .before .before .args .at + 4) (c .before .condition .given .0 .0) (c .before .condition .given .0 .1 .0)
+the-condition c = number-last (c .before .before .before .before .before .before .before .before .before .before .before .before .args .bytes .now) (c .before .before .before .before .before .before .before .before .before .before .before .before .args .at + 4) (c .before .before .before .number-before .ensures) (c .before .condition .given .1)
 
-the-query : (c : tie.After-known-told) → Says (c .before .before .before .before .before .before .before .before .before .before .before .before .before .args .bytes .now) (c .before .before .before .before .before .before .before .before .before .before .before .before .before .args .at) (query (readingIn (getD (c .before .before .before .before .before .before .before .before .before .before .before .before .before .args .bytes .now) (c .before .before .before .before .before .before .before .before .before .before .before .before .before .args .at + 2) 0 ∷ [])) (c .before .condition .given .0 .0)) (c .before .condition .given .0 .1 .0)
-the-query c = a-query (c .before .before .before .before .before .before .before .before .before .before .before .before .before .args .bytes .now) (c .before .before .before .before .before .before .before .before .before .before .before .before .before .args .at) (the-letter (c .before .before .before .before .before .before .before .before .before)) (the-reading (c .before .before .before .before)) (a-reading (c .before .before .before .before .before .before)) (the-condition c)
+the-query : (c : tie.After-known-told) → Says (c .before .before .before .before .before .before .before .before .before .before .before .before .args .bytes .now) (c .before .before .before .before .before .before .before .before .before .before .before .before .args .at) (query (readingIn (getD (c .before .before .before .before .before .before .before .before .before .before .before .before .args .bytes .now) (c .before .before .before .before .before .before .before .before .before .before .before .before .args .at + 2) 0 ∷ [])) (c .before .condition .given .0 .0)) (c .before .condition .given .0 .1 .0)
+the-query c = a-query (c .before .before .before .before .before .before .before .before .before .before .before .before .args .bytes .now) (c .before .before .before .before .before .before .before .before .before .before .before .before .args .at) (the-letter (c .before .before .before .before .before .before .before .before .before)) (the-reading (c .before .before .before .before)) (a-reading (c .before .before .before .before .before .before)) (the-condition c)
 
 add-if1 : tie.Need-add-if1
 add-if1 c = search needs
 
 shared-slice-read-if1 : tie.Need-shared-slice-read-if1
-shared-slice-read-if1 c = letter-next (c .before .before .before .args .bytes .now) (c .before .before .before .args .at) (c .before .before .before .pre .0 .place) (c .before .before .before .pre .1) (plain 81 (omega arith)) .inside
+shared-slice-read-if1 c = letter-next (c .before .before .args .bytes .now) (c .before .before .args .at) (c .before .before .pre .0) (c .before .before .pre .1) (plain 81 (omega arith)) .inside
 
 returns : tie.Need-returns
-returns c = gone-line (fieldsAt (drop (c .before .before .before .before .args .at) (c .before .before .before .before .args .bytes .now))) (letter-gone (c .before .before .before .before .args .bytes .now) (c .before .before .before .before .args .at) (c .before .before .before .before .pre .0 .place) (c .before .before .before .before .pre .1) (plain 81 (omega arith)) (c .if1 .taken))
+returns c = gone-line (fieldsAt (drop (c .before .before .before .args .at) (c .before .before .before .args .bytes .now))) (letter-gone (c .before .before .before .args .bytes .now) (c .before .before .before .args .at) (c .before .before .before .pre .0) (c .before .before .before .pre .1) (plain 81 (omega arith)) (c .if1 .taken))
 
 add-reading-code : tie.Need-add-reading-code
 add-reading-code c = search needs
@@ -69,8 +68,8 @@ reading-code-requires c κs = search needs
 
 returns-2 : tie.Need-returns-2
 returns-2 c =
-    no-reading-letter (c .before .before .before .before .before .before .before .args .bytes .now) (c .before .before .before .before .before .before .before .args .at) (the-letter (c .before .before .before))
-    (none-reading (c .before .before .before .before .before .before .before .args .bytes .now) (c .before .before .before .before .before .before .before .args .at + 2) (ap readingAt (sym (byte-two (c .before .before .before))) ∙ sym (c .before .reading-code .ensures) ∙ c .if2 .taken))
+    no-reading-letter (c .before .before .before .before .before .before .args .bytes .now) (c .before .before .before .before .before .before .args .at) (the-letter (c .before .before .before))
+    (none-reading (c .before .before .before .before .before .before .args .bytes .now) (c .before .before .before .before .before .before .args .at + 2) (ap readingAt (sym (byte-two (c .before .before .before))) ∙ sym (c .before .reading-code .ensures) ∙ c .if2 .taken))
 
 add-if3 : tie.Need-add-if3
 add-if3 c = search needs
@@ -80,18 +79,18 @@ shared-slice-read-if3 c = omega (arith, reading-next (c .before) .inside)
 
 returns-3 : tie.Need-returns-3
 returns-3 c =
-    let r = getD (c .before .before .before .before .before .before .before .before .before .args .bytes .now) (c .before .before .before .before .before .before .before .before .before .args .at + 2) 0 in
+    let r = getD (c .before .before .before .before .before .before .before .before .args .bytes .now) (c .before .before .before .before .before .before .before .before .args .at + 2) 0 in
     let n = a-reading (c .before .before) in
-    no-reading-letter (c .before .before .before .before .before .before .before .before .before .args .bytes .now) (c .before .before .before .before .before .before .before .before .before .args .at) (the-letter (c .before .before .before .before .before))
+    no-reading-letter (c .before .before .before .before .before .before .before .before .args .bytes .now) (c .before .before .before .before .before .before .before .before .args .at) (the-letter (c .before .before .before .before .before))
     (zero-reading
-    (letter-gone (c .before .before .before .before .before .before .before .before .before .args .bytes .now) (c .before .before .before .before .before .before .before .before .before .args .at + 2) (the-letter (c .before .before .before .before .before) .place) (sym (byte-two (c .before .before .before .before .before))) (reading-plain r n)
-    (λ z. c .if3 .taken (ap (λ (i : ℕ). getD (c .before .before .before .before .before .before .before .before .before .args .bytes .now) i 0) (sym (three (c .before .before .before .before .before .before .before .before .before .args .at))) ∙ z))))
+    (letter-gone (c .before .before .before .before .before .before .before .before .args .bytes .now) (c .before .before .before .before .before .before .before .before .args .at + 2) (the-letter (c .before .before .before .before .before) .place) (sym (byte-two (c .before .before .before .before .before))) (reading-plain r n)
+    (λ z. c .if3 .taken (ap (λ (i : ℕ). getD (c .before .before .before .before .before .before .before .before .args .bytes .now) i 0) (sym (three (c .before .before .before .before .before .before .before .before .args .at))) ∙ z))))
 
 add-number-before : tie.Need-add-number-before
 add-number-before c = search needs
 
 number-before-requires : tie.Need-number-before-requires
-number-before-requires c κs = (query-place (c .before .before .before .before .before .before .before .before .before .args .bytes .now) (c .before .before .before .before .before .before .before .before .before .args .at) (the-letter (c .before .before .before .before .before)) (the-reading c), newline-class)
+number-before-requires c κs = (query-place (c .before .before .before .before .before .before .before .before .args .bytes .now) (c .before .before .before .before .before .before .before .before .args .at) (the-letter (c .before .before .before .before .before)) (the-reading c), newline-class)
 
 enum-known-condition : tie.Need-enum-known-condition
 enum-known-condition c = search needs
@@ -100,27 +99,10 @@ enum-told : tie.Need-enum-told
 enum-told c = search needs
 
 returns-4 : tie.Need-returns-4
-returns-4 c = no-query (c .before .before .before .before .before .before .before .before .before .before .before .before .args .bytes .now) (c .before .before .before .before .before .before .before .before .before .before .before .before .args .at) (the-letter (c .before .before .before .before .before .before .before .before)) (the-reading (c .before .before .before)) (no-number-last (c .before .before .before .before .before .before .before .before .before .before .before .before .args .bytes .now) (c .before .before .before .before .before .before .before .before .before .before .before .before .args .at + 4) (c .before .before .number-before .ensures) (c .enum-told .given .1))
-
-cast-put-four : tie.Need-cast-put-four
-cast-put-four c = omega (arith, last-most (the-condition (c .before)))
-
-put-four-requires : tie.Need-put-four-requires
-put-four-requires c κs = omega (arith, c .before .before .before .before .before .before .before .before .before .before .before .before .before .before .pre .0 .four)
-
-add-t8 : tie.Need-add-t8
-add-t8 c = omega (arith, c .before .before .before .before .before .before .before .before .before .before .before .before .before .before .before .before .before .pre .0 .four, c .before .before .before .before .before .before .before .before .before .before .before .before .before .before .before .before .before .good)
-
-same-length : tie.Need-same-length
-same-length c = search needs
+returns-4 c = no-query (c .before .before .before .before .before .before .before .before .before .before .before .args .bytes .now) (c .before .before .before .before .before .before .before .before .before .before .before .args .at) (the-letter (c .before .before .before .before .before .before .before .before)) (the-reading (c .before .before .before)) (no-number-last (c .before .before .before .before .before .before .before .before .before .before .before .args .bytes .now) (c .before .before .before .before .before .before .before .before .before .before .before .args .at + 4) (c .before .before .number-before .ensures) (c .enum-told .given .1))
 
 returns-5 : tie.Need-returns-5
-returns-5 c =
-    let a = c .before .before .before .before .before .before .before .before .before .before .before .before .before .before .before .before .before .args in
-    let r = getD (a .bytes .now) (a .at + 2) 0 in
-    let v = c .before .before .before .before .before .condition .given .0 .0 in
-    let codes = ap (λ (x : ℕ). v ∷ 6 ∷ x ∷ 0 ∷ []) (c .before .before .before .before .before .before .before .before .before .before .before .reading-code .ensures) ∙ query-codes (a .bytes .now) (a .at) (the-letter (c .before .before .before .before .before .before .before .before .before .before .before .before .before)) (the-reading (c .before .before .before .before .before .before .before .before)) (a-reading (c .before .before .before .before .before .before .before .before .before .before)) (the-condition (c .before .before .before .before)) in
-    put-entry (the-query (c .before .before .before .before)) (record { put = c .before .before .put-four .ensures ∙ ap (sets (a .area .now) (a .end)) codes; size = ap (λ (l : List ℕ). a .end + length l) codes })
+returns-5 c = record { reading = _; says = the-query c }
 
 pub parse-query-spec : {M : Type 1} → statement M
 parse-query-spec =
@@ -141,8 +123,4 @@ parse-query-spec =
     enum-known-condition
     enum-told
     returns-4
-    cast-put-four
-    put-four-requires
-    add-t8
-    same-length
     returns-5)

@@ -1,99 +1,113 @@
 -- `parse_rule` meets its contract, by the laws of `Forms`. Assumes nothing.
 use borrow.Author.Needs.{needs}
+use mathlib.Core.Path.{_≡_, sym, _∙_, ap}
+use mathlib.Core.Logic.{inr}
 use Prim.Native.Nat.{_+_}
 use native.Mathlib.Omega.{arith}
-use lib.ListN.{drop}
-use Rattle.fields.specs.Cursor.{fieldsAt}
-use Rattle.fields.proofs.Letters.{LetterThen, plain, letter-next, letter-here, letter-gone}
-use Rattle.fields.proofs.Tokens.{NumberThen, number-then, no-number-then, then-most, comma-class}
-use Rattle.lines.specs.Pairs.{PairThen}
-use Rattle.lines.proofs.Pairs.{no-first, no-second, pair-then}
-use Rattle.lines.proofs.Forms.{gone-line, no-rule-pair, rule-room, rule-entry}
+use lib.ListN.{getD}
+use Rattle.fields.proofs.Places.{byte-here}
+use Rattle.fields.proofs.Letters.{LetterThen, letter-next, letter-here, letter-gone}
+use Rattle.lines.specs.Lines.{PairThen, kindAt}
+use Rattle.lines.proofs.LetterCodes.{kind-plain, zero-kind, none-kind}
+use Rattle.lines.proofs.Forms.{no-op, literals-form, rule-says}
+use Rattle.lines.proofs.Pairs.{some-pair, pair-form}
+use Rattle.lines.proofs.LiteralFields.{some-literals, no-literals}
 use Rattle.lines.proofs.parse_rule.Statement.{statement}
 use Rattle.lines.proofs.parse_rule.Tie as tie
 
--- the letter and the first two numbers
-the-letter : (c : tie.Else1) → LetterThen (c .before .before .before .before .args .bytes .now) (c .before .before .before .before .args .at) 82
-the-letter c = letter-here (c .before .before .before .before .args .bytes .now) (c .before .before .before .before .args .at) (c .before .before .before .before .pre .0 .place) (c .before .before .before .before .pre .1) (plain 82 (omega arith)) (c .if1 .left)
+-- the letter, the condition and the weight
+the-pair : (c : tie.After-known-told) → PairThen (c .before .before .before .before .before .args .bytes .now) (c .before .before .before .before .before .args .at) (c .before .first .given .0 .0) (c .before .first .given .0 .1 .0) (c .before .first .given .0 .1 .1 .0)
+the-pair c = let a = c .before .before .before .before .before .args in some-pair (a .bytes .now) (a .at) (c .before .before .before .parse-pair .ensures) (c .before .first .given .1)
 
-the-condition : (c : tie.After-known-told) → NumberThen (c .before .before .before .before .before .before .before .before .args .bytes .now) (c .before .before .before .before .before .before .before .before .args .at + 2) (c .before .condition .given .0 .0) (c .before .condition .given .0 .1 .0)
-the-condition c = number-then (c .before .before .before .before .before .before .before .before .args .bytes .now) (c .before .before .before .before .before .before .before .before .args .at + 2) (the-letter (c .before .before .before .before) .place) (c .before .before .before .number-before .ensures) (c .before .condition .given .1)
+-- the op letter
+the-byte : (c : tie.After-known-told) → getD (c .before .before .before .before .before .args .bytes .now) (c .before .first .given .0 .1 .1 .0) 0 ≡ getD (c .before .before .before .before .before .args .bytes .now) (c .before .first .given .0 .1 .1 .0) 10
+the-byte c = byte-here (c .before .before .before .before .before .args .bytes .now) (c .before .first .given .0 .1 .1 .0) (the-pair c .place .inside)
 
-the-weight : (c : tie.After-known-told2) → NumberThen (c .before .before .before .before .before .before .before .before .before .before .before .before .args .bytes .now) (c .before .before .before .before .before .condition .given .0 .1 .0) (c .before .weight .given .0 .0) (c .before .weight .given .0 .1 .0)
-the-weight c = number-then (c .before .before .before .before .before .before .before .before .before .before .before .before .args .bytes .now) (c .before .before .before .before .before .condition .given .0 .1 .0) (the-condition (c .before .before .before .before) .place) (c .before .before .before .number-before2 .ensures) (c .before .weight .given .1)
+an-op : (c : tie.Else1) → kindAt (getD (c .before .before .before .before .before .before .before .before .args .bytes .now) (c .before .before .before .before .first .given .0 .1 .1 .0) 0) ≡ 0 → ⊥
+an-op c e = c .if1 .left (c .before .op-kind .ensures ∙ e)
 
-the-pair : (c : tie.After-known-told2) → PairThen (c .before .before .before .before .before .before .before .before .before .before .before .before .args .bytes .now) (c .before .before .before .before .before .before .before .before .before .before .before .before .args .at + 2) (c .before .before .before .before .before .condition .given .0 .0) (c .before .weight .given .0 .0) (c .before .weight .given .0 .1 .0)
-the-pair c = pair-then (c .before .before .before .before .before .before .before .before .before .before .before .before .args .bytes .now) (c .before .before .before .before .before .before .before .before .before .before .before .before .args .at + 2) (the-condition (c .before .before .before .before)) (the-weight c)
+the-op : (c : tie.Else2) → LetterThen (c .before .before .before .before .before .before .before .before .before .before .args .bytes .now) (c .before .before .before .before .before .before .first .given .0 .1 .1 .0) (getD (c .before .before .before .before .before .before .before .before .before .before .args .bytes .now) (c .before .before .before .before .before .before .first .given .0 .1 .1 .0) 0)
+the-op c =
+    let a = c .before .before .before .before .before .before .before .before .before .before .args in
+    letter-here (a .bytes .now) (c .before .before .before .before .before .before .first .given .0 .1 .1 .0) (the-pair (c .before .before .before .before .before) .place) (sym (the-byte (c .before .before .before .before .before))) (kind-plain (getD (a .bytes .now) (c .before .before .before .before .before .before .first .given .0 .1 .1 .0) 0) (an-op (c .before .before))) (c .if2 .left)
 
-add-if1 : tie.Need-add-if1
-add-if1 c = search needs
+parse-pair-requires : tie.Need-parse-pair-requires
+parse-pair-requires c κs = (c .before .pre .0, inr (c .before .pre .1))
 
-shared-slice-read-if1 : tie.Need-shared-slice-read-if1
-shared-slice-read-if1 c = letter-next (c .before .before .before .args .bytes .now) (c .before .before .before .args .at) (c .before .before .before .pre .0 .place) (c .before .before .before .pre .1) (plain 82 (omega arith)) .inside
-
-returns : tie.Need-returns
-returns c = gone-line (fieldsAt (drop (c .before .before .before .before .args .at) (c .before .before .before .before .args .bytes .now))) (letter-gone (c .before .before .before .before .args .bytes .now) (c .before .before .before .before .args .at) (c .before .before .before .before .pre .0 .place) (c .before .before .before .before .pre .1) (plain 82 (omega arith)) (c .if1 .taken))
-
-add-number-before : tie.Need-add-number-before
-add-number-before c = search needs
-
-number-before-requires : tie.Need-number-before-requires
-number-before-requires c κs = (the-letter c .place, comma-class)
-
-enum-known-condition : tie.Need-enum-known-condition
-enum-known-condition c = search needs
+enum-known-first : tie.Need-enum-known-first
+enum-known-first c = search needs
 
 enum-told : tie.Need-enum-told
 enum-told c = search needs
 
+returns : tie.Need-returns
+returns c = let a = c .before .before .before .before .args in pair-form (a .bytes .now) (a .at) (c .before .before .parse-pair .ensures) (c .enum-told .given .1)
+
+shared-slice-read-op-kind : tie.Need-shared-slice-read-op-kind
+shared-slice-read-op-kind c = the-pair (c .before) .place .inside
+
+op-kind-requires : tie.Need-op-kind-requires
+op-kind-requires c κs = search needs
+
 returns-2 : tie.Need-returns-2
-returns-2 c = no-rule-pair (c .before .before .before .before .before .before .before .args .bytes .now) (c .before .before .before .before .before .before .before .args .at) (the-letter (c .before .before .before)) (no-first (c .before .before .before .before .before .before .before .args .bytes .now) (c .before .before .before .before .before .before .before .args .at + 2) (no-number-then (c .before .before .before .before .before .before .before .args .bytes .now) (c .before .before .before .before .before .before .before .args .at + 2) (c .before .before .number-before .ensures) (c .enum-told .given .1)))
+returns-2 c =
+    let a = c .before .before .before .before .before .before .before .before .args in
+    no-op (a .bytes .now) (a .at) (c .before .before .before .before .before .before .before .before .pre .1) (the-pair (c .before .before .before)) (none-kind (a .bytes .now) (c .before .before .before .before .first .given .0 .1 .1 .0) (ap kindAt (sym (the-byte (c .before .before .before))) ∙ sym (c .before .op-kind .ensures) ∙ c .if1 .taken))
 
-number-before-requires-2 : tie.Need-number-before-requires-2
-number-before-requires-2 c κs = (the-condition c .place, comma-class)
+add-if2 : tie.Need-add-if2
+add-if2 c = omega (arith, the-pair (c .before .before .before) .place .inside)
 
-enum-known-weight : tie.Need-enum-known-weight
-enum-known-weight c = search needs
+shared-slice-read-if2 : tie.Need-shared-slice-read-if2
+shared-slice-read-if2 c =
+    let a = c .before .before .before .before .before .before .before .before .before .args in
+    letter-next (a .bytes .now) (c .before .before .before .before .before .first .given .0 .1 .1 .0) (the-pair (c .before .before .before .before) .place) (sym (the-byte (c .before .before .before .before))) (kind-plain (getD (a .bytes .now) (c .before .before .before .before .before .first .given .0 .1 .1 .0) 0) (an-op (c .before))) .inside
+
+returns-3 : tie.Need-returns-3
+returns-3 c =
+    let a = c .before .before .before .before .before .before .before .before .before .before .args in
+    no-op (a .bytes .now) (a .at) (c .before .before .before .before .before .before .before .before .before .before .pre .1) (the-pair (c .before .before .before .before .before)) (zero-kind (letter-gone (a .bytes .now) (c .before .before .before .before .before .before .first .given .0 .1 .1 .0) (the-pair (c .before .before .before .before .before) .place) (sym (the-byte (c .before .before .before .before .before))) (kind-plain (getD (a .bytes .now) (c .before .before .before .before .before .before .first .given .0 .1 .1 .0) 0) (an-op (c .before .before))) (c .if2 .taken)))
+
+add-parse-literals : tie.Need-add-parse-literals
+add-parse-literals c = omega (arith, the-op c .place .inside)
+
+parse-literals-requires : tie.Need-parse-literals-requires
+parse-literals-requires c κs = the-op c .place
+
+enum-known-count : tie.Need-enum-known-count
+enum-known-count c = search needs
 
 enum-told-2 : tie.Need-enum-told-2
 enum-told-2 c = search needs
 
-returns-3 : tie.Need-returns-3
-returns-3 c = no-rule-pair (c .before .before .before .before .before .before .before .before .before .before .before .args .bytes .now) (c .before .before .before .before .before .before .before .before .before .before .before .args .at) (the-letter (c .before .before .before .before .before .before .before)) (no-second (c .before .before .before .before .before .before .before .before .before .before .before .args .bytes .now) (c .before .before .before .before .before .before .before .before .before .before .before .args .at + 2) (the-condition (c .before .before .before)) (no-number-then (c .before .before .before .before .before .before .before .before .before .before .before .args .bytes .now) (c .before .before .before .before .condition .given .0 .1 .0) (c .before .before .number-before2 .ensures) (c .enum-told2 .given .1)))
-
-cast-rule-rest : tie.Need-cast-rule-rest
-cast-rule-rest c = omega (arith, then-most (the-condition (c .before .before .before .before)))
-
-cast-rule-rest-2 : tie.Need-cast-rule-rest-2
-cast-rule-rest-2 c = omega (arith, then-most (the-weight c))
-
-rule-rest-requires : tie.Need-rule-rest-requires
-rule-rest-requires c κs = rule-room (c .before .before .before .before .before .before .before .before .before .before .before .before .before .args .bytes .now) (c .before .before .before .before .before .before .before .before .before .before .before .before .before .args .at) (the-letter (c .before .before .before .before .before .before .before .before .before)) (the-pair (c .before)) (c .before .before .before .before .before .before .before .before .before .before .before .before .before .pre .0)
-
-same-length : tie.Need-same-length
-same-length c = search needs
-
 returns-4 : tie.Need-returns-4
-returns-4 c = rule-entry (c .before .before .before .before .before .before .before .before .before .before .before .before .before .before .before .before .args .bytes .now) (c .before .before .before .before .before .before .before .before .before .before .before .before .before .before .before .before .args .at) (the-letter (c .before .before .before .before .before .before .before .before .before .before .before .before)) (the-pair (c .before .before .before .before)) (c .before .before .before .before .before .before .before .before .before .before .before .before .before .before .before .before .args .area .now) (c .before .before .before .before .before .before .before .before .before .before .before .before .before .before .before .before .args .end) _ (c .before .before .rule-rest .result) (c .before .before .rule-rest .ensures)
+returns-4 c =
+    let a = c .before .before .before .before .before .before .before .before .before .before .before .before .before .args in
+    literals-form (a .bytes .now) (a .at) (c .before .before .before .before .before .before .before .before .before .before .before .before .before .pre .1) (the-pair (c .before .before .before .before .before .before .before .before)) (the-op (c .before .before .before)) (an-op (c .before .before .before .before .before))
+    ∙ no-literals (a .bytes .now) ((c .before .before .before .before .before .before .before .before .before .first .given .0 .1 .1 .0) + 2) (a .conditions) (c .before .before .parse-literals .ensures) (c .enum-told2 .given .1)
+
+returns-5 : tie.Need-returns-5
+returns-5 c =
+    let a = c .before .before .before .before .before .before .before .before .before .before .before .before .before .before .args in
+    rule-says (a .bytes .now) (a .at) (c .before .before .before .before .before .before .before .before .before .before .before .before .before .before .pre .1) (the-pair (c .before .before .before .before .before .before .before .before .before)) (the-op (c .before .before .before .before)) (an-op (c .before .before .before .before .before .before))
+    (some-literals (a .bytes .now) ((c .before .before .before .before .before .before .before .before .before .before .first .given .0 .1 .1 .0) + 2) (a .conditions) (c .before .before .before .parse-literals .ensures) (c .before .count .given .1))
 
 pub parse-rule-spec : {M : Type 1} → statement M
 parse-rule-spec =
     tie.close
     (tie.spec
-    add-if1
-    shared-slice-read-if1
-    returns
-    add-number-before
-    number-before-requires
-    enum-known-condition
+    parse-pair-requires
+    enum-known-first
     enum-told
+    returns
+    shared-slice-read-op-kind
+    op-kind-requires
     returns-2
-    number-before-requires-2
-    enum-known-weight
-    enum-told-2
+    add-if2
+    shared-slice-read-if2
     returns-3
-    cast-rule-rest
-    cast-rule-rest-2
-    rule-rest-requires
-    same-length
-    returns-4)
+    add-parse-literals
+    parse-literals-requires
+    enum-known-count
+    enum-told-2
+    returns-4
+    returns-5)

@@ -17,17 +17,17 @@ enum-known-checked-2 c = search needs
 returns : tie.Need-returns
 returns c = let a = c .before .before .before .before .before .before .before .args in too-short (a .bytes .now) (a .area .now) (c .before .before .before .before .check-page .ensures) (c .before .before .checked2 .given .1) (c .if1 .taken)
 
-cast-put-four : tie.Need-cast-put-four
-cast-put-four c = let a = c .before .before .before .before .before .before .before .before .args in omega (arith, accepted (a .bytes .now) (a .area .now) (c .before .before .before .before .before .check-page .ensures) (c .before .before .before .checked2 .given .1) .all .few)
+cast-put-head : tie.Need-cast-put-head
+cast-put-head c = let a = c .before .before .before .before .before .before .before .before .args in omega (arith, accepted (a .bytes .now) (a .area .now) (c .before .before .before .before .before .check-page .ensures) (c .before .before .before .checked2 .given .1) .all .few)
 
-cast-put-four-2 : tie.Need-cast-put-four-2
-cast-put-four-2 c = let a = c .before .before .before .before .before .before .before .before .args in omega (arith, accepted (a .bytes .now) (a .area .now) (c .before .before .before .before .before .check-page .ensures) (c .before .before .before .checked2 .given .1) .all .short)
+cast-put-head-2 : tie.Need-cast-put-head-2
+cast-put-head-2 c = let a = c .before .before .before .before .before .before .before .before .args in omega (arith, accepted (a .bytes .now) (a .area .now) (c .before .before .before .before .before .check-page .ensures) (c .before .before .before .checked2 .given .1) .all .short)
 
-put-four-requires : tie.Need-put-four-requires
-put-four-requires c κs = let a = c .before .before .before .before .before .before .before .before .args in omega (arith, c .before .if1 .left, accepted (a .bytes .now) (a .area .now) (c .before .before .before .before .before .check-page .ensures) (c .before .before .before .checked2 .given .1) .all .used)
+put-head-requires : tie.Need-put-head-requires
+put-head-requires c κs = let a = c .before .before .before .before .before .before .before .before .args in omega (arith, c .before .if1 .left, accepted (a .bytes .now) (a .area .now) (c .before .before .before .before .before .check-page .ensures) (c .before .before .before .checked2 .given .1) .all .used)
 
 write-lines-requires : tie.Need-write-lines-requires
-write-lines-requires c κs = let a = c .before .before .before .before .before .before .before .before .before .before .before .before .args in lines-fit (a .bytes .now) (a .area .now) (c .before .before .before .before .before .before .before .before .before .check-page .ensures) (c .before .before .before .before .before .before .before .checked2 .given .1) (c .before .before .before .before .before .if1 .left) (c .before .before .before .put-four .kept .0)
+write-lines-requires c κs = let a = c .before .before .before .before .before .before .before .before .before .before .before .before .args in rw (c .before .before .before .put-head .ensures .1) (lines-fit (a .bytes .now) (a .area .now) (c .before .before .before .before .before .before .before .before .before .check-page .ensures) (c .before .before .before .before .before .before .before .checked2 .given .1) (c .before .before .before .before .before .if1 .left) (c .before .before .before .put-head .kept .0))
 
 returns-2 : tie.Need-returns-2
 returns-2 c = let a = c .before .before .before .before .before .before .args in refused-text (a .bytes .now) (a .area .now) (c .before .before .before .check-page .ensures) (c .before .checked .given .1)
@@ -36,7 +36,7 @@ same-length : tie.Need-same-length
 same-length c = search needs
 
 returns-3 : tie.Need-returns-3
-returns-3 c = let a = c .before .before .before .before .before .before .before .before .before .before .before .before .before .before .before .args in read-whole (a .bytes .now) (a .area .now) (c .before .before .before .before .before .before .before .before .before .before .before .before .check-page .ensures) (c .before .before .before .before .before .before .before .before .before .before .checked2 .given .1) (c .before .before .before .before .before .before .before .before .if1 .left) (c .before .before .before .before .before .before .put-four .ensures) (c .before .before .write-lines .ensures)
+returns-3 c = let a = c .before .before .before .before .before .before .before .before .before .before .before .before .before .before .before .args in read-whole (a .bytes .now) (a .area .now) (c .before .before .before .before .before .before .before .before .before .before .before .before .check-page .ensures) (c .before .before .before .before .before .before .before .before .before .before .checked2 .given .1) (c .before .before .before .before .before .before .before .before .if1 .left) (c .before .before .before .before .before .before .put-head .ensures .0) (rw (c .before .before .before .before .before .before .put-head .ensures .1) at (c .before .before .write-lines .ensures))
 
 pub read-page-spec : {M : Type 1} → statement M
 read-page-spec =
@@ -46,9 +46,9 @@ read-page-spec =
     enum-known-checked
     enum-known-checked-2
     returns
-    cast-put-four
-    cast-put-four-2
-    put-four-requires
+    cast-put-head
+    cast-put-head-2
+    put-head-requires
     write-lines-requires
     returns-2
     same-length

@@ -1,7 +1,7 @@
 -- `check_all` meets its contract, by the laws of `Texts`. Assumes nothing.
 use borrow.Author.Needs.{needs}
 use Rattle.reader.specs.Checks.{HeadSays}
-use Rattle.reader.proofs.Texts.{head-told, no-head, far-head, few-conditions, accepted, refused}
+use Rattle.reader.proofs.Texts.{head-told, no-head, far-head, accepted, refused}
 use Rattle.reader.proofs.check.check_all.Statement.{statement}
 use Rattle.reader.proofs.check.check_all.Tie as tie
 
@@ -28,7 +28,7 @@ returns-2 : tie.Need-returns-2
 returns-2 c = far-head (c .before .before .before .before .before .before .before .args .bytes .now) (the-head (c .before .before)) (c .before .head-fault .ensures) (c .if1 .taken)
 
 check-lines-requires : tie.Need-check-lines-requires
-check-lines-requires c κs = (c .before .before .before .before .before .before .before .pre, few-conditions (c .before .before .before .before .before .before .before .args .bytes .now) (the-head (c .before .before)) (c .before .head-fault .ensures) (c .if1 .left))
+check-lines-requires c κs = c .before .before .before .before .before .before .before .pre
 
 enum-known-tally : tie.Need-enum-known-tally
 enum-known-tally c = search needs

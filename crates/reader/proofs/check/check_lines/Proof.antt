@@ -15,17 +15,20 @@ abbrev μ-loop : tie.MeasureT-loop
 μ-loop bytes from top conditions at₀ line₀ used₀ at line used = length bytes + 1 - at
 
 -- the line that is in order
-good-here : (c : tie.After-known-told Inv-loop μ-loop) → LineGood (c .before .before .before .before .before .before .before .before .args .bytes .now) (c .before .before .before .before .before .before .loop .at) (c .before .before .before .before .before .before .before .before .args .top) (c .before .before .before .before .before .before .before .before .args .conditions) (c .before .checked .given .0 .0) (c .before .checked .given .0 .1 .0)
-good-here c = good-told (c .before .before .before .before .before .before .before .before .args .bytes .now) (c .before .before .before .before .before .before .loop .at) (c .before .before .before .before .before .before .before .before .args .top) (c .before .before .before .before .before .before .before .before .args .conditions) (c .before .before .before .check-line .ensures) (c .before .checked .given .1)
+good-here : (c : tie.After-known-told Inv-loop μ-loop) → LineGood (c .before .before .before .before .before .before .before .before .before .args .bytes .now) (c .before .before .before .before .before .before .loop .at) (c .before .before .before .before .before .before .before .before .before .args .top) (c .before .before .before .before .before .before .before .before .before .args .conditions) (c .before .checked .given .0 .0) (c .before .checked .given .0 .1 .0)
+good-here c = good-told (c .before .before .before .before .before .before .before .before .before .args .bytes .now) (c .before .before .before .before .before .before .loop .at) (c .before .before .before .before .before .before .before .before .before .args .top) (c .before .before .before .before .before .before .before .before .before .args .conditions) (c .before .before .before .check-line .ensures) (c .before .checked .given .1)
+
+head-length-requires : tie.Need-head-length-requires Inv-loop μ-loop
+head-length-requires c κs = search needs
 
 loop-holds : tie.Need-loop-holds Inv-loop μ-loop
-loop-holds c = let a = c .before .args in checking-first (a .bytes .now) (a .from) (a .top) (a .conditions)
+loop-holds c = let a = c .before .before .args in rw (c .head-length .ensures) (checking-first (a .bytes .now) (a .from) (a .top) (a .conditions))
 
 returns : tie.Need-returns Inv-loop μ-loop
-returns c = let a = c .before .before .before .before .args in refused-late (a .bytes .now) (a .from) (a .top) (a .conditions) (c .before .before .loop .inv) (c .before .loop-test .taken) (c .if1 .taken)
+returns c = let a = c .before .before .before .before .before .args in refused-late (a .bytes .now) (a .from) (a .top) (a .conditions) (c .before .before .loop .inv) (c .before .loop-test .taken) (c .if1 .taken)
 
 check-line-requires : tie.Need-check-line-requires Inv-loop μ-loop
-check-line-requires c κs = (record { inside = c .before .loop-test .taken; ended = c .before .before .before .before .pre .0 .ended }, c .before .before .before .before .pre .1)
+check-line-requires c κs = record { inside = c .before .loop-test .taken; ended = c .before .before .before .before .before .pre .ended }
 
 enum-known-checked : tie.Need-enum-known-checked Inv-loop μ-loop
 enum-known-checked c = search needs
@@ -38,7 +41,7 @@ enum-known-checked-2 c = search needs
 
 returns-2 : tie.Need-returns-2 Inv-loop μ-loop
 returns-2 c =
-    let a = c .before .before .before .before .before .before .before .before .args in
+    let a = c .before .before .before .before .before .before .before .before .before .args in
     refused-line (a .bytes .now) (a .from) (a .top) (a .conditions) (c .before .before .before .before .before .before .loop .inv) (c .before .before .before .before .before .loop-test .taken) (c .before .before .before .before .if1 .left) (bad-told (a .bytes .now) (c .before .before .before .before .before .before .loop .at) (a .top) (a .conditions) (c .before .before .before .check-line .ensures) (c .before .checked2 .given .1))
 
 add-line : tie.Need-add-line Inv-loop μ-loop
@@ -48,13 +51,13 @@ loop-less : tie.Need-loop-less Inv-loop μ-loop
 loop-less c = omega (arith, c .before .before .before .before .before .loop-test .taken, good-here c .ends .ahead)
 
 loop-again : tie.Need-loop-again Inv-loop μ-loop
-loop-again c = let a = c .before .before .before .before .before .before .before .before .args in checking-next (a .bytes .now) (a .from) (a .top) (a .conditions) (c .before .before .before .before .before .before .loop .inv) (c .before .before .before .before .before .loop-test .taken) (c .before .before .before .before .if1 .left) (good-here c)
+loop-again c = let a = c .before .before .before .before .before .before .before .before .before .args in checking-next (a .bytes .now) (a .from) (a .top) (a .conditions) (c .before .before .before .before .before .before .loop .inv) (c .before .before .before .before .before .loop-test .taken) (c .before .before .before .before .if1 .left) (good-here c)
 
 sub-t14 : tie.Need-sub-t14 Inv-loop μ-loop
 sub-t14 c = omega (arith, c .before .loop .inv .least)
 
 returns-3 : tie.Need-returns-3 Inv-loop μ-loop
-returns-3 c = let a = c .before .before .before .args in checking-done (a .bytes .now) (a .from) (a .top) (a .conditions) (c .before .loop .inv) (c .loop-test .left)
+returns-3 c = let a = c .before .before .before .before .args in checking-done (a .bytes .now) (a .from) (a .top) (a .conditions) (c .before .loop .inv) (c .loop-test .left)
 
 pub check-lines-spec : {M : Type 1} → statement M
 check-lines-spec =
@@ -62,6 +65,7 @@ check-lines-spec =
     (tie.spec
     Inv-loop
     μ-loop
+    head-length-requires
     loop-holds
     returns
     check-line-requires

@@ -5,7 +5,7 @@ use native.Mathlib.Omega.{arith}
 use lib.ListN.{getD}
 use Rattle.fields.proofs.Places.{byte-here}
 use Rattle.fields.proofs.Letters.{LetterThen, plain, letter-next, letter-here, letter-gone}
-use Rattle.fields.proofs.Tokens.{NumberThen, NumberLast, number-then, no-number-then, number-last, no-number-last, then-most, last-most, comma-class, newline-class}
+use Rattle.fields.proofs.Tokens.{NumberThen, NumberLast, number-then, no-number-then, number-last, no-number-last, comma-class, newline-class}
 use Rattle.reader.proofs.Heads.{other-head, gone-head, no-top, no-conditions, a-head}
 use Rattle.reader.proofs.check.parse_head.Statement.{statement}
 use Rattle.reader.proofs.check.parse_head.Tie as tie
@@ -60,12 +60,6 @@ returns-4 : tie.Need-returns-4
 returns-4 c =
     no-conditions (c .before .before .before .before .before .before .before .before .before .before .before .before .args .bytes .now) (the-letter (c .before .before .before .before .before .before .before)) (the-top (c .before .before .before)) (no-number-last (c .before .before .before .before .before .before .before .before .before .before .before .before .args .bytes .now) (c .before .before .before .before .top .given .0 .1 .0) (c .before .before .number-before2 .ensures) (c .enum-told2 .given .1))
 
-cast-t12 : tie.Need-cast-t12
-cast-t12 c = omega (arith, then-most (the-top (c .before .before .before .before)))
-
-cast-t13 : tie.Need-cast-t13
-cast-t13 c = omega (arith, last-most (the-count c))
-
 returns-5 : tie.Need-returns-5
 returns-5 c = a-head (c .before .before .before .before .before .before .before .before .before .before .before .before .before .args .bytes .now) (the-letter (c .before .before .before .before .before .before .before .before)) (the-top (c .before .before .before .before)) (the-count c)
 
@@ -85,6 +79,4 @@ parse-head-spec =
     enum-known-conditions
     enum-told-2
     returns-4
-    cast-t12
-    cast-t13
     returns-5)

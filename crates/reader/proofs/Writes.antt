@@ -1,12 +1,12 @@
 -- Runs of stores. Assumes nothing.
 use mathlib.Core.Path.{_≡_, refl, _∙_, ap}
 use mathlib.Core.List.{List, [], _∷_, _++_}
-use Prim.Native.Nat.{ℕ, suc, _+_, _≤_, _<_}
+use Prim.Native.Nat.{ℕ, suc, _+_, _<_}
 use native.Mathlib.Omega.{arith}
 use native.Mathlib.Nat.{add-zero}
 use native.Mathlib.Numerals.{add-one, add-two, add-three}
-use lib.ListN.{length, take, drop, set}
-use lib.Seq.{sets, sets-eq, set-comm, take-at}
+use lib.ListN.{length, set}
+use lib.Seq.{sets, set-comm}
 
 pub four-sets : (l : List ℕ) (at a b c d : ℕ) → set (set (set (set l at a) (at + 1) b) (at + 2) c) (at + 3) d ≡ sets l at (a ∷ b ∷ c ∷ d ∷ [])
 four-sets l at a b c d = rw (add-one, add-two, add-three)
@@ -28,9 +28,3 @@ sets-before l i [] vs = rw add-zero
 sets-before l i (u ∷ us) vs =
     let e : i + suc (length us) ≡ suc i + length us = omega arith in
     rw e (ap (λ (m : List ℕ). sets m (suc i) us) (set-sets l i (suc i + length us) u vs (omega arith)) ∙ sets-before (set l i u) (suc i) us vs)
-
--- a run that is written from the front of a list stands there
-pub sets-front : (l us : List ℕ) → length us ≤ length l → take (length us) (sets l 0 us) ≡ us
-sets-front l us h =
-    let k : 0 + length us ≤ length l = omega arith in
-    ap (take (length us)) (sets-eq us l 0 k) ∙ take-at us (drop (0 + length us) l) (length us) refl

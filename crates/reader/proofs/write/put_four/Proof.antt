@@ -2,9 +2,9 @@
 use borrow.Author.Needs.{needs}
 use native.Mathlib.Omega.{arith}
 use lib.ListN.{length-set}
-use Rattle.lines.proofs.Writes.{four-sets}
-use Rattle.lines.proofs.put_four.Statement.{statement}
-use Rattle.lines.proofs.put_four.Tie as tie
+use Rattle.reader.proofs.Writes.{four-sets}
+use Rattle.reader.proofs.write.put_four.Statement.{statement}
+use Rattle.reader.proofs.write.put_four.Tie as tie
 
 mul-area : tie.Need-mul-area
 mul-area c = search needs

@@ -1,0 +1,13 @@
+-- `query_fault` meets its contract. Assumes nothing.
+use borrow.Author.Tests.{lt-ltb, le-ltb}
+use Rattle.reader.proofs.check.query_fault.Statement.{statement}
+use Rattle.reader.proofs.check.query_fault.Tie as tie
+
+returns : tie.Need-returns
+returns c = let a = c .before .args in rw (le-ltb (a .condition) (a .conditions) (c .if1 .taken))
+
+returns-2 : tie.Need-returns-2
+returns-2 c = let a = c .before .args in rw (lt-ltb (a .condition) (a .conditions) (c .if1 .left))
+
+pub query-fault-spec : {M : Type 1} → statement M
+query-fault-spec = tie.close (tie.spec returns returns-2)
