@@ -48,7 +48,7 @@ extern "C" {
  * Stack in bytes that a call takes, its return address and the arguments on the stack counted in. Measured on x86-64
  * with the largest page; tests/ measures it again and fails if a call takes more.
  */
-#define SIMJORAD_STACK_READ 256
+#define SIMJORAD_STACK_READ 128
 #define SIMJORAD_STACK_SHOW_LINE 64
 #define SIMJORAD_STACK_OPEN 1792
 #define SIMJORAD_STACK_EVALUATE 1472

@@ -33,11 +33,7 @@ pub enum Parsed {
 
 // The first two numbers behind a letter and the place of the field after them, or that the line has no form.
 enum Pair {
-    Good {
-        first: u16,
-        second: u16,
-        next: usize,
-    },
+    Good(u16, u16, usize),
     Form,
 }
 
@@ -55,11 +51,7 @@ fn parse_pair(bytes: &[u8], at: usize) -> Pair
     let Field::Number(second, next) = number_before(bytes, a, b',') else {
         return Pair::Form;
     };
-    Pair::Good {
-        first,
-        second,
-        next,
-    }
+    Pair::Good(first, second, next)
 }
 
 // The line at a place that begins with `F`.
@@ -67,20 +59,15 @@ fn parse_fact(bytes: &[u8], at: usize, conditions: u16) -> Parsed
     requires { ⌜ Within (now bytes) at × (getD (now bytes) at 10 ≡ 70) ⌝ }
     ensures { λ r. ⌜ ParsedAs (now (bytes .entry)) at conditions r ⌝ }
 {
-    let Pair::Good {
-        first,
-        second,
-        next: a,
-    } = parse_pair(bytes, at)
-    else {
+    let Pair::Good(condition, low, a) = parse_pair(bytes, at) else {
         return Parsed::Form;
     };
     let Field::Number(high, next) = number_before(bytes, a, b'\n') else {
         return Parsed::Form;
     };
     Parsed::Fact {
-        condition: first,
-        low: second,
+        condition,
+        low,
         high,
         next,
     }
@@ -158,12 +145,7 @@ fn parse_rule(bytes: &[u8], at: usize, conditions: u16) -> Parsed
     requires { ⌜ Within (now bytes) at × (getD (now bytes) at 10 ≡ 82) ⌝ }
     ensures { λ r. ⌜ ParsedAs (now (bytes .entry)) at conditions r ⌝ }
 {
-    let Pair::Good {
-        first,
-        second,
-        next: a,
-    } = parse_pair(bytes, at)
-    else {
+    let Pair::Good(condition, weight, a) = parse_pair(bytes, at) else {
         return Parsed::Form;
     };
     if op_kind(bytes[a]) == 0 {
@@ -176,8 +158,8 @@ fn parse_rule(bytes: &[u8], at: usize, conditions: u16) -> Parsed
         return Parsed::Form;
     };
     Parsed::Rule {
-        condition: first,
-        weight: second,
+        condition,
+        weight,
         count,
         far,
         next,

@@ -9,14 +9,14 @@ use Rattle.lines.proofs.parse_fact.Statement.{statement}
 use Rattle.lines.proofs.parse_fact.Tie as tie
 
 -- the letter, the condition and the low end
-the-pair : (c : tie.After-known-told) → PairThen (c .before .before .before .before .before .args .bytes .now) (c .before .before .before .before .before .args .at) (c .before .first .given .0 .0) (c .before .first .given .0 .1 .0) (c .before .first .given .0 .1 .1 .0)
-the-pair c = let a = c .before .before .before .before .before .args in some-pair (a .bytes .now) (a .at) (c .before .before .before .parse-pair .ensures) (c .before .first .given .1)
+the-pair : (c : tie.After-known-told) → PairThen (c .before .before .before .before .before .args .bytes .now) (c .before .before .before .before .before .args .at) (c .before .condition .given .0 .0) (c .before .condition .given .0 .1 .0) (c .before .condition .given .0 .1 .1 .0)
+the-pair c = let a = c .before .before .before .before .before .args in some-pair (a .bytes .now) (a .at) (c .before .before .before .parse-pair .ensures) (c .before .condition .given .1)
 
 parse-pair-requires : tie.Need-parse-pair-requires
 parse-pair-requires c κs = (c .before .pre .0, inl (c .before .pre .1))
 
-enum-known-first : tie.Need-enum-known-first
-enum-known-first c = search needs
+enum-known-condition : tie.Need-enum-known-condition
+enum-known-condition c = search needs
 
 enum-told : tie.Need-enum-told
 enum-told c = search needs
@@ -34,17 +34,17 @@ enum-told-2 : tie.Need-enum-told-2
 enum-told-2 c = search needs
 
 returns-2 : tie.Need-returns-2
-returns-2 c = let a = c .before .before .before .before .before .before .before .before .args in no-high (a .bytes .now) (a .at) (c .before .before .before .before .before .before .before .before .pre .1) (the-pair (c .before .before .before)) (no-number-last (a .bytes .now) (c .before .before .before .before .first .given .0 .1 .1 .0) (c .before .before .number-before .ensures) (c .enum-told2 .given .1))
+returns-2 c = let a = c .before .before .before .before .before .before .before .before .args in no-high (a .bytes .now) (a .at) (c .before .before .before .before .before .before .before .before .pre .1) (the-pair (c .before .before .before)) (no-number-last (a .bytes .now) (c .before .before .before .before .condition .given .0 .1 .1 .0) (c .before .before .number-before .ensures) (c .enum-told2 .given .1))
 
 returns-3 : tie.Need-returns-3
-returns-3 c = let a = c .before .before .before .before .before .before .before .before .before .args in a-fact (a .bytes .now) (a .at) (c .before .before .before .before .before .before .before .before .before .pre .1) (the-pair (c .before .before .before .before)) (number-last (a .bytes .now) (c .before .before .before .before .before .first .given .0 .1 .1 .0) (c .before .before .before .number-before .ensures) (c .before .high .given .1))
+returns-3 c = let a = c .before .before .before .before .before .before .before .before .before .args in a-fact (a .bytes .now) (a .at) (c .before .before .before .before .before .before .before .before .before .pre .1) (the-pair (c .before .before .before .before)) (number-last (a .bytes .now) (c .before .before .before .before .before .condition .given .0 .1 .1 .0) (c .before .before .before .number-before .ensures) (c .before .high .given .1))
 
 pub parse-fact-spec : {M : Type 1} → statement M
 parse-fact-spec =
     tie.close
     (tie.spec
     parse-pair-requires
-    enum-known-first
+    enum-known-condition
     enum-told
     returns
     number-before-requires

@@ -16,26 +16,26 @@ use Rattle.lines.proofs.parse_rule.Statement.{statement}
 use Rattle.lines.proofs.parse_rule.Tie as tie
 
 -- the letter, the condition and the weight
-the-pair : (c : tie.After-known-told) → PairThen (c .before .before .before .before .before .args .bytes .now) (c .before .before .before .before .before .args .at) (c .before .first .given .0 .0) (c .before .first .given .0 .1 .0) (c .before .first .given .0 .1 .1 .0)
-the-pair c = let a = c .before .before .before .before .before .args in some-pair (a .bytes .now) (a .at) (c .before .before .before .parse-pair .ensures) (c .before .first .given .1)
+the-pair : (c : tie.After-known-told) → PairThen (c .before .before .before .before .before .args .bytes .now) (c .before .before .before .before .before .args .at) (c .before .condition .given .0 .0) (c .before .condition .given .0 .1 .0) (c .before .condition .given .0 .1 .1 .0)
+the-pair c = let a = c .before .before .before .before .before .args in some-pair (a .bytes .now) (a .at) (c .before .before .before .parse-pair .ensures) (c .before .condition .given .1)
 
 -- the op letter
-the-byte : (c : tie.After-known-told) → getD (c .before .before .before .before .before .args .bytes .now) (c .before .first .given .0 .1 .1 .0) 0 ≡ getD (c .before .before .before .before .before .args .bytes .now) (c .before .first .given .0 .1 .1 .0) 10
-the-byte c = byte-here (c .before .before .before .before .before .args .bytes .now) (c .before .first .given .0 .1 .1 .0) (the-pair c .place .inside)
+the-byte : (c : tie.After-known-told) → getD (c .before .before .before .before .before .args .bytes .now) (c .before .condition .given .0 .1 .1 .0) 0 ≡ getD (c .before .before .before .before .before .args .bytes .now) (c .before .condition .given .0 .1 .1 .0) 10
+the-byte c = byte-here (c .before .before .before .before .before .args .bytes .now) (c .before .condition .given .0 .1 .1 .0) (the-pair c .place .inside)
 
-an-op : (c : tie.Else1) → kindAt (getD (c .before .before .before .before .before .before .before .before .args .bytes .now) (c .before .before .before .before .first .given .0 .1 .1 .0) 0) ≡ 0 → ⊥
+an-op : (c : tie.Else1) → kindAt (getD (c .before .before .before .before .before .before .before .before .args .bytes .now) (c .before .before .before .before .condition .given .0 .1 .1 .0) 0) ≡ 0 → ⊥
 an-op c e = c .if1 .left (c .before .op-kind .ensures ∙ e)
 
-the-op : (c : tie.Else2) → LetterThen (c .before .before .before .before .before .before .before .before .before .before .args .bytes .now) (c .before .before .before .before .before .before .first .given .0 .1 .1 .0) (getD (c .before .before .before .before .before .before .before .before .before .before .args .bytes .now) (c .before .before .before .before .before .before .first .given .0 .1 .1 .0) 0)
+the-op : (c : tie.Else2) → LetterThen (c .before .before .before .before .before .before .before .before .before .before .args .bytes .now) (c .before .before .before .before .before .before .condition .given .0 .1 .1 .0) (getD (c .before .before .before .before .before .before .before .before .before .before .args .bytes .now) (c .before .before .before .before .before .before .condition .given .0 .1 .1 .0) 0)
 the-op c =
     let a = c .before .before .before .before .before .before .before .before .before .before .args in
-    letter-here (a .bytes .now) (c .before .before .before .before .before .before .first .given .0 .1 .1 .0) (the-pair (c .before .before .before .before .before) .place) (sym (the-byte (c .before .before .before .before .before))) (kind-plain (getD (a .bytes .now) (c .before .before .before .before .before .before .first .given .0 .1 .1 .0) 0) (an-op (c .before .before))) (c .if2 .left)
+    letter-here (a .bytes .now) (c .before .before .before .before .before .before .condition .given .0 .1 .1 .0) (the-pair (c .before .before .before .before .before) .place) (sym (the-byte (c .before .before .before .before .before))) (kind-plain (getD (a .bytes .now) (c .before .before .before .before .before .before .condition .given .0 .1 .1 .0) 0) (an-op (c .before .before))) (c .if2 .left)
 
 parse-pair-requires : tie.Need-parse-pair-requires
 parse-pair-requires c κs = (c .before .pre .0, inr (c .before .pre .1))
 
-enum-known-first : tie.Need-enum-known-first
-enum-known-first c = search needs
+enum-known-condition : tie.Need-enum-known-condition
+enum-known-condition c = search needs
 
 enum-told : tie.Need-enum-told
 enum-told c = search needs
@@ -52,7 +52,7 @@ op-kind-requires c κs = search needs
 returns-2 : tie.Need-returns-2
 returns-2 c =
     let a = c .before .before .before .before .before .before .before .before .args in
-    no-op (a .bytes .now) (a .at) (c .before .before .before .before .before .before .before .before .pre .1) (the-pair (c .before .before .before)) (none-kind (a .bytes .now) (c .before .before .before .before .first .given .0 .1 .1 .0) (ap kindAt (sym (the-byte (c .before .before .before))) ∙ sym (c .before .op-kind .ensures) ∙ c .if1 .taken))
+    no-op (a .bytes .now) (a .at) (c .before .before .before .before .before .before .before .before .pre .1) (the-pair (c .before .before .before)) (none-kind (a .bytes .now) (c .before .before .before .before .condition .given .0 .1 .1 .0) (ap kindAt (sym (the-byte (c .before .before .before))) ∙ sym (c .before .op-kind .ensures) ∙ c .if1 .taken))
 
 add-if2 : tie.Need-add-if2
 add-if2 c = omega (arith, the-pair (c .before .before .before) .place .inside)
@@ -60,12 +60,12 @@ add-if2 c = omega (arith, the-pair (c .before .before .before) .place .inside)
 shared-slice-read-if2 : tie.Need-shared-slice-read-if2
 shared-slice-read-if2 c =
     let a = c .before .before .before .before .before .before .before .before .before .args in
-    letter-next (a .bytes .now) (c .before .before .before .before .before .first .given .0 .1 .1 .0) (the-pair (c .before .before .before .before) .place) (sym (the-byte (c .before .before .before .before))) (kind-plain (getD (a .bytes .now) (c .before .before .before .before .before .first .given .0 .1 .1 .0) 0) (an-op (c .before))) .inside
+    letter-next (a .bytes .now) (c .before .before .before .before .before .condition .given .0 .1 .1 .0) (the-pair (c .before .before .before .before) .place) (sym (the-byte (c .before .before .before .before))) (kind-plain (getD (a .bytes .now) (c .before .before .before .before .before .condition .given .0 .1 .1 .0) 0) (an-op (c .before))) .inside
 
 returns-3 : tie.Need-returns-3
 returns-3 c =
     let a = c .before .before .before .before .before .before .before .before .before .before .args in
-    no-op (a .bytes .now) (a .at) (c .before .before .before .before .before .before .before .before .before .before .pre .1) (the-pair (c .before .before .before .before .before)) (zero-kind (letter-gone (a .bytes .now) (c .before .before .before .before .before .before .first .given .0 .1 .1 .0) (the-pair (c .before .before .before .before .before) .place) (sym (the-byte (c .before .before .before .before .before))) (kind-plain (getD (a .bytes .now) (c .before .before .before .before .before .before .first .given .0 .1 .1 .0) 0) (an-op (c .before .before))) (c .if2 .taken)))
+    no-op (a .bytes .now) (a .at) (c .before .before .before .before .before .before .before .before .before .before .pre .1) (the-pair (c .before .before .before .before .before)) (zero-kind (letter-gone (a .bytes .now) (c .before .before .before .before .before .before .condition .given .0 .1 .1 .0) (the-pair (c .before .before .before .before .before) .place) (sym (the-byte (c .before .before .before .before .before))) (kind-plain (getD (a .bytes .now) (c .before .before .before .before .before .before .condition .given .0 .1 .1 .0) 0) (an-op (c .before .before))) (c .if2 .taken)))
 
 add-parse-literals : tie.Need-add-parse-literals
 add-parse-literals c = omega (arith, the-op c .place .inside)
@@ -83,20 +83,20 @@ returns-4 : tie.Need-returns-4
 returns-4 c =
     let a = c .before .before .before .before .before .before .before .before .before .before .before .before .before .args in
     literals-form (a .bytes .now) (a .at) (c .before .before .before .before .before .before .before .before .before .before .before .before .before .pre .1) (the-pair (c .before .before .before .before .before .before .before .before)) (the-op (c .before .before .before)) (an-op (c .before .before .before .before .before))
-    ∙ no-literals (a .bytes .now) ((c .before .before .before .before .before .before .before .before .before .first .given .0 .1 .1 .0) + 2) (a .conditions) (c .before .before .parse-literals .ensures) (c .enum-told2 .given .1)
+    ∙ no-literals (a .bytes .now) ((c .before .before .before .before .before .before .before .before .before .condition .given .0 .1 .1 .0) + 2) (a .conditions) (c .before .before .parse-literals .ensures) (c .enum-told2 .given .1)
 
 returns-5 : tie.Need-returns-5
 returns-5 c =
     let a = c .before .before .before .before .before .before .before .before .before .before .before .before .before .before .args in
     rule-says (a .bytes .now) (a .at) (c .before .before .before .before .before .before .before .before .before .before .before .before .before .before .pre .1) (the-pair (c .before .before .before .before .before .before .before .before .before)) (the-op (c .before .before .before .before)) (an-op (c .before .before .before .before .before .before))
-    (some-literals (a .bytes .now) ((c .before .before .before .before .before .before .before .before .before .before .first .given .0 .1 .1 .0) + 2) (a .conditions) (c .before .before .before .parse-literals .ensures) (c .before .count .given .1))
+    (some-literals (a .bytes .now) ((c .before .before .before .before .before .before .before .before .before .before .condition .given .0 .1 .1 .0) + 2) (a .conditions) (c .before .before .before .parse-literals .ensures) (c .before .count .given .1))
 
 pub parse-rule-spec : {M : Type 1} → statement M
 parse-rule-spec =
     tie.close
     (tie.spec
     parse-pair-requires
-    enum-known-first
+    enum-known-condition
     enum-told
     returns
     shared-slice-read-op-kind
