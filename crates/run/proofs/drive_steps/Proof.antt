@@ -7,7 +7,7 @@ use Rattle.semantics.specs.Area.{conditionsOf}
 use Rattle.page.proofs.Head.{head-of}
 use Rattle.worklist.specs.Waiting.{WordsMatch}
 use Rattle.worklist.proofs.Matching.{lowest-waits, none-waits}
-use Rattle.run.specs.Beside.{Beside}
+use Rattle.step.specs.Beside.{Beside}
 use Rattle.run.proofs.Driving.{Driving, driving-first, driving-rests, driving-spends, driving-next}
 use Rattle.run.proofs.drive_steps.Statement.{statement}
 use Rattle.run.proofs.drive_steps.Tie as tie

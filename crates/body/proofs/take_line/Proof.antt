@@ -1,11 +1,11 @@
--- `run::body::take_line` meets its contract. Assumes nothing.
+-- `body::take_line` meets its contract. Assumes nothing.
 use mathlib.Core.Path.{refl}
 use mathlib.Core.Logic.{inl, inr}
 use native.Mathlib.Omega.{arith}
-use Rattle.run.proofs.Gathering.{here-entry, here-line}
+use Rattle.body.proofs.Gathering.{here-entry, here-line}
 use borrow.Author.Needs.{needs}
-use Rattle.run.proofs.body.take_line.Statement.{statement}
-use Rattle.run.proofs.body.take_line.Tie as tie
+use Rattle.body.proofs.take_line.Statement.{statement}
+use Rattle.body.proofs.take_line.Tie as tie
 
 mul-if1 : tie.Need-mul-if1
 mul-if1 c = let e = here-entry (c .before .before .args .a .now) (c .before .before .pre .0) (c .before .before .pre .2) in omega arith

@@ -8,7 +8,7 @@ ghost use Rattle.ends.specs.Mirror.{Mirrored};
 ghost use Rattle.index.specs.Groups.{LinesByHead};
 ghost use Rattle.index.specs.Parts.{MaybeLines};
 ghost use Rattle.page.specs.Places.{LineIn};
-ghost use Rattle.run.specs.Body.{Taken, BestOf, Body};
+ghost use Rattle.body.specs.Body.{Taken, BestOf, Body};
 use value::Ends;
 
 // The largest ends over the lines of a condition that are seen, and whether there is one.

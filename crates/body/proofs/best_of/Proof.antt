@@ -1,10 +1,10 @@
--- `run::body::best_of` meets its contract, with an index and with none. Assumes nothing.
+-- `body::best_of` meets its contract, with an index and with none. Assumes nothing.
 use native.Mathlib.Omega.{arith}
 use Rattle.page.proofs.Head.{head-of}
 use Rattle.index.proofs.Parts.{has-lines}
 use borrow.Author.Needs.{needs}
-use Rattle.run.proofs.body.best_of.Statement.{statement}
-use Rattle.run.proofs.body.best_of.Tie as tie
+use Rattle.body.proofs.best_of.Statement.{statement}
+use Rattle.body.proofs.best_of.Tie as tie
 
 by-scan-requires : tie.Need-by-scan-requires
 by-scan-requires c κs = search needs

@@ -26,8 +26,8 @@ use Rattle.worklist.specs.Evaluation.{stored}
 use Rattle.worklist.specs.Waiting.{WordsMatch, StillMatches}
 use Rattle.worklist.proofs.Evaluation.{graded-of, long-of, stored-length, stored-apart, stored-interval, stored-mark, stored-mark-apart, evaluated-changed, evaluated-same}
 use Rattle.worklist.proofs.Matching.{match-removed, still-then}
-use Rattle.run.specs.Body.{Body}
-use Rattle.run.specs.Beside.{Beside, Changed, EvaluatedBeside}
+use Rattle.body.specs.Body.{Body}
+use Rattle.step.specs.Beside.{Beside, Changed, EvaluatedBeside}
 
 -- the mark alone stored, where the interval does not differ
 mark-alone : (run : List ℕ) (c low high mark : ℕ) → same (intervalAt run c) (record { low = low; high = high }) ≡ true → set run (3 * c + 2) mark ≡ stored c low high mark run

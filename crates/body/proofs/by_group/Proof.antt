@@ -1,11 +1,11 @@
--- `run::body::by_group` meets its contract. The loop's invariant: the lines of the group that are passed are taken in. Assumes nothing.
+-- `body::by_group` meets its contract. The loop's invariant: the lines of the group that are passed are taken in. Assumes nothing.
 use Prim.Native.Nat.{_+_, _-_, _≤_}
 use native.Mathlib.Omega.{arith}
 use lib.ListN.{getD}
 use Rattle.index.proofs.Grouped.{group-within}
-use Rattle.run.proofs.Gathering.{place-small, Gathering, gathering-none, gathering-next, gathering-last, Grouped, grouped-more, grouped-all}
-use Rattle.run.proofs.body.by_group.Statement.{statement}
-use Rattle.run.proofs.body.by_group.Tie as tie
+use Rattle.body.proofs.Gathering.{place-small, Gathering, gathering-none, gathering-next, gathering-last, Grouped, grouped-more, grouped-all}
+use Rattle.body.proofs.by_group.Statement.{statement}
+use Rattle.body.proofs.by_group.Tie as tie
 
 abbrev Inv-loop : tie.InvT-loop
 Inv-loop a first places values c group i₀ end best₀ i best = (getD first c 0 ≤ i) × (i ≤ getD first (c + 1) 0) × Gathering a values c (Grouped places (getD first c 0) i) (best .found) (best .low) (best .high)

@@ -1,9 +1,9 @@
--- `run::change` meets its contract. Assumes nothing.
+-- `step::change` meets its contract. Assumes nothing.
 use native.Mathlib.Omega.{arith}
 use Rattle.page.proofs.Head.{head-of}
 use borrow.Author.Needs.{needs}
-use Rattle.run.proofs.change.Statement.{statement}
-use Rattle.run.proofs.change.Tie as tie
+use Rattle.step.proofs.change.Statement.{statement}
+use Rattle.step.proofs.change.Tie as tie
 
 shared-slice-read-top : tie.Need-shared-slice-read-top
 shared-slice-read-top c = omega (arith, head-of (c .before .before .before .before .before .before .args .a .now) (c .before .before .before .before .before .before .pre .0))

@@ -1,13 +1,13 @@
--- `run::body::by_scan` meets its contract. The loop's invariant: the lines passed are taken in. Assumes nothing.
+-- `body::by_scan` meets its contract. The loop's invariant: the lines passed are taken in. Assumes nothing.
 use mathlib.Core.Path.{_≡_}
 use mathlib.Core.Logic.{⊎-elim}
 use Prim.Native.Nat.{_+_, _-_, _≤_}
 use native.Mathlib.Omega.{arith}
 use Rattle.page.specs.Places.{placeOf}
 use Rattle.page.proofs.Head.{head-of}
-use Rattle.run.proofs.Gathering.{here-entry, place-first, place-next, Gathering, gathering-none, gathering-skip, gathering-next, gathering-last, Passed, passed-more, passed-all}
-use Rattle.run.proofs.body.by_scan.Statement.{statement}
-use Rattle.run.proofs.body.by_scan.Tie as tie
+use Rattle.body.proofs.Gathering.{here-entry, place-first, place-next, Gathering, gathering-none, gathering-skip, gathering-next, gathering-last, Passed, passed-more, passed-all}
+use Rattle.body.proofs.by_scan.Statement.{statement}
+use Rattle.body.proofs.by_scan.Tie as tie
 
 abbrev Inv-loop : tie.InvT-loop
 Inv-loop a values c count line₀ best₀ line best = (line .at ≡ placeOf a (line .passed)) × (line .passed ≤ count) × Gathering a values c (Passed a (line .passed)) (best .found) (best .low) (best .high)

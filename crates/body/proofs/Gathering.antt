@@ -23,7 +23,7 @@ use Rattle.value.specs.LineEnds.{LineEnd}
 use Rattle.value.proofs.BodyEnds.{body-most, body-has, body-none}
 use Rattle.ends.specs.Mirror.{mirrored}
 use Rattle.index.specs.Groups.{LinesByHead}
-use Rattle.run.specs.Body.{TakenLine, PassedLine, Taken, Largest, BestOf, Body}
+use Rattle.body.specs.Body.{TakenLine, PassedLine, Taken, Largest, BestOf, Body}
 
 -- the entry of a line lies in the area, and where it is an F or R line of its head
 pub here-entry : (a : List ℕ) → sound a ≡ true → {at : ℕ} → LineIn a at → EntryIn a at

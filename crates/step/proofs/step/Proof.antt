@@ -1,12 +1,12 @@
--- `run::step` meets its contract. Assumes nothing.
+-- `step::step` meets its contract. Assumes nothing.
 use mathlib.Core.Path.{sym, _∙_}
 use native.Mathlib.Omega.{arith}
 use Rattle.page.proofs.Head.{head-of}
 use Rattle.worklist.proofs.Evaluation.{long-of}
-use Rattle.run.proofs.Stepping.{beside-grades, step-room, step-changed, step-same}
+use Rattle.step.proofs.Stepping.{beside-grades, step-room, step-changed, step-same}
 use borrow.Author.Needs.{needs}
-use Rattle.run.proofs.step.Statement.{statement}
-use Rattle.run.proofs.step.Tie as tie
+use Rattle.step.proofs.step.Statement.{statement}
+use Rattle.step.proofs.step.Tie as tie
 
 body-requires : tie.Need-body-requires
 body-requires c κs = (c .before .before .before .before .before .before .before .pre .0, beside-grades (c .before .before .before .before .before .before .before .args .a .now) (c .before .before .before .before .before .before .before .args .run .now) (c .before .before .before .before .before .before .before .pre .0) (c .before .before .before .before .before .before .before .pre .1) (c .before .before .before .before .before .before .before .pre .6), c .before .before .before .before .before .before .before .pre .4, c .before .before .before .before .before .before .before .pre .2)

@@ -1,8 +1,8 @@
--- `run::body::body` meets its contract: the largest ends of the lines, or what a condition without lines has. Assumes nothing.
-use Rattle.run.proofs.Gathering.{body-found, body-empty, bodyless-in}
+-- `body::body` meets its contract: the largest ends of the lines, or what a condition without lines has. Assumes nothing.
+use Rattle.body.proofs.Gathering.{body-found, body-empty, bodyless-in}
 use borrow.Author.Needs.{needs}
-use Rattle.run.proofs.body.body.Statement.{statement}
-use Rattle.run.proofs.body.body.Tie as tie
+use Rattle.body.proofs.body.Statement.{statement}
+use Rattle.body.proofs.body.Tie as tie
 
 best-of-requires : tie.Need-best-of-requires
 best-of-requires c κs = search needs

@@ -1,0 +1,2 @@
+-- the largest ends over lines seen
+pub mod Gathering

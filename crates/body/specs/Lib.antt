@@ -1,0 +1,2 @@
+-- both ends of a body value
+pub mod Body

@@ -1,0 +1,2 @@
+-- an evaluation and what is beside the area
+pub mod Stepping

@@ -1,0 +1,2 @@
+-- what is held beside the areas
+pub mod Beside
