@@ -126,8 +126,8 @@ fn wake_by_scan(a: &[u16], run: &mut [u16], words: &mut [u64], c: u16)
     let mut line = page::Cursor::first(a);
     while line.passed < count {
         let at = line.at;
-        wake_head(a, at, run, words, c);
         line = line.next(a);
+        wake_head(a, at, run, words, c);
     }
 }
 

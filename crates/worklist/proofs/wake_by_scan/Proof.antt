@@ -26,17 +26,17 @@ first-requires c κs = tt
 loop-holds : tie.Need-loop-holds Inv-loop μ-loop
 loop-holds c = (marking-first _ _ _ (c .before .before .before .before .before .pre .0) (c .before .before .before .before .before .pre .1) (c .first .ensures), still-same _ _ _ (c .before .before .before .before .before .pre .2))
 
-wake-head-requires : tie.Need-wake-head-requires Inv-loop μ-loop
-wake-head-requires c κs = let h = c .before .before .before .before .loop .inv .0 in (entry-here _ (h .scan) (omega arith), head-fits _ _ _ h (omega arith), omega (arith, head-in _ _ _ h (omega arith), head-of (c .before .before .before .before .before .before .before .before .before .before .args .a .now) (c .before .before .before .before .before .before .before .before .before .before .pre .0) .few), c .before .before .before .before .loop .inv .1 .size)
-
 next-requires : tie.Need-next-requires Inv-loop μ-loop
-next-requires c κs = (entry-here _ (c .before .before .before .before .before .before .before .before .before .loop .inv .0 .scan) (omega arith), omega (arith, head-of (c .before .before .before .before .before .before .before .before .before .before .before .before .before .before .before .args .a .now) (c .before .before .before .before .before .before .before .before .before .before .before .before .before .before .before .pre .0)))
+next-requires c κs = (entry-here _ (c .before .before .loop .inv .0 .scan) (omega arith), omega (arith, head-of (c .before .before .before .before .before .before .before .before .args .a .now) (c .before .before .before .before .before .before .before .before .pre .0)))
+
+wake-head-requires : tie.Need-wake-head-requires Inv-loop μ-loop
+wake-head-requires c κs = let h = c .before .before .before .before .before .loop .inv .0 in (entry-here _ (h .scan) (omega arith), head-fits _ _ _ h (omega arith), omega (arith, head-in _ _ _ h (omega arith), head-of (c .before .before .before .before .before .before .before .before .before .before .before .args .a .now) (c .before .before .before .before .before .before .before .before .before .before .before .pre .0) .few), c .before .before .before .before .before .loop .inv .1 .size)
 
 loop-less : tie.Need-loop-less Inv-loop μ-loop
-loop-less c = omega (arith, c .next .ensures .count)
+loop-less c = omega (arith, c .before .before .before .before .before .before .before .next .ensures .count)
 
 loop-again : tie.Need-loop-again Inv-loop μ-loop
-loop-again c = let h = c .before .before .before .before .before .before .before .before .before .before .loop .inv .0 in (marking-next _ _ _ h (omega arith) (c .before .before .before .before .before .wake-head .ensures .0) (c .next .ensures), still-then (c .before .before .before .before .before .before .before .before .before .before .loop .inv .1) (c .before .before .before .before .before .wake-head .ensures .1 _ (head-in _ _ _ h (omega arith))))
+loop-again c = let h = c .before .before .before .before .before .before .before .before .before .before .loop .inv .0 in (marking-next _ _ _ h (omega arith) (c .before .before .before .before .wake-head .ensures .0) (c .before .before .before .before .before .before .before .next .ensures), still-then (c .before .before .before .before .before .before .before .before .before .before .loop .inv .1) (c .before .before .before .before .wake-head .ensures .1 _ (head-in _ _ _ h (omega arith))))
 
 same-length : tie.Need-same-length Inv-loop μ-loop
 same-length c = c .before .before .loop .inv .0 .same-length
@@ -56,8 +56,8 @@ wake-by-scan-spec =
     shared-slice-read-count
     first-requires
     loop-holds
-    wake-head-requires
     next-requires
+    wake-head-requires
     loop-less
     loop-again
     same-length
