@@ -23,7 +23,7 @@ use Rattle.value.specs.LineEnds.{LineEnd}
 use Rattle.value.proofs.BodyEnds.{body-most, body-has, body-none}
 use Rattle.ends.specs.Mirror.{mirrored}
 use Rattle.index.specs.Groups.{LinesByHead}
-use Rattle.body.specs.Body.{Largest, BestOf, Body}
+use Rattle.body.specs.Body.{TakenLine, PassedLine, Taken, Largest, BestOf, Body}
 
 -- the entry of a line lies in the area, and where it is an F or R line of its head
 pub here-entry : (a : List ℕ) → sound a ≡ true → {at : ℕ} → LineIn a at → EntryIn a at
@@ -31,10 +31,6 @@ here-entry a ok h = subst (EntryIn a) (sym (h .place)) (entry-here a (scanning-a
 
 pub here-line : {a : List ℕ} {c at : ℕ} → LineIn a at → getD a at 0 ≡ c → getD a (at + 1) 0 ≤ 5 → LineOf a c at
 here-line h e b = record { number = h .number; in-count = h .in-count; place = h .place; head = e; body = b }
-
--- a line of c is one of its own head
-pub own-head : {a : List ℕ} {c at : ℕ} → LineOf a c at → LineOf a (getD a at 0) at
-own-head o = record { number = o .number; in-count = o .in-count; place = o .place; head = refl; body = o .body }
 
 -- one end over the places seen
 module _ (e : End) (a values : List ℕ) (c : ℕ) where
@@ -96,24 +92,29 @@ module _ (a values : List ℕ) (c : ℕ) where
       rw (q .1, q .2)
       (record { low-end = seeing-none _ _ _ _ Seen s; high-end = seeing-none _ _ _ _ Seen s; none = λ e p h o. s p h })
 
-  -- a line that is not one of c, and one that is
-  pub gathering-skip : {Seen : ℕ → Type 0} (Seen′ : ℕ → Type 0) {found : Bool} {low high : ℕ} → Gathering Seen found low high → {at : ℕ} → (LineOf a c at → ⊥)
+  -- a line that is not looked at, since it is of another head
+  pub gathering-skip : {Seen : ℕ → Type 0} (Seen′ : ℕ → Type 0) {found : Bool} {low high : ℕ} → Gathering Seen found low high → {at : ℕ} → (getD a at 0 ≡ c → ⊥)
       → ((p : ℕ) → Seen′ p → Seen p ⊎ (p ≡ at)) → Gathering Seen′ found low high
   gathering-skip Seen′ g {at} n s =
       record {
-        low-end = seeing-passed _ _ _ _ (g .low-end) Seen′ n refl s;
-        high-end = seeing-passed _ _ _ _ (g .high-end) Seen′ n refl s;
-        none = λ e p h o. ⊎-elim (λ k. g .none e p k o) (λ k. n (rw k at o)) (s p h);
+        low-end = seeing-passed _ _ _ _ (g .low-end) Seen′ (λ o. n (o .head)) refl s;
+        high-end = seeing-passed _ _ _ _ (g .high-end) Seen′ (λ o. n (o .head)) refl s;
+        none = λ e p h o. ⊎-elim (λ k. g .none e p k o) (λ k. n (rw k at (o .head))) (s p h);
       }
 
-  pub gathering-next : sound a ≡ true → {Seen : ℕ → Type 0} (Seen′ : ℕ → Type 0) {found found′ : Bool} {low high low′ high′ at x y : ℕ} → Gathering Seen found low high
-      → LineOf a c at → LineEnd lower a values at x × LineEnd upper a (mirrored (topOf a) values) at y → (found′ ≡ true) × (low′ ≡ max low x) × (high′ ≡ max high y)
-      → ((p : ℕ) → Seen′ p → Seen p ⊎ (p ≡ at)) → Gathering Seen′ found′ low′ high′
-  gathering-next ok Seen′ g o v m s =
+  pub gathering-next : sound a ≡ true → {Seen : ℕ → Type 0} (Seen′ : ℕ → Type 0) {found found′ : Bool} {low high low′ high′ at : ℕ} → Gathering Seen found low high
+      → Taken a values c at found low high found′ low′ high′ → ((p : ℕ) → Seen′ p → Seen p ⊎ (p ≡ at)) → Gathering Seen′ found′ low′ high′
+  gathering-next ok Seen′ g (inl t) s =
       record {
-        low-end = seeing-taken _ _ _ _ (g .low-end) ok Seen′ o (v .0) (m .1) s;
-        high-end = seeing-taken _ _ _ _ (g .high-end) ok Seen′ o (v .1) (m .2) s;
-        none = λ e p h k. true≢false (sym (m .0) ∙ e);
+        low-end = seeing-passed _ _ _ _ (g .low-end) Seen′ (t .not-here) (t .low-same) s;
+        high-end = seeing-passed _ _ _ _ (g .high-end) Seen′ (t .not-here) (t .high-same) s;
+        none = λ e p h o. ⊎-elim (λ k. g .none (sym (t .found-same) ∙ e) p k o) (λ k. t .not-here (rw k at o)) (s p h);
+      }
+  gathering-next ok Seen′ g (inr t) s =
+      record {
+        low-end = seeing-taken _ _ _ _ (g .low-end) ok Seen′ (t .here) (t .low-is) (t .low-most) s;
+        high-end = seeing-taken _ _ _ _ (g .high-end) ok Seen′ (t .here) (t .high-is) (t .high-most) s;
+        none = λ e p h o. true≢false (sym (t .found) ∙ e);
       }
 
   pub gathering-last : {Seen : ℕ → Type 0} {found : Bool} {low high : ℕ} → Gathering Seen found low high → ((p : ℕ) → LineOf a c p → Seen p) → BestOf a values c found low high

@@ -1,14 +1,14 @@
 // Both ends of the body value T of a condition, over its lines: by the index, or by a scan where there is none.
 ghost use mathlib.Core.Path.{_≡_};
 ghost use mathlib.Core.Bool.{true, false};
-ghost use Prim.Native.Nat.{_<_, max};
+ghost use Prim.Native.Nat.{_<_};
 ghost use lib.ListN.{length};
 ghost use Rattle.semantics.specs.Area.{sound, topOf, conditionsOf};
 ghost use Rattle.ends.specs.Mirror.{Mirrored};
 ghost use Rattle.index.specs.Groups.{LinesByHead};
 ghost use Rattle.index.specs.Parts.{MaybeLines};
-ghost use Rattle.page.specs.Places.{LineIn, LineOf};
-ghost use Rattle.body.specs.Body.{BestOf, Body};
+ghost use Rattle.page.specs.Places.{LineIn};
+ghost use Rattle.body.specs.Body.{Taken, BestOf, Body};
 use value::Ends;
 
 // The largest ends over the lines of a condition that are seen, and whether there is one.
@@ -28,26 +28,23 @@ fn no_line() -> Best
     }
 }
 
-// The ends of one line more are taken in.
-fn larger(best: Best, x: Ends) -> Best
-    ensures { λ r. ⌜ (r .found ≡ true) × (r .low ≡ max (best .low) (x .low)) × (r .high ≡ max (best .high) (x .high)) ⌝ }
+// The line at `at` is taken in if it is an F or R line of c.
+fn take_line(a: &[u16], at: usize, values: &[u8], c: u16, best: Best) -> Best
+    requires { ⌜ (sound (now a) ≡ true) × Mirrored (topOf (now a)) (conditionsOf (now a)) (now values) × LineIn (now a) at ⌝ }
+    ensures { λ r. ⌜ Taken (now (a .entry)) (now (values .entry)) c at (best .found) (best .low) (best .high) (r .found) (r .low) (r .high) ⌝ }
 {
+    if a[at] != c {
+        return best;
+    }
+    if 5 < a[at + 1] {
+        return best;
+    }
+    let x = ends::line_ends(a, at, values);
     Best {
         found: true,
         low: value::maximum(best.low, x.low),
         high: value::maximum(best.high, x.high),
     }
-}
-
-// Whether the line at `at` is an F or R line of c.
-fn is_line_of(a: &[u16], at: usize, c: u16) -> bool
-    requires { ⌜ (sound (now a) ≡ true) × LineIn (now a) at ⌝ }
-    ensures { λ r. ⌜ (r ≡ true → LineOf (now (a .entry)) c at) × (r ≡ false → LineOf (now (a .entry)) c at → ⊥) ⌝ }
-{
-    if a[at] != c {
-        return false;
-    }
-    a[at + 1] <= 5
 }
 
 // The lines of c, by a scan of the page.
@@ -60,8 +57,8 @@ fn by_scan(a: &[u16], values: &[u8], c: u16) -> Best
     let mut best = no_line();
     while line.passed < count {
         let at = line.at;
-        if is_line_of(a, at, c) {
-            best = larger(best, ends::line_ends(a, at, values));
+        if a[at] == c {
+            best = take_line(a, at, values, c, best);
         }
         line = line.next(a);
     }
@@ -78,7 +75,7 @@ fn by_group(a: &[u16], first: &[u16], places: &[u16], values: &[u8], c: u16) -> 
     let end = first[group + 1] as usize;
     let mut best = no_line();
     while i < end {
-        best = larger(best, ends::line_ends(a, places[i] as usize, values));
+        best = take_line(a, places[i] as usize, values, c, best);
         i += 1;
     }
     best

@@ -3,7 +3,7 @@ use Prim.Native.Nat.{_+_, _-_, _≤_}
 use native.Mathlib.Omega.{arith}
 use lib.ListN.{getD}
 use Rattle.index.proofs.Grouped.{group-within}
-use Rattle.body.proofs.Gathering.{own-head, place-small, Gathering, gathering-none, gathering-next, gathering-last, Grouped, grouped-more, grouped-all}
+use Rattle.body.proofs.Gathering.{place-small, Gathering, gathering-none, gathering-next, gathering-last, Grouped, grouped-more, grouped-all}
 use Rattle.body.proofs.by_group.Statement.{statement}
 use Rattle.body.proofs.by_group.Tie as tie
 
@@ -40,36 +40,26 @@ no-line-requires c κs = tt
 loop-holds : tie.Need-loop-holds Inv-loop μ-loop
 loop-holds c = (omega arith, c .before .before .before .before .before .before .before .pre .2 .ordered (c .before .before .before .before .before .before .before .args .c) (c .before .before .before .before .before .before .before .pre .3), gathering-none _ _ _ (Grouped (c .before .before .before .before .before .before .before .args .places .now) (getD (c .before .before .before .before .before .before .before .args .first .now) (c .before .before .before .before .before .before .before .args .c) 0) (getD (c .before .before .before .before .before .before .before .args .first .now) (c .before .before .before .before .before .before .before .args .c) 0)) (λ p h. omega (arith, h .1, h .2)) (c .no-line .ensures))
 
-mul-line-ends : tie.Need-mul-line-ends Inv-loop μ-loop
-mul-line-ends c = omega (arith, group-within (c .before .before .before .before .before .before .before .before .before .pre .2) (c .before .before .before .before .before .before .before .before .before .args .c + 1) (omega arith), c .before .before .before .before .before .before .before .before .before .good)
+mul-take-line : tie.Need-mul-take-line Inv-loop μ-loop
+mul-take-line c = omega (arith, group-within (c .before .before .before .before .before .before .before .before .before .pre .2) (c .before .before .before .before .before .before .before .before .before .args .c + 1) (omega arith), c .before .before .before .before .before .before .before .before .before .good)
 
-shared-slice-read-line-ends : tie.Need-shared-slice-read-line-ends Inv-loop μ-loop
-shared-slice-read-line-ends c = omega (arith, group-within (c .before .before .before .before .before .before .before .before .before .before .pre .2) (c .before .before .before .before .before .before .before .before .before .before .args .c + 1) (omega arith))
+shared-slice-read-take-line : tie.Need-shared-slice-read-take-line Inv-loop μ-loop
+shared-slice-read-take-line c = omega (arith, group-within (c .before .before .before .before .before .before .before .before .before .before .pre .2) (c .before .before .before .before .before .before .before .before .before .before .args .c + 1) (omega arith))
 
-cast-line-ends : tie.Need-cast-line-ends Inv-loop μ-loop
-cast-line-ends c = let o = c .before .before .before .before .before .before .before .before .before .before .pre .2 .only (c .before .before .before .before .before .before .before .before .before .before .args .c) (c .before .before .loop .i) (c .before .before .before .before .before .before .before .before .before .before .pre .3) (c .before .before .loop .inv .0) (omega arith) in omega (arith, place-small (c .before .before .before .before .before .before .before .before .before .before .args .a .now) (c .before .before .before .before .before .before .before .before .before .before .pre .0) o)
+cast-take-line : tie.Need-cast-take-line Inv-loop μ-loop
+cast-take-line c = let o = c .before .before .before .before .before .before .before .before .before .before .pre .2 .only (c .before .before .before .before .before .before .before .before .before .before .args .c) (c .before .before .loop .i) (c .before .before .before .before .before .before .before .before .before .before .pre .3) (c .before .before .loop .inv .0) (omega arith) in omega (arith, place-small (c .before .before .before .before .before .before .before .before .before .before .args .a .now) (c .before .before .before .before .before .before .before .before .before .before .pre .0) o)
 
-line-ends-requires : tie.Need-line-ends-requires Inv-loop μ-loop
-line-ends-requires c κs = let z = c .before .before .before .before .before .before .before .before .before .before in (z .pre .0, z .pre .1, own-head (z .pre .2 .only (z .args .c) (c .before .before .loop .i) (z .pre .3) (c .before .before .loop .inv .0) (omega arith)))
-
-larger-requires : tie.Need-larger-requires Inv-loop μ-loop
-larger-requires c κs = tt
+take-line-requires : tie.Need-take-line-requires Inv-loop μ-loop
+take-line-requires c κs = let o = c .before .before .before .before .before .before .before .before .before .before .pre .2 .only (c .before .before .before .before .before .before .before .before .before .before .args .c) (c .before .before .loop .i) (c .before .before .before .before .before .before .before .before .before .before .pre .3) (c .before .before .loop .inv .0) (omega arith) in (c .before .before .before .before .before .before .before .before .before .before .pre .0, c .before .before .before .before .before .before .before .before .before .before .pre .1, record { number = o .number; in-count = o .in-count; place = o .place })
 
 add-i : tie.Need-add-i Inv-loop μ-loop
-add-i c = let z = c .before .before .before .before .before .before .before .before .before .before .before .before in omega (arith, group-within (z .pre .2) (z .args .c + 1) (omega arith), z .good)
+add-i c = omega (arith, group-within (c .before .before .before .before .before .before .before .before .before .before .before .pre .2) (c .before .before .before .before .before .before .before .before .before .before .before .args .c + 1) (omega arith), c .before .before .before .before .before .before .before .before .before .before .before .good)
 
 loop-less : tie.Need-loop-less Inv-loop μ-loop
 loop-less c = omega arith
 
 loop-again : tie.Need-loop-again Inv-loop μ-loop
-loop-again c =
-    let z = c .before .before .before .before .before .before .before .before .before .before .before .before in
-    let s = c .before .before .before .before .loop in
-    let from = getD (z .args .first .now) (z .args .c) 0 in
-    (omega (arith, s .inv .0),
-     omega arith,
-     gathering-next _ _ _ (z .pre .0) (Grouped (z .args .places .now) from (s .i + 1)) (s .inv .2) (z .pre .2 .only (z .args .c) (s .i) (z .pre .3) (s .inv .0) (omega arith)) (c .before .line-ends .ensures) (c .larger .ensures)
-     (grouped-more (z .args .places .now) from (s .i)))
+loop-again c = (omega (arith, c .before .before .before .loop .inv .0), omega arith, gathering-next _ _ _ (c .before .before .before .before .before .before .before .before .before .before .before .pre .0) (Grouped (c .before .before .before .before .before .before .before .before .before .before .before .args .places .now) (getD (c .before .before .before .before .before .before .before .before .before .before .before .args .first .now) (c .before .before .before .before .before .before .before .before .before .before .before .args .c) 0) (c .before .before .before .loop .i + 1)) (c .before .before .before .loop .inv .2) (c .take-line .ensures) (grouped-more (c .before .before .before .before .before .before .before .before .before .before .before .args .places .now) (getD (c .before .before .before .before .before .before .before .before .before .before .before .args .first .now) (c .before .before .before .before .before .before .before .before .before .before .before .args .c) 0) (c .before .before .before .loop .i)))
 
 returns : tie.Need-returns Inv-loop μ-loop
 returns c = gathering-last _ _ _ (c .before .loop .inv .2) (grouped-all _ (c .before .before .before .before .before .before .before .before .before .args .first .now) _ _ _ (c .before .before .before .before .before .before .before .before .before .pre .2) (c .before .before .before .before .before .before .before .before .before .pre .3) (omega arith))
@@ -89,11 +79,10 @@ by-group-spec =
     cast-end
     no-line-requires
     loop-holds
-    mul-line-ends
-    shared-slice-read-line-ends
-    cast-line-ends
-    line-ends-requires
-    larger-requires
+    mul-take-line
+    shared-slice-read-take-line
+    cast-take-line
+    take-line-requires
     add-i
     loop-less
     loop-again
