@@ -7,8 +7,8 @@ use native.Mathlib.Omega.{arith}
 use lib.Dec.{eqb}
 use lib.ListN.{length, drop}
 use Rattle.semantics.specs.Area.{every, lineTests, linesOk}
-use Rattle.page.specs.Lines.{EntryIn, Next}
-use Rattle.page.proofs.Scan.{lines-bad, lines-behind, lines-last, entry-fits, entry-in}
+use Rattle.page.specs.Lines.{Next}
+use Rattle.page.proofs.Scan.{lines-bad, lines-behind, lines-last, entry-fits}
 
 module _ (a : List ℕ) (used count top n : ℕ) where
   -- what the scan is to answer
@@ -36,9 +36,6 @@ module _ (a : List ℕ) (used count top n : ℕ) where
     module _ {r : Bool} (e : r ≡ passes) where
       pub checking-bad : r ≡ false → false ≡ answer
       checking-bad f = sym (s .is ∙ lines-bad top n (used - at) (count - k) a at (omega arith) (sym e ∙ f))
-
-      pub checked-in : r ≡ true → EntryIn a at
-      checked-in t = entry-in top n (used - at) a at (omega (arith, s .in-used, s .in-area)) (sym e ∙ t)
 
       pub checking-next : r ≡ true → {at′ k′ : ℕ} → Next a at k at′ k′ → Checking at′ k′
       checking-next t m =

@@ -11,7 +11,7 @@ use native.Mathlib.Omega.{arith}
 use lib.Dec.{eqb, leb}
 use lib.ListN.{length, getD, take, drop, List·getD-eq-default}
 use lib.Seq.{getD-drop, drop-drop, drop-cons}
-use borrow.Author.Tests.{le-leb, lt-leb, lt-ltb, le-ltb, eq-eqb, ne-eqb, leb-true, ltb-true, eqb-true, eqb-false}
+use borrow.Author.Tests.{le-leb, lt-leb, lt-ltb, le-ltb, eq-eqb, ne-eqb, leb-true, leb-false, ltb-true, eqb-true, eqb-false}
 use Rattle.semantics.specs.Area.{Kind, factKind, ruleKind, queryKind, noKind, kind, spanAs, span, lineAs, lineAt, every, allUnder, fieldTests, lineTests, linesOk, headTests, sound, topOf, conditionsOf, countOf, usedOf}
 use Rattle.semantics.specs.Grade.{Op, M, X, L, B, P}
 use Rattle.semantics.proofs.Soundness.{every-true, both-true}
@@ -55,16 +55,16 @@ pub under-none : (a : List ℕ) (limit r : ℕ) → r ≡ 0 → allUnder limit (
 unfolding allUnder
 under-none a limit r e = rw e
 
--- the scan of literals: all m lie under the limit exactly when it ends at m
+-- the scan of literals: it leaves at one that does not lie under the limit, and all m do when it ends
 module _ (a : List ℕ) (from m limit : ℕ) {j : ℕ} (s : Remaining (allUnder limit) a from m j) where
   pub under-next : j < m → getD a (from + j) 0 < limit → Remaining (allUnder limit) a from m (j + 1)
   under-next l h = remaining-next (allUnder limit) a from m s l (under-ok a (from + j) limit (omega arith) (m - j) (omega arith) h)
 
-  pub under-break : j < m → limit ≤ getD a (from + j) 0 → eqb j m ≡ allUnder limit (take m (drop from a))
-  under-break l h = ne-eqb j m (λ e. omega arith) ∙ sym (s .is ∙ under-bad a (from + j) limit (omega arith) (m - j) (omega arith) h)
+  pub under-break : j < m → limit ≤ getD a (from + j) 0 → false ≡ allUnder limit (take m (drop from a))
+  under-break l h = sym (s .is ∙ under-bad a (from + j) limit (omega arith) (m - j) (omega arith) h)
 
-  pub under-last : m ≤ j → eqb j m ≡ allUnder limit (take m (drop from a))
-  under-last h = eq-eqb j m (omega arith) ∙ sym (s .is ∙ under-none (drop (from + j) a) limit (m - j) (omega arith))
+  pub under-last : m ≤ j → true ≡ allUnder limit (take m (drop from a))
+  under-last h = sym (s .is ∙ under-none (drop (from + j) a) limit (m - j) (omega arith))
 
 -- the kinds: 0 a fact, 1 to 5 a rule, 6 a query, no other
 pub rule-kind : (k : ℕ) → 1 ≤ k → k ≤ 5 → (op : Op) × (kind k ≡ ruleKind op)
@@ -167,6 +167,13 @@ module _ (a : List ℕ) (at : ℕ) where
       ≡ lineAs (kind (getD a (at + 1) 0)) (getD a at 0) (getD a (at + 2) 0) (getD a (at + 3) 0) (take (getD a (at + 3) 0) (drop (at + 4) a))
   line-at = rw (first-here, getD-drop at a 1 0, getD-drop at a 2 0, getD-drop at a 3 0, drop-drop 4 at a)
 
+pub span-short : (k y : ℕ) → (1 ≤ k → 6 ≤ k) → spanAs (kind k) y ≡ 4
+span-short k y f =
+    elim (ℕ-discrete k 0) [
+      | yes e ↦ span-none k y (omega arith)
+      | no e ↦ span-over k y (omega (arith, f (omega arith)))
+    ]
+
 -- the tests of the entry at a place
 module _ (top n left : ℕ) (a : List ℕ) (at : ℕ) where
   abbrev tests : Bool
@@ -182,10 +189,10 @@ module _ (top n left : ℕ) (a : List ℕ) (at : ℕ) where
   pub entry-long : left < spanAs (kind (getD a (at + 1) 0)) (getD a (at + 3) 0) → tests ≡ false
   entry-long l = rw (lt-leb (span (drop at a)) left (omega (arith, span-at)))
 
-  module _ (fits : spanAs (kind (getD a (at + 1) 0)) (getD a (at + 3) 0) ≤ left) where
-    pub entry-high : n ≤ getD a at 0 → tests ≡ false
-    entry-high h = rw (le-leb (span (drop at a)) left (omega (arith, span-at)), le-ltb (getD (drop at a) 0 0) n (omega (arith, first-here a at)))
+  pub entry-high : n ≤ getD a at 0 → tests ≡ false
+  entry-high h = every-fails (lineTests top n left (drop at a)) 1 (le-ltb (getD (drop at a) 0 0) n (omega (arith, first-here a at)))
 
+  module _ (fits : spanAs (kind (getD a (at + 1) 0)) (getD a (at + 3) 0) ≤ left) where
     pub entry-fields : getD a at 0 < n
         → tests ≡ every (fieldTests top n (kind (getD a (at + 1) 0)) (getD a (at + 2) 0) (getD a (at + 3) 0) (take (getD a (at + 3) 0) (drop (at + 4) a)))
     entry-fields h =
@@ -201,6 +208,25 @@ module _ (top n left : ℕ) (a : List ℕ) (at : ℕ) where
     pub fields-decide : {r : Bool} → getD a at 0 < n
         → r ≡ every (fieldTests top n (kind (getD a (at + 1) 0)) (getD a (at + 2) 0) (getD a (at + 3) 0) (take (getD a (at + 3) 0) (drop (at + 4) a))) → r ≡ tests
     fields-decide h e = e ∙ sym (entry-fields h)
+
+-- the entry at a place where the numbers end at `used`: a rule whose head is in range, and any other entry
+module _ (top n used : ℕ) (a : List ℕ) (at : ℕ) (o : at + 4 ≤ used) (b : getD a at 0 < n) {r : Bool} where
+  pub rule-entry : 1 ≤ getD a (at + 1) 0 → getD a (at + 1) 0 ≤ 5
+      → r ≡ (leb (at + 4 + getD a (at + 3) 0) used && every (fieldTests top n (ruleKind M) (getD a (at + 2) 0) (getD a (at + 3) 0) (take (getD a (at + 3) 0) (drop (at + 4) a))))
+      → r ≡ every (lineTests top n (used - at) (drop at a))
+  rule-entry l h e = go (leb (at + 4 + getD a (at + 3) 0) used) refl
+    where
+      z : spanAs (kind (getD a (at + 1) 0)) (getD a (at + 3) 0) ≡ 4 + getD a (at + 3) 0
+      z = span-rule (getD a (at + 1) 0) (getD a (at + 3) 0) l h
+
+      go : (t : Bool) → leb (at + 4 + getD a (at + 3) 0) used ≡ t → r ≡ every (lineTests top n (used - at) (drop at a))
+      go true t = fields-decide top n (used - at) a at (omega (arith, leb-true (at + 4 + getD a (at + 3) 0) used t, z)) b (rule-decides top n (getD a (at + 1) 0) (getD a (at + 2) 0) (getD a (at + 3) 0) _ l h (rw t at e))
+      go false t = rw t at e ∙ sym (entry-long top n (used - at) a at (omega (arith, leb-false (at + 4 + getD a (at + 3) 0) used t, z)))
+
+  pub short-entry : (1 ≤ getD a (at + 1) 0 → 6 ≤ getD a (at + 1) 0)
+      → r ≡ every (fieldTests top n (kind (getD a (at + 1) 0)) (getD a (at + 2) 0) (getD a (at + 3) 0) (take (getD a (at + 3) 0) (drop (at + 4) a)))
+      → r ≡ every (lineTests top n (used - at) (drop at a))
+  short-entry f e = fields-decide top n (used - at) a at (omega (arith, span-short (getD a (at + 1) 0) (getD a (at + 3) 0) f)) b e
 
 -- an entry that passes its tests lies in the area, and its condition is below C
 pub entry-fits : (top n left : ℕ) (a : List ℕ) (at : ℕ) → every (lineTests top n left (drop at a)) ≡ true → spanAs (kind (getD a (at + 1) 0)) (getD a (at + 3) 0) ≤ left

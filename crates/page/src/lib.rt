@@ -1,12 +1,14 @@
 // Code on raw page areas (document 01, "Areas"): a cursor over the lines, soundness, and which condition an R line names.
 ghost use mathlib.Core.Path.{_≡_};
-ghost use mathlib.Core.List.{map};
-ghost use Prim.Native.Nat.{_≤_, _<_, _+_, _-_};
+ghost use mathlib.Core.Bool.{false};
+ghost use mathlib.Core.List.{List, map};
+ghost use Prim.Native.Nat.{ℕ, _≤_, _<_, _+_, _-_};
 ghost use lib.ListN.{length, take, drop};
 ghost use Rattle.semantics.specs.Grade.{M};
 ghost use Rattle.semantics.specs.Page.{mentions};
 ghost use Rattle.semantics.specs.Area.{sound, linesOk, lineTests, fieldTests, every, allUnder, kind, spanAs, firstLine, ruleKind, literalOf, lineAt};
 ghost use Rattle.page.specs.Lines.{EntryIn, Next, lineNames};
+ghost use Rattle.page.specs.Checks.{Passes, RulePasses};
 
 // How many numbers an entry of the kind k takes, with y as its fourth.
 pub fn span_of(k: u16, y: u16) -> usize
@@ -45,19 +47,19 @@ impl Cursor {
     }
 }
 
-// Whether the m literals from `from` on lie under the limit. The scan leaves at the first that does not.
+// Whether the m literals from `from` on lie under the limit.
 fn literals_ok(a: &[u16], from: usize, m: u16, limit: u16) -> bool
     requires { ⌜ from + m ≤ length (now a) ⌝ }
     ensures { λ r. ⌜ r ≡ allUnder limit (take m (drop from (now (a .entry)))) ⌝ }
 {
     let mut j: u16 = 0;
-    'scan: while j < m {
+    while j < m {
         if limit <= a[from + j as usize] {
-            break 'scan;
+            return false;
         }
         j += 1;
     }
-    j == m
+    true
 }
 
 // Whether the fields of a rule are in range: weight x 1 to top, 1 to 8 literals, each of a condition below C, which is n.
@@ -80,10 +82,10 @@ fn rule_ok(a: &[u16], from: usize, x: u16, y: u16, top: u16, n: u16) -> bool
     literals_ok(a, from, y, 2 * n)
 }
 
-// Whether the fields of an entry of the kind k are in range: 0 is a fact, 1 to 5 a rule, 6 a query, and no other is a kind.
-fn fields_ok(a: &[u16], at: usize, k: u16, x: u16, y: u16, top: u16, n: u16) -> bool
-    requires { ⌜ (at + spanAs (kind k) y ≤ length (now a)) × (n ≤ 512) ⌝ }
-    ensures { λ r. ⌜ r ≡ every (fieldTests top n (kind k) x y (take y (drop (at + 4) (now (a .entry))))) ⌝ }
+// Whether the fields of an entry without literals are in range: 0 is a fact, 6 a query, and no other is a kind.
+fn short_ok(k: u16, x: u16, y: u16, top: u16) -> bool
+    requires { ⌜ (1 ≤ k → 6 ≤ k) ⌝ }
+    ensures { λ r. ⌜ ((n : ℕ) (codes : List ℕ) → r ≡ every (fieldTests top n (kind k) x y codes)) ⌝ }
 {
     match k {
         0 => {
@@ -92,7 +94,6 @@ fn fields_ok(a: &[u16], at: usize, k: u16, x: u16, y: u16, top: u16, n: u16) -> 
             }
             y <= top
         }
-        1..=5 => rule_ok(a, at + 4, x, y, top, n),
         6 => {
             if 1 < x {
                 return false;
@@ -103,23 +104,56 @@ fn fields_ok(a: &[u16], at: usize, k: u16, x: u16, y: u16, top: u16, n: u16) -> 
     }
 }
 
-// Whether the entry at `at` lies within the next `left` numbers, every field in range.
-fn entry_ok(a: &[u16], at: usize, left: usize, top: u16, n: u16) -> bool
-    requires { ⌜ (at + left ≤ length (now a)) × (n ≤ 512) ⌝ }
-    ensures { λ r. ⌜ r ≡ every (lineTests top n left (drop at (now (a .entry)))) ⌝ }
+// Whether an entry passes its tests, and the place behind it if it does.
+struct Passed {
+    passes: bool,
+    to: usize,
+}
+
+fn fails() -> Passed
+    ensures { λ r. ⌜ r .passes ≡ false ⌝ }
 {
-    if left < 4 {
-        return false;
+    Passed {
+        passes: false,
+        to: 0,
+    }
+}
+
+// Whether the rule at `at` with y literals ends at `used` or before, with every field after its kind in range.
+fn rule_passes(a: &[u16], at: usize, used: usize, y: u16, top: u16, n: u16) -> Passed
+    requires { ⌜ (at + 4 ≤ used) × (used ≤ length (now a)) × (n ≤ 512) ⌝ }
+    ensures { λ r. ⌜ RulePasses top n (now (a .entry)) at used y (r .passes) (r .to) ⌝ }
+{
+    let to = at + 4 + y as usize;
+    if used < to {
+        return fails();
+    }
+    Passed {
+        passes: rule_ok(a, at + 4, a[at + 2], y, top, n),
+        to,
+    }
+}
+
+// Whether the entry at `at` ends at `used` or before, with every field in range: 1 to 5 is a rule.
+fn entry_passes(a: &[u16], at: usize, used: usize, top: u16, n: u16) -> Passed
+    requires { ⌜ (at ≤ used) × (used ≤ length (now a)) × (n ≤ 512) ⌝ }
+    ensures { λ r. ⌜ Passes top n (now (a .entry)) at used (r .passes) (r .to) ⌝ }
+{
+    if used < at + 4 {
+        return fails();
+    }
+    if n <= a[at] {
+        return fails();
     }
     let k = a[at + 1];
     let y = a[at + 3];
-    if left < span_of(k, y) {
-        return false;
+    match k {
+        1..=5 => rule_passes(a, at, used, y, top, n),
+        _ => Passed {
+            passes: short_ok(k, a[at + 2], y, top),
+            to: at + 4,
+        },
     }
-    if n <= a[at] {
-        return false;
-    }
-    fields_ok(a, at, k, a[at + 2], y, top, n)
 }
 
 // Whether the numbers from where the lines begin up to `used` are exactly `count` entries.
@@ -129,11 +163,14 @@ fn lines_ok(a: &[u16], used: usize, count: u16, top: u16, n: u16) -> bool
 {
     let mut line = Cursor::first(a);
     while line.passed < count {
-        let at = line.at;
-        if !entry_ok(a, at, used - at, top, n) {
+        let entry = entry_passes(a, line.at, used, top, n);
+        if !entry.passes {
             return false;
         }
-        line = line.next(a);
+        line = Cursor {
+            at: entry.to,
+            passed: line.passed + 1,
+        };
     }
     line.at == used
 }
