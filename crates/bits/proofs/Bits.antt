@@ -15,10 +15,10 @@ bit n j = n / 2 ^ j % 2
 pub bit-lt : (n j : ℕ) → bit n j < 2
 bit-lt n j = mod-lt (n / 2 ^ j) (zero-lt-suc 1)
 
-bit-first : (n : ℕ) → bit n 0 ≡ n % 2
+pub bit-first : (n : ℕ) → bit n 0 ≡ n % 2
 bit-first n = ap (λ (x : ℕ). x % 2) (div-one n)
 
-bit-suc : (n j : ℕ) → bit n (suc j) ≡ bit (n / 2) j
+pub bit-suc : (n j : ℕ) → bit n (suc j) ≡ bit (n / 2) j
 bit-suc n j =
     let e : suc j ≡ 1 + j = omega arith in
     ap (λ (x : ℕ). n / 2 ^ x % 2) e ∙ ap (λ (x : ℕ). x % 2) (sym (shr-shr n 1 j))

@@ -55,16 +55,16 @@ pub under-none : (a : List ℕ) (limit r : ℕ) → r ≡ 0 → allUnder limit (
 unfolding allUnder
 under-none a limit r e = rw e
 
--- the scan of literals: it leaves at one that does not lie under the limit, and all m do when it ends
+-- the scan of literals: all m lie under the limit exactly when it ends at m
 module _ (a : List ℕ) (from m limit : ℕ) {j : ℕ} (s : Remaining (allUnder limit) a from m j) where
   pub under-next : j < m → getD a (from + j) 0 < limit → Remaining (allUnder limit) a from m (j + 1)
   under-next l h = remaining-next (allUnder limit) a from m s l (under-ok a (from + j) limit (omega arith) (m - j) (omega arith) h)
 
-  pub under-break : j < m → limit ≤ getD a (from + j) 0 → false ≡ allUnder limit (take m (drop from a))
-  under-break l h = sym (s .is ∙ under-bad a (from + j) limit (omega arith) (m - j) (omega arith) h)
+  pub under-break : j < m → limit ≤ getD a (from + j) 0 → eqb j m ≡ allUnder limit (take m (drop from a))
+  under-break l h = ne-eqb j m (λ e. omega arith) ∙ sym (s .is ∙ under-bad a (from + j) limit (omega arith) (m - j) (omega arith) h)
 
-  pub under-last : m ≤ j → true ≡ allUnder limit (take m (drop from a))
-  under-last h = sym (s .is ∙ under-none (drop (from + j) a) limit (m - j) (omega arith))
+  pub under-last : m ≤ j → eqb j m ≡ allUnder limit (take m (drop from a))
+  under-last h = eq-eqb j m (omega arith) ∙ sym (s .is ∙ under-none (drop (from + j) a) limit (m - j) (omega arith))
 
 -- the kinds: 0 a fact, 1 to 5 a rule, 6 a query, no other
 pub rule-kind : (k : ℕ) → 1 ≤ k → k ≤ 5 → (op : Op) × (kind k ≡ ruleKind op)

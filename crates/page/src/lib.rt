@@ -47,19 +47,19 @@ impl Cursor {
     }
 }
 
-// Whether the m literals from `from` on lie under the limit.
+// Whether the m literals from `from` on lie under the limit. The scan leaves at the first that does not.
 fn literals_ok(a: &[u16], from: usize, m: u16, limit: u16) -> bool
     requires { ⌜ from + m ≤ length (now a) ⌝ }
     ensures { λ r. ⌜ r ≡ allUnder limit (take m (drop from (now (a .entry)))) ⌝ }
 {
     let mut j: u16 = 0;
-    while j < m {
+    'scan: while j < m {
         if limit <= a[from + j as usize] {
-            return false;
+            break 'scan;
         }
         j += 1;
     }
-    true
+    j == m
 }
 
 // Whether the fields of a rule are in range: weight x 1 to top, 1 to 8 literals, each of a condition below C, which is n.

@@ -80,6 +80,11 @@ pub long-of : (a run : List ℕ) → runSound (pageOf a) run ≡ true → 3 * co
 unfolding pageOf
 long-of a run rs = run-long (pageOf a) run rs
 
+-- its marks are 0, 1 and 2
+pub marks-of : (a run : List ℕ) → runSound (pageOf a) run ≡ true → (c : ℕ) → c < conditionsOf a → markAt run c ≤ 2
+unfolding pageOf
+marks-of a run rs c l = leb-true (markAt run c) 2 (cell-sound (pageOf a) run rs c l .1 .1 .0)
+
 -- what the body value reads of a sound run area are grades
 pub graded-of : (a run : List ℕ) → sound a ≡ true → runSound (pageOf a) run ≡ true → Graded (topOf a) (conditionsOf a) run
 unfolding pageOf

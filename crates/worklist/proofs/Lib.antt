@@ -5,6 +5,8 @@ pub mod Stores
 pub mod Marking
 -- the set of those that wait
 pub mod Matching
+-- the set, a word at a time
+pub mod Digits
 -- heads woken in a loop
 pub mod Waking
 -- dependants woken

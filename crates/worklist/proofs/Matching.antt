@@ -77,35 +77,9 @@ module _ {n : ℕ} {run words : List ℕ} (w : WordsMatch n run words) where
         ];
       }
 
--- the set of those of the first c conditions that wait
-module _ (run : List ℕ) where
-  pub match-none : (words : List ℕ) → length words ≡ 8 → Cleared words → WordsMatch 0 run words
-  match-none words s z = record { size = s; bits = λ k l. word-none words k (z (k / 64)) ∙ sym (rw (le-ltb k 0 (omega arith))) }
-
-  module _ {c : ℕ} {words : List ℕ} (w : WordsMatch c run words) where
-    more : (k : ℕ) → k ≢ c → (ltb k c && eqb (markAt run k) 2) ≡ (ltb k (c + 1) && eqb (markAt run k) 2)
-    more k e =
-        ⊎-elim (λ l. rw (lt-ltb k c l, lt-ltb k (c + 1) (omega arith))) (λ l. rw (le-ltb k c l, le-ltb k (c + 1) (omega arith))) (lt-or-le k c)
-
-    pub match-more : {words′ : List ℕ} → Inserted c words words′ → markAt run c ≡ 2 → WordsMatch (c + 1) run words′
-    match-more r z =
-        record {
-          size = r .0;
-          bits = λ k l. r .1 k l ∙ elim (ℕ-discrete k c) [
-            | yes e ↦ rw (eq-eqb k c e, or-true) (rw (e, eq-eqb (markAt run c) 2 z, lt-ltb c (c + 1) (omega arith)))
-            | no e ↦ rw (ne-eqb k c e, or-false) (w .bits k l ∙ more k e)
-          ];
-        }
-
-    pub match-skip : markAt run c ≢ 2 → WordsMatch (c + 1) run words
-    match-skip z =
-        record {
-          size = w .size;
-          bits = λ k l. w .bits k l ∙ elim (ℕ-discrete k c) [
-            | yes e ↦ rw (e, le-ltb c c (omega arith), ne-eqb (markAt run c) 2 z) (sym (and-false (ltb c (c + 1))))
-            | no e ↦ more k e
-          ];
-        }
+-- the empty set
+pub match-none : (run words : List ℕ) → length words ≡ 8 → Cleared words → WordsMatch 0 run words
+match-none run words s z = record { size = s; bits = λ k l. word-none words k (z (k / 64)) ∙ sym (rw (le-ltb k 0 (omega arith))) }
 
 -- a match that is kept: nothing changes, one more condition waits, and one change after another
 pub still-same : (n : ℕ) (run words : List ℕ) → length words ≡ 8 → StillMatches n run words run words

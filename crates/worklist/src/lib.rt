@@ -11,7 +11,7 @@ ghost use Rattle.page.specs.Lines.{EntryIn, lineNames};
 ghost use Rattle.index.specs.Groups.{Cleared};
 ghost use Rattle.index.specs.Parts.{MaybeUsers};
 ghost use Rattle.worklist.specs.Cells.{Lowest, DependantsMarked};
-ghost use Rattle.worklist.specs.Waiting.{WordsMatch, StillMatches};
+ghost use Rattle.worklist.specs.Waiting.{WordsMatch, StillMatches, Digits};
 ghost use Rattle.worklist.specs.Woken.{HeadsIn, HeadsWoken, SetKept};
 ghost use Rattle.worklist.specs.Marks.{marked};
 ghost use Rattle.worklist.specs.Evaluation.{stored};
@@ -31,16 +31,16 @@ fn cell_ok(run: &[u16], c: u16, top: u16) -> bool
     if top < high {
         return false;
     }
-    if 2 < mark {
-        return false;
+    match mark {
+        0 => {
+            if low != 0 {
+                return false;
+            }
+            high == top
+        }
+        1..=2 => true,
+        _ => false,
     }
-    if 0 < mark {
-        return true;
-    }
-    if low != 0 {
-        return false;
-    }
-    high == top
 }
 
 // Whether a run area is long enough and sound.
@@ -81,17 +81,35 @@ pub fn lowest_waiting(run: &[u16], n: u16) -> u16
     c
 }
 
+// The conditions from `from` up to `to` that wait, as digits from the lowest on. A mark is 0, 1 or 2, so its half is the digit.
+fn waiting_digits(run: &[u16], from: usize, to: usize) -> u64
+    requires { ⌜ (from ≤ to) × (to ≤ from + 64) × (3 * to ≤ length (now run)) × ((c : ℕ) → c < to → markAt (now run) c ≤ 2) ⌝ }
+    ensures { λ r. ⌜ Digits (now (run .entry)) from to r ⌝ }
+{
+    let mut x: u64 = 0;
+    let mut c = to;
+    while from < c {
+        c -= 1;
+        x = 2 * x + (run[3 * c + 2] / 2) as u64;
+    }
+    x
+}
+
 // The set of the conditions that wait.
 pub fn fill_words(run: &[u16], n: u16, words: &mut [u64])
-    requires { ⌜ (3 * n ≤ length (now run)) × (n ≤ 512) × (length (now words) ≡ 8) × Cleared (now words) ⌝ }
+    requires { ⌜ (3 * n ≤ length (now run)) × (n ≤ 512) × (length (now words) ≡ 8) × Cleared (now words) × ((c : ℕ) → c < n → markAt (now run) c ≤ 2) ⌝ }
     ensures { λ _. ⌜ WordsMatch n (now (run .entry)) (now (words .exit)) ⌝ }
 {
-    let mut c: u16 = 0;
-    while c < n {
-        if run[3 * c as usize + 2] == 2 {
-            bits::insert(words, c);
-        }
-        c += 1;
+    let limit = n as usize;
+    let mut w: usize = 0;
+    let mut from: usize = 0;
+    while from + 64 <= limit {
+        words[w] = waiting_digits(run, from, from + 64);
+        w += 1;
+        from += 64;
+    }
+    if from < limit {
+        words[w] = waiting_digits(run, from, limit);
     }
 }
 

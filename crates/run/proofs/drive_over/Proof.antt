@@ -3,7 +3,7 @@ use mathlib.Core.Path.{refl}
 use native.Mathlib.Omega.{arith}
 use Rattle.page.proofs.Head.{head-of}
 use Rattle.index.proofs.Parts.{cleared-zeros}
-use Rattle.worklist.proofs.Evaluation.{long-of, graded-of}
+use Rattle.worklist.proofs.Evaluation.{long-of, graded-of, marks-of}
 use borrow.Author.Needs.{needs}
 use Rattle.run.proofs.drive_over.Statement.{statement}
 use Rattle.run.proofs.drive_over.Tie as tie
@@ -27,7 +27,7 @@ slice-aggregate-fill-words : tie.Need-slice-aggregate-fill-words
 slice-aggregate-fill-words c = search needs
 
 fill-words-requires : tie.Need-fill-words-requires
-fill-words-requires c κs = (long-of (c .before .before .before .before .before .before .before .before .before .before .before .before .before .args .a .now) (c .before .before .before .before .before .before .before .before .before .before .before .before .before .args .run .now) (c .before .before .before .before .before .before .before .before .before .before .before .before .before .pre .1), head-of (c .before .before .before .before .before .before .before .before .before .before .before .before .before .args .a .now) (c .before .before .before .before .before .before .before .before .before .before .before .before .before .pre .0) .few, refl, cleared-zeros 8)
+fill-words-requires c κs = (long-of (c .before .before .before .before .before .before .before .before .before .before .before .before .before .args .a .now) (c .before .before .before .before .before .before .before .before .before .before .before .before .before .args .run .now) (c .before .before .before .before .before .before .before .before .before .before .before .before .before .pre .1), head-of (c .before .before .before .before .before .before .before .before .before .before .before .before .before .args .a .now) (c .before .before .before .before .before .before .before .before .before .before .before .before .before .pre .0) .few, refl, cleared-zeros 8, marks-of (c .before .before .before .before .before .before .before .before .before .before .before .before .before .args .a .now) (c .before .before .before .before .before .before .before .before .before .before .before .before .before .args .run .now) (c .before .before .before .before .before .before .before .before .before .before .before .before .before .pre .1))
 
 slice-aggregate-drive-steps : tie.Need-slice-aggregate-drive-steps
 slice-aggregate-drive-steps c = search needs

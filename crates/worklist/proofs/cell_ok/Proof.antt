@@ -45,23 +45,23 @@ returns-2 c =
 
 returns-3 : tie.Need-returns-3
 returns-3 c =
-    let z = c .before .before .before .before .before .before .args in
-    cell-marked (z .top) (intervalAt (z .run .now) (z .c)) (markAt (z .run .now) (z .c)) (omega arith) (omega arith) (omega arith)
+    let z = c .before .before .before .before .before .before .before .args in
+    cell-low (z .top) (intervalAt (z .run .now) (z .c)) (markAt (z .run .now) (z .c)) (omega arith) (omega arith) (omega arith) (omega arith) (omega arith)
 
 returns-4 : tie.Need-returns-4
 returns-4 c =
     let z = c .before .before .before .before .before .before .before .args in
-    cell-reached (z .top) (intervalAt (z .run .now) (z .c)) (markAt (z .run .now) (z .c)) (omega arith) (omega arith) (omega arith) (omega arith)
+    cell-high (z .top) (intervalAt (z .run .now) (z .c)) (markAt (z .run .now) (z .c)) (omega arith) (omega arith) (omega arith) (omega arith) (omega arith)
 
 returns-5 : tie.Need-returns-5
 returns-5 c =
-    let z = c .before .before .before .before .before .before .before .before .args in
-    cell-low (z .top) (intervalAt (z .run .now) (z .c)) (markAt (z .run .now) (z .c)) (omega arith) (omega arith) (omega arith) (omega arith) (omega arith)
+    let z = c .before .before .before .before .before .before .before .args in
+    cell-reached (z .top) (intervalAt (z .run .now) (z .c)) (markAt (z .run .now) (z .c)) (omega arith) (omega arith) (omega arith) (omega arith)
 
 returns-6 : tie.Need-returns-6
 returns-6 c =
-    let z = c .before .before .before .before .before .before .before .before .args in
-    cell-high (z .top) (intervalAt (z .run .now) (z .c)) (markAt (z .run .now) (z .c)) (omega arith) (omega arith) (omega arith) (omega arith) (omega arith)
+    let z = c .before .before .before .before .before .before .before .args in
+    cell-marked (z .top) (intervalAt (z .run .now) (z .c)) (markAt (z .run .now) (z .c)) (omega arith) (omega arith) (omega arith)
 
 pub cell-ok-spec : {M : Type 1} → statement M
 cell-ok-spec =

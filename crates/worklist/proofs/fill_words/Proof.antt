@@ -1,57 +1,74 @@
--- `worklist::fill_words` meets its contract. The loop's invariant: the set is that of the conditions passed that wait. Assumes nothing.
+-- `worklist::fill_words` meets its contract. The loop's invariant: the words before the word w hold who waits. Assumes nothing.
 use mathlib.Core.Path.{_≡_, sym, _∙_}
-use Prim.Native.Nat.{_-_, _≤_}
-use mathlib.Core.Logic.{⊎-elim}
+use mathlib.Core.Logic.{inl, inr}
+use Prim.Native.Nat.{_*_, _-_, _≤_}
 use native.Mathlib.Omega.{arith}
-use Rattle.worklist.specs.Waiting.{WordsMatch}
-use Rattle.worklist.proofs.Matching.{match-none, match-more, match-skip}
+use lib.ListN.{length-set}
+use Rattle.worklist.proofs.Matching.{match-none}
+use Rattle.worklist.proofs.Digits.{Filled, filled-none, filled-next, filled-last}
 use Rattle.worklist.proofs.fill_words.Statement.{statement}
 use Rattle.worklist.proofs.fill_words.Tie as tie
 
 abbrev Inv-loop : tie.InvT-loop
-Inv-loop run n words₀ c₀ words c = (c ≤ n) × WordsMatch c run words
+Inv-loop run n words₀ limit w₀ from₀ words w from = (from ≡ 64 * w) × (from ≤ n) × Filled n w run words
 
 abbrev μ-loop : tie.MeasureT-loop
-μ-loop run n words₀ c₀ words c = n - c
+μ-loop run n words₀ limit w₀ from₀ words w from = limit - from
 
 loop-holds : tie.Need-loop-holds Inv-loop μ-loop
-loop-holds c = let s = c .before .before in (omega arith, match-none (s .args .run .now) (s .args .words .now) (s .pre .2) (s .pre .3))
+loop-holds c = let s = c .before .before in (omega arith, omega arith, filled-none _ _ _ (match-none (s .args .run .now) (s .args .words .now) (s .pre .2) (s .pre .3)))
 
-cast-if1 : tie.Need-cast-if1 Inv-loop μ-loop
-cast-if1 c = omega arith
+add-loop : tie.Need-add-loop Inv-loop μ-loop
+add-loop c = omega arith
 
-mul-if1 : tie.Need-mul-if1 Inv-loop μ-loop
-mul-if1 c = omega arith
+add-waiting-digits : tie.Need-add-waiting-digits Inv-loop μ-loop
+add-waiting-digits c = omega arith
 
-add-if1 : tie.Need-add-if1 Inv-loop μ-loop
-add-if1 c = omega arith
+waiting-digits-requires : tie.Need-waiting-digits-requires Inv-loop μ-loop
+waiting-digits-requires c κs = (omega arith, omega arith, omega arith, λ d l. c .before .before .before .before .pre .4 d (omega arith))
 
-mul-if1-2 : tie.Need-mul-if1-2 Inv-loop μ-loop
-mul-if1-2 c = omega arith
+mul-words : tie.Need-mul-words Inv-loop μ-loop
+mul-words c = omega arith
 
-shared-slice-read-if1 : tie.Need-shared-slice-read-if1 Inv-loop μ-loop
-shared-slice-read-if1 c = omega arith
+slice-write-words : tie.Need-slice-write-words Inv-loop μ-loop
+slice-write-words c = omega (arith, c .before .before .loop .inv .2 .size)
 
-insert-requires : tie.Need-insert-requires Inv-loop μ-loop
-insert-requires c κs = let s = c .before .before .before .before .before .before .before in let l = c .before .before .before .before .loop in (l .inv .1 .size, omega (arith, s .pre .1))
+add-w : tie.Need-add-w Inv-loop μ-loop
+add-w c = omega arith
 
-add-c : tie.Need-add-c Inv-loop μ-loop
-add-c c = omega arith
+add-from : tie.Need-add-from Inv-loop μ-loop
+add-from c = omega arith
 
 loop-less : tie.Need-loop-less Inv-loop μ-loop
 loop-less c = omega arith
 
 loop-again : tie.Need-loop-again Inv-loop μ-loop
 loop-again c =
-    let m = c .before .before .before .loop .inv .1 in
-    ⊎-elim (λ w. (omega arith, rw (w .5) (match-more _ m (w .2 .ensures) (w .0 .taken)))) (λ w. (omega arith, rw (w .1) (match-skip _ m (w .0 .left))))
-    (c .if1 .came)
+    let i = c .before .before .loop .inv in
+    (omega arith, omega arith, filled-next (i .2) (omega arith) (rw (i .0) at (c .waiting-digits .ensures)) (omega arith) (omega arith) (inl (omega arith)))
+
+waiting-digits-requires-2 : tie.Need-waiting-digits-requires-2 Inv-loop μ-loop
+waiting-digits-requires-2 c κs = (omega arith, omega arith, c .before .before .before .before .before .pre .0, c .before .before .before .before .before .pre .4)
+
+mul-words-2 : tie.Need-mul-words-2 Inv-loop μ-loop
+mul-words-2 c = omega arith
+
+slice-write-words-2 : tie.Need-slice-write-words-2 Inv-loop μ-loop
+slice-write-words-2 c = omega (arith, c .before .before .before .loop .inv .2 .size)
 
 same-length : tie.Need-same-length Inv-loop μ-loop
-same-length c = let s = c .before .before .before .before in c .before .loop .inv .1 .size ∙ sym (s .pre .2)
+same-length c = length-set (c .before .before .before .loop .words) (c .before .before .before .loop .w) (c .waiting-digits2 .result) ∙ c .before .before .before .loop .inv .2 .size ∙ sym (c .before .before .before .before .before .before .pre .2)
 
 returns : tie.Need-returns Inv-loop μ-loop
-returns c = let e : c .before .loop .c ≡ c .before .before .before .before .args .n = omega arith in rw e at (c .before .loop .inv .1)
+returns c =
+    let i = c .before .before .before .loop .inv in
+    filled-last (filled-next (i .2) (omega arith) (rw (i .0) at (c .waiting-digits2 .ensures)) (omega arith) (omega arith) (inr (omega arith))) (omega arith)
+
+same-length-2 : tie.Need-same-length-2 Inv-loop μ-loop
+same-length-2 c = c .before .before .loop .inv .2 .size ∙ sym (c .before .before .before .before .before .pre .2)
+
+returns-2 : tie.Need-returns-2 Inv-loop μ-loop
+returns-2 c = filled-last (c .before .before .loop .inv .2) (omega arith)
 
 pub fill-words-spec : {M : Type 1} → statement M
 fill-words-spec =
@@ -60,14 +77,19 @@ fill-words-spec =
     Inv-loop
     μ-loop
     loop-holds
-    cast-if1
-    mul-if1
-    add-if1
-    mul-if1-2
-    shared-slice-read-if1
-    insert-requires
-    add-c
+    add-loop
+    add-waiting-digits
+    waiting-digits-requires
+    mul-words
+    slice-write-words
+    add-w
+    add-from
     loop-less
     loop-again
+    waiting-digits-requires-2
+    mul-words-2
+    slice-write-words-2
     same-length
-    returns)
+    returns
+    same-length-2
+    returns-2)
