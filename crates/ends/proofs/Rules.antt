@@ -9,7 +9,7 @@ use Rattle.semantics.specs.Area.{sound, topOf, conditionsOf}
 use Rattle.page.specs.Graded.{RuleAt}
 use Rattle.value.specs.LineEnds as one
 use Rattle.value.proofs.RuleEnds.{rest, rest-code, code-under, foldable}
-use Rattle.ends.specs.Mirror.{flip, mirrored, Mirrored, Foldable}
+use Rattle.ends.specs.Mirror.{flip, mirrored, Mirrored, BothFoldable}
 use Rattle.ends.proofs.Mirrors.{flip-below, mirrored-at}
 
 module _ (a values : List ℕ) (at : ℕ) (ok : sound a ≡ true) (g : Mirrored (topOf a) (conditionsOf a) values) (r : RuleAt (topOf a) (conditionsOf a) a at) where
@@ -35,7 +35,7 @@ module _ (a values : List ℕ) (at : ℕ) (ok : sound a ≡ true) (g : Mirrored 
     pub first-high : h ≡ getD (mirrored (topOf a) values) code 0
     first-high = q ∙ sym (mirrored-at (topOf a) values code first-in)
 
-    pub ends-foldable : Foldable (topOf a) (rest a values at r) values (getD values code 0) h
+    pub ends-foldable : BothFoldable (topOf a) (rest a values at r) values (getD values code 0) h
     ends-foldable =
         record {
           low = foldable a values at r ok (g .low);

@@ -23,7 +23,7 @@ pub record Mirrored (top n : ℕ) (values : List ℕ) : Type 0 where
   pub high : Grades top n (mirrored top values)
 
 -- what a fold over literals requires of both ends
-pub record Foldable (top : ℕ) (codes values : List ℕ) (first-low first-high : ℕ) : Type 0 where
+pub record BothFoldable (top : ℕ) (codes values : List ℕ) (first-low first-high : ℕ) : Type 0 where
   pub low : one.Foldable top codes values first-low
   pub high : one.Foldable top codes (mirrored top values) first-high
   pub room : (j : ℕ) → j < length codes → flip (getD codes j 0) < length values

@@ -1,16 +1,17 @@
 -- An op over the numbers of literals, in the code's own terms: the state of the loop, one turn of it, and its end. One law for all ops.
 -- Assumes nothing.
-use mathlib.Core.Path.{_≡_, refl, sym, _∙_, subst}
+use mathlib.Core.Path.{_≡_, refl, sym, _∙_, ap, subst}
 use mathlib.Core.List.{List, [], _∷_, foldl}
-use Prim.Native.Nat.{ℕ, suc, _+_, _-_, _≤_, _<_, min, max}
+use Prim.Native.Nat.{ℕ, suc, _+_, _*_, _-_, _≤_, _<_, min, max}
 use native.Mathlib.Numerals.{add-one}
 use native.Mathlib.Omega.{arith}
 use lib.ListN.{length, getD, drop, drop-of-length-le}
 use lib.Seq.{drop-cons}
 use Rattle.semantics.specs.Area.{kind, ruleKind}
-use Rattle.semantics.specs.Grade.{End, Op, M, X, L, B, P, combine}
+use Rattle.semantics.specs.Grade.{End, Op, M, X, L, B, P, combine, divided}
 use Rattle.semantics.proofs.Ops.{combine-bounded}
-use Rattle.value.specs.LineEnds.{numbersOf, Foldable, Folded, excess, bounded, product}
+use Rattle.page.proofs.Scan.{rule-kind}
+use Rattle.value.specs.LineEnds.{numbersOf, Foldable, Folded}
 
 module _ (f : ℕ → ℕ → ℕ) (codes values : List ℕ) (first : ℕ) where
   -- the state after j literals
@@ -35,33 +36,61 @@ module _ (top : ℕ) (op : Op) (e : End) (values : List ℕ) where
   fold-bounded (c ∷ cs) first l g =
       fold-bounded cs (combine top op e first (getD values c 0)) (combine-bounded top op e l (g 0 (omega arith))) (λ j h. g (suc j) (omega arith))
 
--- what each kind's fold gives is what the op of the kind gives
-module _ (top k : ℕ) (e : End) (codes values : List ℕ) (first r : ℕ) where
-  abbrev OfKind : Type 0
-  OfKind = (op : Op) → kind k ≡ ruleKind op → Folded (combine top op e) codes values first r
+-- and so does what an op makes of the numbers
+pub folded-in : (top : ℕ) (e : End) (codes values : List ℕ) (first r : ℕ) → Foldable top codes values first → (op : Op) → Folded (combine top op e) codes values first r → r ≤ top
+folded-in top e codes values first r w op h = rw (h .is) (fold-bounded top op e values codes first (w .start) (w .grades))
 
-  folded-as : (o : Op) → kind k ≡ ruleKind o → Folded (combine top o e) codes values first r → OfKind
-  folded-as o h f op h′ = let s : o ≡ op = cc in subst (λ (x : Op). Folded (combine top x e) codes values first r) s f
+-- the number that each kind's case gives is that of its op
+module _ (top k p q : ℕ) (e : End) where
+  abbrev pub OfKind : ℕ → Type 0
+  OfKind r = (op : Op) → kind k ≡ ruleKind op → r ≡ combine top op e p q
 
-  pub folded-m : k ≡ 1 → Folded min codes values first r → OfKind
+  kind-is : (o : Op) {r : ℕ} → kind k ≡ ruleKind o → r ≡ combine top o e p q → OfKind r
+  kind-is o {r} h f op h′ = let s : o ≡ op = cc in subst (λ (x : Op). r ≡ combine top x e p q) s f
+
+  pub combine-m : {r : ℕ} → k ≡ 1 → r ≡ min p q → OfKind r
   unfolding kind combine
-  folded-m h = folded-as M (rw h)
+  combine-m h f = kind-is M (rw h) f
 
-  pub folded-x : k ≡ 2 → Folded max codes values first r → OfKind
+  pub combine-x : {r : ℕ} → k ≡ 2 → r ≡ max p q → OfKind r
   unfolding kind combine
-  folded-x h = folded-as X (rw h)
+  combine-x h f = kind-is X (rw h) f
 
-  pub folded-l : k ≡ 3 → Folded (excess top) codes values first r → OfKind
+  pub combine-l : {s : ℕ} → k ≡ 3 → s ≡ max (p + q) top → OfKind (s - top)
   unfolding kind combine
-  folded-l h = folded-as L (rw h)
+  combine-l h f = kind-is L (rw h) (omega arith)
 
-  pub folded-b : k ≡ 4 → Folded (bounded top) codes values first r → OfKind
+  pub combine-b : {r : ℕ} → k ≡ 4 → r ≡ min (p + q) top → OfKind r
   unfolding kind combine
-  folded-b h = folded-as B (rw h)
+  combine-b h f = kind-is B (rw h) (omega arith)
 
-  pub folded-p : k ≡ 5 → Folded (product e top) codes values first r → OfKind
+  pub combine-p : {r : ℕ} → k ≡ 5 → r ≡ divided e (p * q) top → OfKind r
   unfolding kind combine
-  folded-p h = folded-as P (rw h)
+  combine-p h f = kind-is P (rw h) f
 
-  pub folded-in : Foldable top codes values first → (op : Op) → Folded (combine top op e) codes values first r → r ≤ top
-  folded-in w op h = rw (h .is) (fold-bounded top op e values codes first (w .start) (w .grades))
+-- the op of the kind k over literals
+module _ (codes : List ℕ) (k : ℕ) (values : List ℕ) (top first : ℕ) (e : End) where
+  -- the state after j literals
+  pub record FoldingKind (r j : ℕ) : Type 0 where
+    pub ready : Foldable top codes values first
+    pub least : 1 ≤ k
+    pub most : k ≤ 5
+    pub grade : r ≤ top
+    pub is : (op : Op) → kind k ≡ ruleKind op → Folding (combine top op e) codes values first r j
+
+  pub kind-first : Foldable top codes values first → 1 ≤ k → k ≤ 5 → FoldingKind first 0
+  kind-first f l h = record { ready = f; least = l; most = h; grade = f .start; is = λ op z. folding-first _ _ _ _ }
+
+  pub kind-next : {r j r′ q : ℕ} → FoldingKind r j → j < length codes → q ≡ getD values (getD codes j 0) 0 → OfKind top k r q e r′ → FoldingKind r′ (j + 1)
+  kind-next {r} {j} {r′} {q} s l d f =
+      let o = rule-kind k (s .least) (s .most) in
+      record {
+        ready = s .ready;
+        least = s .least;
+        most = s .most;
+        grade = rw (f (o .0) (o .1)) (combine-bounded top (o .0) e (s .grade) (omega (arith, s .ready .grades j l)));
+        is = λ op z. folding-next _ _ _ _ (s .is op z) l (f op z ∙ ap (combine top op e r) d);
+      }
+
+  pub kind-last : {r j : ℕ} → FoldingKind r j → length codes ≤ j → (op : Op) → kind k ≡ ruleKind op → Folded (combine top op e) codes values first r
+  kind-last s l op z = folding-last _ _ _ _ (s .is op z) l

@@ -106,7 +106,7 @@ module _ (a values : List ℕ) (at : ℕ) (r : RuleAt (topOf a) (conditionsOf a)
     pub fold-in : x ≤ topOf a
     fold-in =
         let o = rule-kind (getD a (at + 1) 0) l u in
-        folded-in (topOf a) (getD a (at + 1) 0) e rest values (getD values code 0) x (foldable ok g) (o .0) (h (o .0) (o .1))
+        folded-in (topOf a) e rest values (getD values code 0) x (foldable ok g) (o .0) (h (o .0) (o .1))
 
     pub rule-end-is : {v : ℕ} → v ≡ divided e (x * getD a (at + 2) 0) (topOf a) → RuleEnd e a values at v
     rule-end-is {v} q =

@@ -9,7 +9,7 @@ ghost use Rattle.semantics.specs.Grade.{Op, combine, divided};
 ghost use Rattle.page.specs.Graded.{RuleAt};
 ghost use Rattle.page.specs.Places.{LineOf};
 ghost use Rattle.value.specs.Table.{side, Grades};
-ghost use Rattle.value.specs.LineEnds.{Listed, Foldable, Folded, excess, bounded, product, RuleEnd, LineEnd};
+ghost use Rattle.value.specs.LineEnds.{Foldable, Folded, RuleEnd, LineEnd};
 
 // An end of an interval.
 pub enum End {
@@ -58,96 +58,32 @@ pub fn divided(x: u16, top: u16, end: End) -> u16
     x / top
 }
 
-// M over the numbers of literals: the smallest.
-fn fold_smallest(codes: &[u16], values: &[u16], first: u16) -> u16
-    requires { ⌜ Listed (now codes) (now values) ⌝ }
-    ensures { λ r. ⌜ Folded min (now (codes .entry)) (now (values .entry)) first r ⌝ }
+// What the op of the kind k makes of two grades, at one end: 1 to 5 are M, X, L, B, P.
+pub fn combine(k: u16, p: u16, q: u16, top: u16, end: End) -> u16
+    requires { ⌜ (1 ≤ k) × (k ≤ 5) × (1 ≤ top) × (top ≤ 200) × (p ≤ top) × (q ≤ top) ⌝ }
+    ensures { λ r. ⌜ ((op : Op) → kind k ≡ ruleKind op → r ≡ combine top op (side end) p q) ⌝ }
 {
-    let mut r = first;
-    let mut j: usize = 0;
-    while j < codes.len() {
-        let q = values[codes[j] as usize];
-        r = minimum(r, q);
-        j += 1;
+    match k {
+        1 => minimum(p, q),
+        2 => maximum(p, q),
+        3 => maximum(p + q, top) - top,
+        4 => minimum(p + q, top),
+        _ => divided(p * q, top, end),
     }
-    r
 }
 
-// X: the largest.
-fn fold_largest(codes: &[u16], values: &[u16], first: u16) -> u16
-    requires { ⌜ Listed (now codes) (now values) ⌝ }
-    ensures { λ r. ⌜ Folded max (now (codes .entry)) (now (values .entry)) first r ⌝ }
-{
-    let mut r = first;
-    let mut j: usize = 0;
-    while j < codes.len() {
-        let q = values[codes[j] as usize];
-        r = maximum(r, q);
-        j += 1;
-    }
-    r
-}
-
-// L: what a sum has over top.
-fn fold_excess(codes: &[u16], values: &[u16], first: u16, top: u16) -> u16
-    requires { ⌜ Foldable top (now codes) (now values) first ⌝ }
-    ensures { λ r. ⌜ Folded (excess top) (now (codes .entry)) (now (values .entry)) first r ⌝ }
-{
-    let mut r = first;
-    let mut j: usize = 0;
-    while j < codes.len() {
-        let q = values[codes[j] as usize];
-        r = maximum(r + q, top) - top;
-        j += 1;
-    }
-    r
-}
-
-// B: the sum, at most top.
-fn fold_bounded(codes: &[u16], values: &[u16], first: u16, top: u16) -> u16
-    requires { ⌜ Foldable top (now codes) (now values) first ⌝ }
-    ensures { λ r. ⌜ Folded (bounded top) (now (codes .entry)) (now (values .entry)) first r ⌝ }
-{
-    let mut r = first;
-    let mut j: usize = 0;
-    while j < codes.len() {
-        let q = values[codes[j] as usize];
-        r = minimum(r + q, top);
-        j += 1;
-    }
-    r
-}
-
-// P: the product divided by top.
-fn fold_product(codes: &[u16], values: &[u16], first: u16, top: u16, end: End) -> u16
-    requires { ⌜ Foldable top (now codes) (now values) first ⌝ }
-    ensures { λ r. ⌜ Folded (product (side end) top) (now (codes .entry)) (now (values .entry)) first r ⌝ }
-{
-    let mut r = first;
-    let mut j: usize = 0;
-    while j < codes.len() {
-        let q = values[codes[j] as usize];
-        r = divided(r * q, top, end);
-        j += 1;
-    }
-    r
-}
-
-// The op of the kind k over the numbers of literals: 1 to 5 are M, X, L, B, P. With none there is nothing to choose.
+// The op of the kind k over the numbers of literals, from left to right.
 fn fold_literals(codes: &[u16], k: u16, values: &[u16], first: u16, top: u16, end: End) -> u16
     requires { ⌜ Foldable top (now codes) (now values) first × (1 ≤ k) × (k ≤ 5) ⌝ }
     ensures { λ r. ⌜ ((op : Op) → kind k ≡ ruleKind op → Folded (combine top op (side end)) (now (codes .entry)) (now (values .entry)) first r) ⌝ }
 {
-    if codes.len() < 1 {
-        return first;
+    let mut r = first;
+    let mut j: usize = 0;
+    while j < codes.len() {
+        r = combine(k, r, values[codes[j] as usize], top, end);
+        j += 1;
     }
-    match k {
-        1 => fold_smallest(codes, values, first),
-        2 => fold_largest(codes, values, first),
-        3 => fold_excess(codes, values, first, top),
-        4 => fold_bounded(codes, values, first, top),
-        _ => fold_product(codes, values, first, top, end),
-    }
+    r
 }
 
 // One end of the value of the rule at `at`: its op over its literals' numbers from left to right, then its weight.

@@ -1,55 +1,66 @@
--- `fold_literals` chooses the fold of the op.
+-- `fold_literals`: the op of the kind, literal by literal (`FoldingKind`).
+use mathlib.Core.Path.{refl}
+use Prim.Native.Nat.{_-_}
 use native.Mathlib.Omega.{arith}
-use borrow.Author.Needs.{needs}
-use Rattle.value.proofs.Folds.{folding-first, folding-last, folded-m, folded-x, folded-l, folded-b, folded-p}
+use lib.ListN.{length}
+use Rattle.value.specs.Table.{side}
+use Rattle.value.proofs.Folds.{FoldingKind, kind-first, kind-next, kind-last}
 use Rattle.value.proofs.fold_literals.Statement.{statement}
 use Rattle.value.proofs.fold_literals.Tie as tie
 
-returns : tie.Need-returns
-returns c = λ op k. folding-last _ _ _ _ (folding-first _ _ _ _) (omega arith)
+abbrev Inv-loop : tie.InvT-loop
+Inv-loop codes k values first top end r₀ j₀ r j = FoldingKind codes k values top first (side end) r j
 
-fold-smallest-requires : tie.Need-fold-smallest-requires
-fold-smallest-requires c κs = search needs
+abbrev μ-loop : tie.MeasureT-loop
+μ-loop codes k values first top end r₀ j₀ r j = length codes - j
 
-fold-largest-requires : tie.Need-fold-largest-requires
-fold-largest-requires c κs = search needs
+loop-holds : tie.Need-loop-holds Inv-loop μ-loop
+loop-holds c = let s = c .before .before in kind-first _ _ _ _ _ _ (s .pre .0) (s .pre .1) (s .pre .2)
 
-fold-excess-requires : tie.Need-fold-excess-requires
-fold-excess-requires c κs = search needs
+mul-combine : tie.Need-mul-combine Inv-loop μ-loop
+mul-combine c = omega arith
 
-fold-bounded-requires : tie.Need-fold-bounded-requires
-fold-bounded-requires c κs = search needs
+shared-slice-read-combine : tie.Need-shared-slice-read-combine Inv-loop μ-loop
+shared-slice-read-combine c = omega arith
 
-fold-product-requires : tie.Need-fold-product-requires
-fold-product-requires c κs = search needs
+cast-combine : tie.Need-cast-combine Inv-loop μ-loop
+cast-combine c = omega (arith, c .before .before .loop .inv .ready .listed (c .before .before .loop .j) (omega arith), c .before .before .before .before .before .good)
 
-returns-2 : tie.Need-returns-2
-returns-2 c = folded-m _ _ _ _ _ _ _ (omega arith) (c .fold-smallest .ensures)
+mul-combine-2 : tie.Need-mul-combine-2 Inv-loop μ-loop
+mul-combine-2 c = omega (arith, c .before .before .loop .inv .ready .listed (c .before .before .loop .j) (omega arith), c .before .before .before .before .before .good)
 
-returns-3 : tie.Need-returns-3
-returns-3 c = folded-x _ _ _ _ _ _ _ (omega arith) (c .fold-largest .ensures)
+shared-slice-read-combine-2 : tie.Need-shared-slice-read-combine-2 Inv-loop μ-loop
+shared-slice-read-combine-2 c = c .before .before .before .loop .inv .ready .listed (c .before .before .before .loop .j) (omega arith)
 
-returns-4 : tie.Need-returns-4
-returns-4 c = folded-l _ _ _ _ _ _ _ (omega arith) (c .fold-excess .ensures)
+combine-requires : tie.Need-combine-requires Inv-loop μ-loop
+combine-requires c κs = let s = c .before .before .before .loop .inv in (s .least, s .most, s .ready .some, s .ready .small, s .grade, s .ready .grades (c .before .before .before .loop .j) (omega arith))
 
-returns-5 : tie.Need-returns-5
-returns-5 c = folded-b _ _ _ _ _ _ _ (omega arith) (c .fold-bounded .ensures)
+add-j : tie.Need-add-j Inv-loop μ-loop
+add-j c = omega arith
 
-returns-6 : tie.Need-returns-6
-returns-6 c = folded-p _ _ _ _ _ _ _ (omega arith) (c .fold-product .ensures)
+loop-less : tie.Need-loop-less Inv-loop μ-loop
+loop-less c = omega arith
+
+loop-again : tie.Need-loop-again Inv-loop μ-loop
+loop-again c = kind-next _ _ _ _ _ _ (c .before .before .before .before .loop .inv) (omega arith) refl (c .combine .ensures)
+
+returns : tie.Need-returns Inv-loop μ-loop
+returns c = kind-last _ _ _ _ _ _ (c .before .loop .inv) (omega arith)
 
 pub fold-literals-spec : {M : Type 1} → statement M
 fold-literals-spec =
     tie.close
     (tie.spec
-    returns
-    fold-smallest-requires
-    fold-largest-requires
-    fold-excess-requires
-    fold-bounded-requires
-    fold-product-requires
-    returns-2
-    returns-3
-    returns-4
-    returns-5
-    returns-6)
+    Inv-loop
+    μ-loop
+    loop-holds
+    mul-combine
+    shared-slice-read-combine
+    cast-combine
+    mul-combine-2
+    shared-slice-read-combine-2
+    combine-requires
+    add-j
+    loop-less
+    loop-again
+    returns)
