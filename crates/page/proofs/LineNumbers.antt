@@ -14,7 +14,7 @@ use Rattle.fixpoint.specs.Interval.{Interval, Assign}
 use Rattle.semantics.specs.Area.{Kind, factKind, ruleKind, queryKind, noKind, kind, lineAs, lineAt, literalOf, sound, topOf, conditionsOf, countOf, usedOf}
 use Rattle.semantics.specs.Body.{ruleValue, onlyIf, lineBody}
 use Rattle.semantics.specs.Page.{Line, fact, rule, query}
-use Rattle.page.specs.Graded.{RuleAt, EntryAt}
+use Rattle.page.specs.Graded.{RuleAt, SoundEntry}
 use Rattle.page.proofs.Scan.{line-at, entry-four, fact-kind, rule-kind, over-five}
 use Rattle.page.proofs.Scanning.{Scanning, linesLeft, scanning-first, scanning-next, entry-ok, lines-on}
 use Rattle.page.proofs.Entries.{rule-at}
@@ -35,7 +35,7 @@ module _ (a : List ℕ) (ok : sound a ≡ true) where
       (lines-on a (scanning-at k (omega arith)) l)
 
   -- the entry of an F or R line passes its tests
-  pub entry-at : {c at : ℕ} → LineOf a c at → EntryAt (topOf a) (conditionsOf a) (usedOf a - at) a at
+  pub entry-at : {c at : ℕ} → LineOf a c at → SoundEntry (topOf a) (conditionsOf a) (usedOf a - at) a at
   entry-at {c} {at} s =
       let h : Scanning a at (s .number) = rw (s .place) (scanning-at (s .number) (omega (arith, s .in-count))) in
       let e = entry-ok a h (s .in-count) in

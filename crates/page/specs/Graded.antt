@@ -26,7 +26,7 @@ pub record RuleAt (top n : ℕ) (a : List ℕ) (at : ℕ) : Type 0 where
   pub literals : allUnder (2 * n) (take (getD a (at + 3) 0) (drop (at + 4) a)) ≡ true
 
 -- The entry at a place passes every test of soundness, within the next `left` numbers.
-pub record EntryAt (top n left : ℕ) (a : List ℕ) (at : ℕ) : Type 0 where
+pub record SoundEntry (top n left : ℕ) (a : List ℕ) (at : ℕ) : Type 0 where
   pub fits : at + left ≤ length a
   pub four : 4 ≤ left
   pub tests : every (lineTests top n left (drop at a)) ≡ true
