@@ -2,7 +2,7 @@
 ghost use mathlib.Core.Path.{_≡_};
 ghost use mathlib.Core.Bool.{true, false};
 ghost use Prim.Native.Nat.{_<_};
-ghost use lib.ListN.{length};
+ghost use lib.ListN.{getD};
 ghost use Rattle.semantics.specs.Area.{sound, topOf, conditionsOf};
 ghost use Rattle.ends.specs.Mirror.{Mirrored};
 ghost use Rattle.index.specs.Groups.{LinesByHead};
@@ -28,14 +28,11 @@ fn no_line() -> Best
     }
 }
 
-// The line at `at` is taken in if it is an F or R line of c.
-fn take_line(a: &[u16], at: usize, values: &[u8], c: u16, best: Best) -> Best
+// The line at `at` is taken in if it is an F or R line.
+fn take_line(a: &[u16], at: usize, values: &[u8], best: Best) -> Best
     requires { ⌜ (sound (now a) ≡ true) × Mirrored (topOf (now a)) (conditionsOf (now a)) (now values) × LineIn (now a) at ⌝ }
-    ensures { λ r. ⌜ Taken (now (a .entry)) (now (values .entry)) c at (best .found) (best .low) (best .high) (r .found) (r .low) (r .high) ⌝ }
+    ensures { λ r. ⌜ Taken (now (a .entry)) (now (values .entry)) (getD (now (a .entry)) at 0) at (best .found) (best .low) (best .high) (r .found) (r .low) (r .high) ⌝ }
 {
-    if a[at] != c {
-        return best;
-    }
     if 5 < a[at + 1] {
         return best;
     }
@@ -58,7 +55,7 @@ fn by_scan(a: &[u16], values: &[u8], c: u16) -> Best
     while line.passed < count {
         let at = line.at;
         if a[at] == c {
-            best = take_line(a, at, values, c, best);
+            best = take_line(a, at, values, best);
         }
         line = line.next(a);
     }
@@ -75,7 +72,7 @@ fn by_group(a: &[u16], first: &[u16], places: &[u16], values: &[u8], c: u16) -> 
     let end = first[group + 1] as usize;
     let mut best = no_line();
     while i < end {
-        best = take_line(a, places[i] as usize, values, c, best);
+        best = take_line(a, places[i] as usize, values, best);
         i += 1;
     }
     best

@@ -59,7 +59,15 @@ loop-less : tie.Need-loop-less Inv-loop μ-loop
 loop-less c = omega arith
 
 loop-again : tie.Need-loop-again Inv-loop μ-loop
-loop-again c = (omega (arith, c .before .before .before .loop .inv .0), omega arith, gathering-next _ _ _ (c .before .before .before .before .before .before .before .before .before .before .before .pre .0) (Grouped (c .before .before .before .before .before .before .before .before .before .before .before .args .places .now) (getD (c .before .before .before .before .before .before .before .before .before .before .before .args .first .now) (c .before .before .before .before .before .before .before .before .before .before .before .args .c) 0) (c .before .before .before .loop .i + 1)) (c .before .before .before .loop .inv .2) (c .take-line .ensures) (grouped-more (c .before .before .before .before .before .before .before .before .before .before .before .args .places .now) (getD (c .before .before .before .before .before .before .before .before .before .before .before .args .first .now) (c .before .before .before .before .before .before .before .before .before .before .before .args .c) 0) (c .before .before .before .loop .i)))
+loop-again c =
+    let z = c .before .before .before .before .before .before .before .before .before .before .before in
+    let s = c .before .before .before .loop in
+    let from = getD (z .args .first .now) (z .args .c) 0 in
+    let o = z .pre .2 .only (z .args .c) (s .i) (z .pre .3) (s .inv .0) (omega arith) in (
+      omega (arith, s .inv .0),
+      omega arith,
+      gathering-next _ _ _ (z .pre .0) (Grouped (z .args .places .now) from (s .i + 1)) (s .inv .2) (rw (o .head) at (c .take-line .ensures)) (grouped-more (z .args .places .now) from (s .i)),
+    )
 
 returns : tie.Need-returns Inv-loop μ-loop
 returns c = gathering-last _ _ _ (c .before .loop .inv .2) (grouped-all _ (c .before .before .before .before .before .before .before .before .before .args .first .now) _ _ _ (c .before .before .before .before .before .before .before .before .before .pre .2) (c .before .before .before .before .before .before .before .before .before .pre .3) (omega arith))

@@ -43,7 +43,7 @@ loop-less : tie.Need-loop-less Inv-loop μ-loop
 loop-less c = omega (arith, c .next .ensures .count)
 
 loop-again : tie.Need-loop-again Inv-loop μ-loop
-loop-again c = let n = c .next .ensures in let g = c .before .before .before .before .before .loop .inv .2 in (place-next _ (c .before .before .before .before .before .loop .inv .0) n, omega (arith, n .count), rw (n .count) (⊎-elim (λ w. rw (w .2) (gathering-next _ _ _ (c .before .before .before .before .before .before .before .before .before .before .before .pre .0) (Passed (c .before .before .before .before .before .before .before .before .before .before .before .args .a .now) (c .before .before .before .before .before .loop .line .passed + 1)) g (w .1 .ensures) (passed-more _ _ (c .before .before .before .before .before .loop .inv .0)))) (λ w. rw (w .1) (gathering-skip _ _ _ (Passed (c .before .before .before .before .before .before .before .before .before .before .before .args .a .now) (c .before .before .before .before .before .loop .line .passed + 1)) g (w .0 .left) (passed-more _ _ (c .before .before .before .before .before .loop .inv .0)))) (c .before .if2 .came)))
+loop-again c = let n = c .next .ensures in let g = c .before .before .before .before .before .loop .inv .2 in (place-next _ (c .before .before .before .before .before .loop .inv .0) n, omega (arith, n .count), rw (n .count) (⊎-elim (λ w. rw (w .2) (gathering-next _ _ _ (c .before .before .before .before .before .before .before .before .before .before .before .pre .0) (Passed (c .before .before .before .before .before .before .before .before .before .before .before .args .a .now) (c .before .before .before .before .before .loop .line .passed + 1)) g (rw (w .0 .taken) at (w .1 .ensures)) (passed-more _ _ (c .before .before .before .before .before .loop .inv .0)))) (λ w. rw (w .1) (gathering-skip _ _ _ (Passed (c .before .before .before .before .before .before .before .before .before .before .before .args .a .now) (c .before .before .before .before .before .loop .line .passed + 1)) g (w .0 .left) (passed-more _ _ (c .before .before .before .before .before .loop .inv .0)))) (c .before .if2 .came)))
 
 returns : tie.Need-returns Inv-loop μ-loop
 returns c = gathering-last _ _ _ (c .before .before .loop .inv .2) (passed-all _ _ _ (omega arith))

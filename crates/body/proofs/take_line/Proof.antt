@@ -7,6 +7,9 @@ use borrow.Author.Needs.{needs}
 use Rattle.body.proofs.take_line.Statement.{statement}
 use Rattle.body.proofs.take_line.Tie as tie
 
+add-if1 : tie.Need-add-if1
+add-if1 c = let e = here-entry (c .before .before .args .a .now) (c .before .before .pre .0) (c .before .before .pre .2) in omega arith
+
 mul-if1 : tie.Need-mul-if1
 mul-if1 c = let e = here-entry (c .before .before .args .a .now) (c .before .before .pre .0) (c .before .before .pre .2) in omega arith
 
@@ -14,22 +17,10 @@ shared-slice-read-if1 : tie.Need-shared-slice-read-if1
 shared-slice-read-if1 c = let e = here-entry (c .before .before .before .args .a .now) (c .before .before .before .pre .0) (c .before .before .before .pre .2) in omega arith
 
 returns : tie.Need-returns
-returns c = inl (record { not-here = λ o. c .if1 .taken (o .head); found-same = refl; low-same = refl; high-same = refl })
-
-add-if2 : tie.Need-add-if2
-add-if2 c = let e = here-entry (c .before .before .before .before .args .a .now) (c .before .before .before .before .pre .0) (c .before .before .before .before .pre .2) in omega arith
-
-mul-if2 : tie.Need-mul-if2
-mul-if2 c = let e = here-entry (c .before .before .before .before .args .a .now) (c .before .before .before .before .pre .0) (c .before .before .before .before .pre .2) in omega arith
-
-shared-slice-read-if2 : tie.Need-shared-slice-read-if2
-shared-slice-read-if2 c = let e = here-entry (c .before .before .before .before .before .args .a .now) (c .before .before .before .before .before .pre .0) (c .before .before .before .before .before .pre .2) in omega arith
-
-returns-2 : tie.Need-returns-2
-returns-2 c = inl (record { not-here = λ o. omega (arith, o .body, c .if2 .taken); found-same = refl; low-same = refl; high-same = refl })
+returns c = inl (record { not-here = λ o. omega (arith, o .body, c .if1 .taken); found-same = refl; low-same = refl; high-same = refl })
 
 line-ends-requires : tie.Need-line-ends-requires
-line-ends-requires c κs = (c .before .before .before .before .before .before .pre .0, c .before .before .before .before .before .before .pre .1, here-line (c .before .before .before .before .before .before .pre .2) refl (omega arith))
+line-ends-requires c κs = (c .before .before .before .before .pre .0, c .before .before .before .before .pre .1, here-line (c .before .before .before .before .pre .2) refl (omega arith))
 
 maximum-requires : tie.Need-maximum-requires
 maximum-requires c κs = search needs
@@ -37,21 +28,21 @@ maximum-requires c κs = search needs
 maximum-requires-2 : tie.Need-maximum-requires-2
 maximum-requires-2 c κs = search needs
 
-returns-3 : tie.Need-returns-3
-returns-3 c = inr (record { here = here-line (c .before .before .before .before .before .before .before .before .before .pre .2) (omega arith) (omega arith); found = refl; low-end = c .before .before .line-ends .result .low; low-is = c .before .before .line-ends .ensures .0; low-most = c .before .maximum .ensures; high-end = c .before .before .line-ends .result .high; high-is = c .before .before .line-ends .ensures .1; high-most = c .maximum2 .ensures })
+returns-2 : tie.Need-returns-2
+returns-2 c =
+    inr
+    (record {
+      here = here-line (c .before .before .before .before .before .before .before .pre .2) refl (omega arith);
+      found = refl;
+      low-end = c .before .before .line-ends .result .low;
+      low-is = c .before .before .line-ends .ensures .0;
+      low-most = c .before .maximum .ensures;
+      high-end = c .before .before .line-ends .result .high;
+      high-is = c .before .before .line-ends .ensures .1;
+      high-most = c .maximum2 .ensures;
+    })
 
 pub take-line-spec : {M : Type 1} → statement M
 take-line-spec =
     tie.close
-    (tie.spec
-    mul-if1
-    shared-slice-read-if1
-    returns
-    add-if2
-    mul-if2
-    shared-slice-read-if2
-    returns-2
-    line-ends-requires
-    maximum-requires
-    maximum-requires-2
-    returns-3)
+    (tie.spec add-if1 mul-if1 shared-slice-read-if1 returns line-ends-requires maximum-requires maximum-requires-2 returns-2)
