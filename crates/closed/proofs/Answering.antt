@@ -28,14 +28,15 @@ use Rattle.semantics.proofs.Table.{or-cases}
 use Rattle.index.specs.Parts.{linesLength, Index}
 use Rattle.reach.specs.Marks.{Marks}
 use Rattle.reach.proofs.Refusals.{first-10, first-11, first-12, first-behind}
-use Rattle.closed.specs.Scratch.{held, reachedAt}
-use Rattle.closed.specs.Answer.{FirstCause, Answered}
-use Rattle.closed.specs.Waiting.{MaybeIndex}
-use Rattle.closed.specs.Round.{Begun, closedAt, RoundReady, Alternated, SolveReady, Solved}
-use Rattle.closed.proofs.Scratch.{shut-over}
-use Rattle.closed.proofs.Raising.{S}
-use Rattle.closed.proofs.Turns.{turned-none}
-use Rattle.closed.proofs.Starting.{upto}
+use Rattle.settle.specs.Scratch.{held, reachedAt}
+use Rattle.closed.specs.Answer.{FirstCause, AnswersWritten}
+use Rattle.settle.specs.Waiting.{MaybeIndex}
+use Rattle.rounds.specs.Round.{closedAt, RoundReady, Alternated}
+use Rattle.closed.specs.Solving.{Begun, SolveReady, Solved}
+use Rattle.settle.proofs.Scratch.{shut-over}
+use Rattle.settle.proofs.Raising.{S}
+use Rattle.rounds.proofs.Turns.{turned-none}
+use Rattle.rounds.proofs.Starting.{upto}
 
 -- the loop that begins: the conditions before c have the low end 0 and their marks
 module _ (n : ℕ) (marks : List Bool) (s₀ : List ℕ) where
@@ -232,7 +233,7 @@ module _ (a qs s w : List ℕ) where
       answer c l =
           v .reads-closed c (real c l) (reached-complete (pageOf a) qs (names-inside (pageOf a) (sound-proper a (solve-ready .page-sound))) real (queried l))
 
-      module _ {s′ w′ : List ℕ} (d : Answered a qs s₁ w s′ w′) where
+      module _ {s′ w′ : List ℕ} (d : AnswersWritten a qs s₁ w s′ w′) where
         answers : ClosedAnswers a qs s w s′ w′
         unfolding pageOf
         answers =

@@ -7,7 +7,7 @@ use lib.ListN.{length, drop}
 use Rattle.semantics.specs.Area.{conditionsOf}
 use Rattle.semantics.specs.Call.{firstOf}
 use Rattle.semantics.specs.Operation.{ends, zeros, closedCauses}
-use Rattle.closed.specs.Scratch.{held}
+use Rattle.settle.specs.Scratch.{held}
 use Rattle.closed.specs.declared.ClosedAnswer.{ClosedAnswer}
 use Rattle.closed.specs.declared.ClosedAnswer.the-variants.{Refused, Done}
 
@@ -21,6 +21,6 @@ pub record FirstCause (answer : Option ℕ) (a qs s w : List ℕ) : Type 0 where
   pub is : answer ≡ firstOf (closedCauses a qs s w)
 
 -- the answers are the ends held, and the scratch is erased
-pub record Answered (a qs s w s′ w′ : List ℕ) : Type 0 where
+pub record AnswersWritten (a qs s w s′ w′ : List ℕ) : Type 0 where
   pub written : w′ ≡ ends (held (conditionsOf a) s) qs ++ drop (2 * length qs) w
   pub erased : s′ ≡ zeros (6 * conditionsOf a) ++ drop (6 * conditionsOf a) s

@@ -1,10 +1,4 @@
--- the two ends of a body value, and what each reads
-pub mod Ends
--- the scratch, and what the steps of a half leave in it
-pub mod Scratch
--- the conditions that wait
-pub mod Waiting
--- the rounds
-pub mod Round
+-- the closed reading in the scratch
+pub mod Solving
 -- the numbers of the answers
 pub mod Answer

@@ -5,13 +5,10 @@ ghost use mathlib.Core.Option.{none};
 ghost use Prim.Native.Nat.{ℕ, _≤_, _+_, _<_, _*_};
 ghost use lib.ListN.{length, getD, drop};
 ghost use Rattle.semantics.specs.Operation.{ends, indexLength, usedWorkspace, closedWorkspace, ClosedOf};
-ghost use Rattle.closed.specs.Scratch.{held};
-ghost use Rattle.closed.specs.Waiting.{MaybeIndex};
-ghost use Rattle.closed.specs.Round.{Begun, SolveReady, Solved};
-ghost use Rattle.closed.specs.Answer.{refusalOf, FirstCause, Answered};
-
-mod rounds;
-mod settle;
+ghost use Rattle.settle.specs.Scratch.{held};
+ghost use Rattle.settle.specs.Waiting.{MaybeIndex};
+ghost use Rattle.closed.specs.Solving.{Begun, SolveReady, Solved};
+ghost use Rattle.closed.specs.Answer.{refusalOf, FirstCause, AnswersWritten};
 
 // The low ends are 0, and the reached conditions are marked.
 fn begin(scratch: &mut [u16], n: u16, marks: &[bool])
@@ -84,7 +81,7 @@ fn refusal(page: &[u16], queries: &[u16], scratch: &[u16], answers: &[u16]) -> C
 // Low and high of each query from a solved scratch, which is then erased.
 fn answer(page: &[u16], queries: &[u16], scratch: &mut [u16], answers: &mut [u16])
     requires { ⌜ FirstCause none (now page) (now queries) (now scratch) (now answers) ⌝ }
-    ensures { λ r. ⌜ Answered (now (page .entry)) (now (queries .entry)) (now (scratch .entry)) (now (answers .entry)) (now (scratch .exit)) (now (answers .exit)) ⌝ }
+    ensures { λ r. ⌜ AnswersWritten (now (page .entry)) (now (queries .entry)) (now (scratch .entry)) (now (answers .entry)) (now (scratch .exit)) (now (answers .exit)) ⌝ }
 {
     let n = page[1];
     write_answers(scratch, n, queries, answers);

@@ -3,7 +3,7 @@ use mathlib.Core.Path.{refl}
 use native.Mathlib.Omega.{arith}
 use Prim.Native.Nat.{_-_}
 use lib.ListN.{length, length-set}
-use Rattle.closed.specs.Scratch.{held}
+use Rattle.settle.specs.Scratch.{held}
 use Rattle.closed.proofs.Answering.{Answering, answering-first, answering-length, answering-next, answering-last}
 use Rattle.closed.proofs.write_answers.Statement.{statement}
 use Rattle.closed.proofs.write_answers.Tie as tie

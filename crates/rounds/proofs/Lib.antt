@@ -1,0 +1,6 @@
+-- a round: the high ends, then the low ends
+pub mod Turns
+pub mod Rounding
+-- where a half starts
+pub mod AllWaiting
+pub mod Starting

@@ -1,0 +1,196 @@
+-- A round in the code's own terms: what each settling asks, and what the round leaves. Assumes nothing.
+use mathlib.Core.Path.{_≡_, refl, sym, _∙_, ap, subst}
+use mathlib.Core.Bool.{Bool, true, false, true≢false}
+use mathlib.Core.Logic.{inl, inr, ⊎-elim}
+use mathlib.Core.List.{List}
+use Prim.Native.Nat.{ℕ, suc, _+_, _*_, _-_, _<_}
+use native.Mathlib.Decide.{ℕ-discrete}
+use native.Mathlib.Omega.{arith}
+use lib.ListN.{length, getD, drop}
+use Rattle.fixpoint.specs.Interval.{Interval, Within, Assign}
+use Rattle.fixpoint.specs.Tables.{Turned}
+use Rattle.fixpoint.proofs.Cond.{by-bool}
+use Rattle.fixpoint.proofs.Sum.{sum-eq}
+use Rattle.semantics.specs.Area.{pageOf, topOf, conditionsOf}
+use Rattle.semantics.specs.Body.{T, bodyless, unknownByDefault}
+use Rattle.semantics.specs.Grade.{lower, upper}
+use Rattle.page.proofs.Head.{head-of}
+use Rattle.bits.specs.Words.{has}
+use Rattle.index.specs.Parts.{Users}
+use Rattle.settle.specs.Ends.{room}
+use Rattle.settle.specs.Scratch.{held, reachedAt, roomAt, Half, RestsAt, Settled}
+use Rattle.settle.specs.Waiting.{WaitSet, MaybeIndex, MaybeIndexed}
+use Rattle.rounds.specs.Round.{AllWait, HighsBegun, LowsBegun, Woke, past, LowsWait, TurnedAt, ToppedAt, closedAt, RoundReady, Rounded, Alternated}
+use Rattle.settle.proofs.Scratch.{shut-over}
+use Rattle.settle.proofs.Raising.{S, E}
+use Rattle.rounds.proofs.Turns.{turned-same, topped-same, topped-by, turned-by, lows-known, rounds-end}
+
+low-eq : {p q : Interval} → p ≡ q → p .low ≡ q .low
+low-eq h = ap (λ (r : Interval). r .low) h
+
+high-eq : {p q : Interval} → p ≡ q → p .high ≡ q .high
+high-eq h = ap (λ (r : Interval). r .high) h
+
+turned-over : {n top : ℕ} {T : Assign → ℕ → Interval} {free r s : ℕ → Bool} {k : ℕ} {L : Assign} → ((c : ℕ) → c < n → s c ≡ r c)
+    → Turned n top T free r k L → Turned n top T free s k L
+turned-over e t = record { turned = λ c l q. t .turned c l (sym (e c l) ∙ q) }
+
+module _ (a s : List ℕ) (b : RoundReady a s) where
+  abbrev n : ℕ
+  n = conditionsOf a
+
+  -- the first half
+  module _ {s₁ : List ℕ} (h : HighsBegun a s s₁) where
+    pub highs-half : Half upper a s₁
+    unfolding bodyless
+    highs-half =
+        record {
+          page-sound = b .page-sound;
+          long = omega (arith, b .long, h .same-length);
+          shut = shut-over (h .marks) (b .shut);
+          within = λ c l. record { low-in = omega (arith, h .lows c l, b .within c l); high-in = omega (arith, h .highs c l) };
+          negated = λ c l. h .negated c l ∙ ap (λ (x : ℕ). topOf a - x) (sym (h .lows c l));
+          below = λ c l. omega (arith, h .highs c l);
+        }
+
+    -- the second
+    module _ {s₂ s₃ : List ℕ} {t : Bool} (v : Settled upper a s₁ s₂ t) (g : LowsBegun a s₂ s₃) where
+      marks₃ : (c : ℕ) → c < n → reachedAt n s₃ c ≡ reachedAt n s c
+      marks₃ c l = g .marks c l ∙ v .steady .marks c l ∙ h .marks c l
+
+      lows₃ : (c : ℕ) → c < n → held n s₃ c .low ≡ held n s c .low
+      lows₃ c l = low-eq (g .intervals c l) ∙ v .steady .others c l ∙ h .lows c l
+
+      turned₃ : TurnedAt a (reachedAt n s) (b .round) (held n s₃)
+      unfolding unknownByDefault
+      turned₃ = turned-same (S a (b .page-sound)) (b .shut) (λ c l r. lows₃ c l) (b .turned)
+
+      topped₃ : ToppedAt a (reachedAt n s) (b .round) (held n s₃)
+      unfolding unknownByDefault
+      topped₃ =
+          topped-by (S a (b .page-sound)) (b .shut) {L = held n s₁} (turned-same (S a (b .page-sound)) (b .shut) (λ c l r. h .lows c l) (b .turned))
+          (λ c l r. high-eq (g .intervals c l) ∙ v .ends c l (h .marks c l ∙ r))
+
+      within₃ : (c : ℕ) → c < n → Within (topOf a) (held n s₃ c)
+      within₃ c l = subst (Within (topOf a)) (sym (g .intervals c l)) (v .half .within c l)
+
+      apart₃ : (c : ℕ) → c < n → reachedAt n s c ≡ false → held n s₃ c .low ≡ 0
+      apart₃ c l r = lows₃ c l ∙ b .apart c l r
+
+      pub lows-half : Half lower a s₃
+      unfolding unknownByDefault
+      lows-half =
+          record {
+            page-sound = b .page-sound;
+            long = omega (arith, v .half .long, g .same-length);
+            shut = shut-over marks₃ (b .shut);
+            within = within₃;
+            negated = λ c l. ap (λ (i : ℕ). getD s₃ i 0) (omega arith) ∙ g .negated c l ∙ ap (λ (x : ℕ). topOf a - x) (sym (high-eq (g .intervals c l)));
+            below = lows-known (S a (b .page-sound)) (b .shut) turned₃ topped₃ within₃ apart₃;
+          }
+
+      -- whoever does not wait negates no condition whose number is another
+      module _ {users lows lows′ : List ℕ} (k : LowsWait a s lows) (o : Woke a users s₂ s₃ lows lows′) where
+        number-same : (b : ℕ) → b < n → getD s₂ (2 * b + 1) 0 ≡ getD s (2 * b + 1) 0
+        number-same b m = ap (λ (i : ℕ). getD s₂ i 0) (omega arith) ∙ v .steady .negations b m ∙ ap (λ (i : ℕ). getD s₁ i 0) (omega arith) ∙ h .negations b m
+
+        past-high : (b : ℕ) → b < n → getD s₂ (2 * b + 1) 0 ≡ getD s₃ (2 * b + 1) 0 → held n s₃ b .high ≡ past a s b .high
+        past-high b m z = omega (arith, high-eq (g .intervals b m), g .negated b m, number-same b m, v .half .within b m .high-in)
+
+        rests₃ : Users a users → (c : ℕ) → c < n → reachedAt n s₃ c ≡ true → has lows′ c ≡ false → RestsAt lower a s₃ c
+        unfolding pageOf
+        rests₃ u c l r q =
+            let few = head-of a (b .page-sound) .few in
+            let out : has lows c ≡ false = by-bool (has lows c) (λ y. absurd (true≢false (sym (o .kept c (omega arith) y) ∙ q))) (λ y. y) in
+            omega (
+              arith,
+              k .rests c l (sym (marks₃ c l) ∙ r) out,
+              lows₃ c l,
+              E a (b .page-sound) .local-end lower (held n s₃) (past a s) c l (λ d m f. lows₃ d m)
+                  (λ d m f. past-high d m (elim (ℕ-discrete (getD s₂ (2 * d + 1) 0) (getD s₃ (2 * d + 1) 0)) [
+                    | yes y ↦ y
+                    | no y ↦ absurd (⊎-elim (λ z. omega (arith, u .long)) (λ p. true≢false (sym (p d m y c f) ∙ q)) (o .woken))
+                  ])),
+            )
+
+        pub lows-indexed : {lines : List ℕ} → MaybeIndex a lines users → MaybeIndexed lower a lines users s₃ lows′
+        lows-indexed = ⊎-elim (λ z. inl z) (λ i. inr (record { lines-in = i .0; users-in = i .1; waiting = record { set = o .set-in; rests = rests₃ (i .1) } }))
+
+      module _ {s₄ : List ℕ} {changed : Bool} (w : Settled lower a s₃ s₄ changed) where
+        marks₄ : (c : ℕ) → c < n → reachedAt n s₄ c ≡ reachedAt n s c
+        marks₄ c l = w .steady .marks c l ∙ marks₃ c l
+
+        turned₄ : TurnedAt a (reachedAt n s) (suc (b .round)) (held n s₄)
+        unfolding unknownByDefault
+        turned₄ = turned-by (S a (b .page-sound)) (b .shut) topped₃ (λ c l r. w .ends c l (marks₃ c l ∙ r))
+
+        ended : changed ≡ false → (c : ℕ) → c < n → reachedAt n s c ≡ true → held n s₄ c ≡ closedAt a c
+        unfolding unknownByDefault
+        ended z =
+            let q : s₄ ≡ s₃ = w .still z in
+            rounds-end (S a (b .page-sound)) (b .shut) (turned-same (S a (b .page-sound)) (b .shut) (λ c l r. ap (λ (x : List ℕ). held n x c .low) q) turned₃)
+            (topped-same (S a (b .page-sound)) (b .shut) (λ c l r. ap (λ (x : List ℕ). held n x c .high) q) topped₃) turned₄
+
+        -- everybody rests, over the high ends held
+        pub lows-wait : {lows : List ℕ} → WaitSet n lows → LowsWait a s₄ lows
+        unfolding pageOf
+        lows-wait {lows} q =
+            record {
+              set-in = q;
+              rests = λ c l r z. omega (
+                arith,
+                w .rests c l (sym (w .steady .marks c l) ∙ r),
+                E a (b .page-sound) .local-end lower (past a s₄) (held n s₄) c l (λ d m f. refl)
+                    (λ d m f. omega (arith, ap (λ (i : ℕ). getD s₄ i 0) {x = 2 * d + 1} {y = 0 + (2 * d + 1)} (omega arith), w .half .negated d m, w .half .within d m .high-in)),
+              );
+            }
+
+        room-same : roomAt lower a s₃ ≡ roomAt lower a s
+        unfolding room
+        room-same = sum-eq n _ _ (λ c l. ap (λ (x : ℕ). topOf a - x) (lows₃ c l))
+
+        pub rounded : Rounded a s s₄ changed
+        rounded =
+            record {
+              same-length = w .steady .same-length ∙ g .same-length ∙ v .steady .same-length ∙ h .same-length;
+              marks = marks₄;
+              beyond = w .steady .beyond ∙ g .beyond ∙ v .steady .beyond ∙ h .beyond;
+              next = record {
+                page-sound = b .page-sound;
+                long = w .half .long;
+                shut = w .half .shut;
+                within = λ c l. w .half .within c l .low-in;
+                apart = λ c l r. w .steady .apart c l (marks₃ c l ∙ sym (marks₄ c l) ∙ r) ∙ apart₃ c l (sym (marks₄ c l) ∙ r);
+                round = suc (b .round);
+                turned = turned-over marks₄ turned₄;
+              };
+              ends = ended;
+              moves = λ z. omega (arith, w .moves z, room-same);
+            }
+
+-- the loop over the rounds
+module _ (a s₀ : List ℕ) where
+  pub record Alternating (s : List ℕ) : Type 0 where
+    pub same-length : length s ≡ length s₀
+    pub marks : (c : ℕ) → c < conditionsOf a → reachedAt (conditionsOf a) s c ≡ reachedAt (conditionsOf a) s₀ c
+    pub beyond : drop (6 * conditionsOf a) s ≡ drop (6 * conditionsOf a) s₀
+    pub ready : RoundReady a s
+
+  pub alternating-first : RoundReady a s₀ → Alternating s₀
+  alternating-first b = record { same-length = refl; marks = λ c l. refl; beyond = refl; ready = b }
+
+  module _ {s s′ : List ℕ} {changed : Bool} (v : Alternating s) (r : Rounded a s s′ changed) where
+    pub alternating-next : Alternating s′
+    alternating-next = record { same-length = r .same-length ∙ v .same-length; marks = λ c l. r .marks c l ∙ v .marks c l; beyond = r .beyond ∙ v .beyond; ready = r .next }
+
+    pub alternating-last : changed ≡ false → Alternated a s₀ s′
+    alternating-last z =
+        record {
+          same-length = r .same-length ∙ v .same-length;
+          beyond = r .beyond ∙ v .beyond;
+          reads-closed = λ c l q. r .ends z c l (v .marks c l ∙ q);
+        }
+
+-- at first everybody waits
+pub all-lows : (a s words : List ℕ) → AllWait (conditionsOf a) s words → LowsWait a s words
+all-lows a s words w = record { set-in = w .set; rests = λ c l r z. absurd (true≢false (sym (w .waits c l r) ∙ z)) }

@@ -1,0 +1,2 @@
+-- the rounds
+pub mod Round

@@ -1,0 +1,99 @@
+-- The rounds: what holds of the scratch between them. Assumes nothing.
+use mathlib.Core.Path.{_≡_}
+use mathlib.Core.Logic.{_≢_, _⊎_}
+use mathlib.Core.Bool.{Bool, true, false}
+use mathlib.Core.List.{List}
+use Prim.Native.Nat.{ℕ, _+_, _*_, _-_, _≤_, _<_}
+use lib.ListN.{length, getD, set, drop}
+use Rattle.fixpoint.specs.Interval.{Assign}
+use Rattle.fixpoint.specs.ChaoticIteration.{DependencyClosed}
+use Rattle.fixpoint.specs.Tables.{Turned, Topped}
+use Rattle.fixpoint.specs.WellFounded.{closed}
+use Rattle.semantics.specs.Area.{sound, pageOf, topOf, conditionsOf}
+use Rattle.semantics.specs.Body.{T, bodyless, unknownByDefault}
+use Rattle.semantics.specs.Grade.{lower}
+use Rattle.semantics.specs.Page.{names}
+use Rattle.bits.specs.Words.{has}
+use Rattle.index.specs.Readers.{linesRead}
+use Rattle.settle.specs.Scratch.{held, reachedAt, roomAt}
+use Rattle.settle.specs.Waiting.{WaitSet}
+
+-- every reached condition waits
+pub record AllWait (n : ℕ) (s words : List ℕ) : Type 0 where
+  pub set : WaitSet n words
+  pub waits : (c : ℕ) → c < n → reachedAt n s c ≡ true → has words c ≡ true
+
+-- every high end starts anew over the low ends
+pub record HighsBegun (a s s′ : List ℕ) : Type 0 where
+  pub same-length : length s′ ≡ length s
+  pub lows : (c : ℕ) → c < conditionsOf a → getD s′ (2 * c) 0 ≡ getD s (2 * c) 0
+  pub highs : (c : ℕ) → c < conditionsOf a → getD s′ (2 * conditionsOf a + 2 * c) 0 ≡ bodyless (pageOf a) c .high
+  pub negated : (c : ℕ) → c < conditionsOf a → getD s′ (2 * conditionsOf a + (2 * c + 1)) 0 ≡ topOf a - getD s (2 * c) 0
+  pub negations : (c : ℕ) → c < conditionsOf a → getD s′ (2 * c + 1) 0 ≡ getD s (2 * c + 1) 0
+  pub marks : (c : ℕ) → c < conditionsOf a → reachedAt (conditionsOf a) s′ c ≡ reachedAt (conditionsOf a) s c
+  pub beyond : drop (6 * conditionsOf a) s′ ≡ drop (6 * conditionsOf a) s
+
+-- the negation of c has its number over the high ends, and if there is an index and the number is another, whoever negates c waits
+pub record Renegated (a users : List ℕ) (c : ℕ) (s s′ words words′ : List ℕ) : Type 0 where
+  pub stored : s′ ≡ set s (2 * c + 1) (topOf a - getD s (2 * conditionsOf a + 2 * c) 0)
+  pub set-in : WaitSet (conditionsOf a) words′
+  pub kept : (d : ℕ) → d < 512 → has words d ≡ true → has words′ d ≡ true
+  pub woken : (length users ≡ 0) ⊎ (getD s (2 * c + 1) 0 ≢ topOf a - getD s (2 * conditionsOf a + 2 * c) 0 → (h : ℕ) → linesRead (2 * c + 1) (pageOf a .lines) h ≡ true → has words′ h ≡ true)
+
+-- all negations have
+pub record Woke (a users s s′ words words′ : List ℕ) : Type 0 where
+  pub set-in : WaitSet (conditionsOf a) words′
+  pub kept : (d : ℕ) → d < 512 → has words d ≡ true → has words′ d ≡ true
+  pub woken : (length users ≡ 0) ⊎ ((c : ℕ) → c < conditionsOf a → getD s (2 * c + 1) 0 ≢ getD s′ (2 * c + 1) 0 → (h : ℕ) → linesRead (2 * c + 1) (pageOf a .lines) h ≡ true → has words′ h ≡ true)
+
+-- the intervals over which the low ends were settled last
+abbrev pub past : (a s : List ℕ) → Assign
+past a s c = record { low = getD s (2 * c) 0; high = topOf a - getD s (2 * c + 1) 0 }
+
+-- whoever is reached and does not wait holds what T made of it then
+pub record LowsWait (a s words : List ℕ) : Type 0 where
+  pub set-in : WaitSet (conditionsOf a) words
+  pub rests : (c : ℕ) → c < conditionsOf a → reachedAt (conditionsOf a) s c ≡ true → has words c ≡ false → T (pageOf a) (past a s) c .low ≤ getD s (2 * c) 0
+
+-- every low end goes on over the high ends
+pub record LowsBegun (a s s′ : List ℕ) : Type 0 where
+  pub same-length : length s′ ≡ length s
+  pub intervals : (c : ℕ) → c < conditionsOf a → held (conditionsOf a) s′ c ≡ held (conditionsOf a) s c
+  pub negated : (c : ℕ) → c < conditionsOf a → getD s′ (2 * c + 1) 0 ≡ topOf a - getD s (2 * conditionsOf a + 2 * c) 0
+  pub marks : (c : ℕ) → c < conditionsOf a → reachedAt (conditionsOf a) s′ c ≡ reachedAt (conditionsOf a) s c
+  pub beyond : drop (6 * conditionsOf a) s′ ≡ drop (6 * conditionsOf a) s
+
+-- the round k, on what is reached
+abbrev pub TurnedAt : List ℕ → (ℕ → Bool) → ℕ → Assign → Type 0
+TurnedAt a reached k I = Turned (conditionsOf a) (topOf a) (T (pageOf a)) (unknownByDefault (pageOf a)) reached k I
+
+abbrev pub ToppedAt : List ℕ → (ℕ → Bool) → ℕ → Assign → Type 0
+ToppedAt a reached k I = Topped (conditionsOf a) (topOf a) (T (pageOf a)) (unknownByDefault (pageOf a)) reached k I
+
+abbrev pub closedAt : List ℕ → Assign
+closedAt a = closed (conditionsOf a) (topOf a) (T (pageOf a)) (unknownByDefault (pageOf a))
+
+-- before a round: the low ends are those of round k, and 0 wherever a condition is not reached
+pub record RoundReady (a s : List ℕ) : Type 0 where
+  pub page-sound : sound a ≡ true
+  pub long : 6 * conditionsOf a ≤ length s
+  pub shut : DependencyClosed (conditionsOf a) (names (pageOf a)) (reachedAt (conditionsOf a) s)
+  pub within : (c : ℕ) → c < conditionsOf a → getD s (2 * c) 0 ≤ topOf a
+  pub apart : (c : ℕ) → c < conditionsOf a → reachedAt (conditionsOf a) s c ≡ false → getD s (2 * c) 0 ≡ 0
+  pub round : ℕ
+  pub turned : TurnedAt a (reachedAt (conditionsOf a) s) round (held (conditionsOf a) s)
+
+-- a round leaves the next state; one that moves no low end leaves the closed reading on what is reached
+pub record Rounded (a s s′ : List ℕ) (changed : Bool) : Type 0 where
+  pub same-length : length s′ ≡ length s
+  pub marks : (c : ℕ) → c < conditionsOf a → reachedAt (conditionsOf a) s′ c ≡ reachedAt (conditionsOf a) s c
+  pub beyond : drop (6 * conditionsOf a) s′ ≡ drop (6 * conditionsOf a) s
+  pub next : RoundReady a s′
+  pub ends : changed ≡ false → (c : ℕ) → c < conditionsOf a → reachedAt (conditionsOf a) s c ≡ true → held (conditionsOf a) s′ c ≡ closedAt a c
+  pub moves : changed ≡ true → roomAt lower a s′ < roomAt lower a s
+
+-- all rounds
+pub record Alternated (a s s′ : List ℕ) : Type 0 where
+  pub same-length : length s′ ≡ length s
+  pub beyond : drop (6 * conditionsOf a) s′ ≡ drop (6 * conditionsOf a) s
+  pub reads-closed : (c : ℕ) → c < conditionsOf a → reachedAt (conditionsOf a) s c ≡ true → held (conditionsOf a) s′ c ≡ closedAt a c

@@ -1,0 +1,263 @@
+-- One line: what raising the end of its head leaves. Assumes nothing.
+use mathlib.Core.Path.{_≡_, refl, sym, _∙_, ap, subst}
+use mathlib.Core.Logic.{_≢_}
+use mathlib.Core.Bool.{true, false, true≢false, false≢true}
+use mathlib.Core.List.{List, [], _∷_}
+use Prim.Native.Nat.{ℕ, zero, suc, _+_, _*_, _-_, _≤_, _<_}
+use native.Mathlib.Decide.{ℕ-discrete}
+use native.Mathlib.Omega.{arith}
+use lib.Dec.{leb}
+use lib.ListN.{length, getD, set, take, drop, length-set}
+use borrow.Author.Tests.{le-leb}
+use Rattle.fixpoint.specs.Interval.{Interval, Assign}
+use Rattle.fixpoint.specs.System.{System}
+use Rattle.fixpoint.proofs.Sum.{sum-le, sum-drop}
+use Rattle.semantics.specs.Area.{sound, lineAt, pageOf, topOf, conditionsOf, countOf}
+use Rattle.semantics.specs.Body.{lineBody, T, unknownByDefault}
+use Rattle.semantics.specs.Grade.{End}
+use Rattle.semantics.specs.Page.{InRange, AllInRange, names}
+use Rattle.semantics.proofs.Readings.{page-system}
+use Rattle.semantics.proofs.Soundness.{sound-proper}
+use Rattle.page.specs.Places.{placeOf, LineIn, LineOf}
+use Rattle.page.specs.Lines.{EntryIn}
+use Rattle.page.proofs.Head.{head-of}
+use Rattle.page.proofs.Scan.{entry-head}
+use Rattle.page.proofs.Scanning.{linesLeft, lines-first, entry-ok, entry-here}
+use Rattle.page.proofs.LineNumbers.{scanning-at, lines-from, line-of}
+use Rattle.value.specs.Table.{endOf, other, Grades}
+use Rattle.value.specs.LineEnds.{LineEnd}
+use Rattle.value.proofs.BodyEnds.{body-has}
+use Rattle.settle.specs.Ends.{reads, EndLocal, room}
+use Rattle.settle.specs.Scratch.{baseOf, tableOf, held, reachedAt, settledAt, roomAt, Half, Steady, Covered, Raised}
+use Rattle.settle.proofs.EndReads.{line-level, page-ends}
+use Rattle.settle.proofs.Halves.{ends-in, end-in, below-T, settled-others}
+use Rattle.settle.proofs.Scratch.{end-at, base-in, part-is, shut-over, half-table, half-grades, put-here, put-else, put-other, put-negated, put-rest, put-mark, put-beyond}
+
+module _ (a : List ℕ) (ok : sound a ≡ true) where
+  pub S : System (conditionsOf a) (topOf a) (T (pageOf a)) (names (pageOf a))
+  unfolding pageOf
+  S = page-system (pageOf a) (sound-proper a ok)
+
+  pub E : EndLocal (conditionsOf a) (T (pageOf a)) (names (pageOf a)) (reads (pageOf a))
+  unfolding pageOf
+  E = page-ends (pageOf a) (sound-proper a ok)
+
+  -- every line is in range
+  ranged-from : (k : ℕ) → k ≤ countOf a → AllInRange (topOf a) (conditionsOf a) (linesLeft a (placeOf a k) k)
+  unfolding pageOf placeOf
+  ranged-from zero l = rw (lines-first a) (sound-proper a ok .ranged)
+  ranged-from (suc k) l = (rw (lines-from a ok k (omega arith)) at (ranged-from k (omega arith))) .1
+
+  pub line-ranged : {at : ℕ} → LineIn a at → InRange (topOf a) (conditionsOf a) (lineAt (drop at a))
+  line-ranged {at} s = rw (s .place) ((rw (lines-from a ok (s .number) (s .in-count)) at (ranged-from (s .number) (omega (arith, s .in-count)))) .0)
+
+  -- its entry lies in the area, and its head is a condition
+  pub line-entry : {at : ℕ} → LineIn a at → EntryIn a at
+  line-entry {at} s = subst (EntryIn a) (sym (s .place)) (entry-here a (scanning-at a ok (s .number) (omega (arith, s .in-count))) (s .in-count))
+
+  pub line-head : {at : ℕ} → LineIn a at → getD a at 0 < conditionsOf a
+  line-head {at} s =
+      subst (λ (i : ℕ). getD a i 0 < conditionsOf a) (sym (s .place))
+      (entry-head (topOf a) (conditionsOf a) _ a (placeOf a (s .number)) (entry-ok a (scanning-at a ok (s .number) (omega (arith, s .in-count))) (s .in-count)))
+
+-- an end that does not fall leaves no more room
+pub room-less : (e : End) (a s s′ : List ℕ) → ((c : ℕ) → c < conditionsOf a → endOf e (held (conditionsOf a) s c) ≤ endOf e (held (conditionsOf a) s′ c)) → roomAt e a s′ ≤ roomAt e a s
+unfolding room
+room-less e a s s′ h = sum-le (conditionsOf a) _ _ (λ c l. omega (arith, h c l))
+
+pub steady-same : (e : End) (n : ℕ) (s : List ℕ) → Steady e n s s
+steady-same e n s = record { same-length = refl; others = λ c l. refl; marks = λ c l. refl; apart = λ c l r. refl; rises = λ c l. omega arith; negations = λ c l. refl; beyond = refl }
+
+pub steady-on : {e : End} {n : ℕ} {s s′ s″ : List ℕ} → Steady e n s s′ → Steady e n s′ s″ → Steady e n s s″
+steady-on u v =
+    record {
+      same-length = v .same-length ∙ u .same-length;
+      others = λ c l. v .others c l ∙ u .others c l;
+      marks = λ c l. v .marks c l ∙ u .marks c l;
+      apart = λ c l r. v .apart c l (u .marks c l ∙ r) ∙ u .apart c l r;
+      rises = λ c l. omega (arith, u .rises c l, v .rises c l);
+      negations = λ c l. v .negations c l ∙ u .negations c l;
+      beyond = v .beyond ∙ u .beyond;
+    }
+
+-- the line at a place, whose head is h
+module _ (e : End) (a s : List ℕ) (at : ℕ) (H : Half e a s) (x : LineIn a at) where
+  abbrev h : ℕ
+  h = getD a at 0
+
+  abbrev n : ℕ
+  n = conditionsOf a
+
+  -- whatever it adds, it adds to its head, as an F or R line
+  moved-to : (I : Assign) (c : ℕ) (p : Interval) → lineBody (topOf a) I c (lineAt (drop at a)) ≡ p ∷ []
+      → lineBody (topOf a) I c (lineAt (drop (placeOf a (x .number)) a)) ≡ p ∷ []
+  moved-to I c p d = subst (λ (i : ℕ). lineBody (topOf a) I c (lineAt (drop i a)) ≡ p ∷ []) (x .place) d
+
+  added-to : (I : Assign) (c : ℕ) (p : Interval) → lineBody (topOf a) I c (lineAt (drop at a)) ≡ p ∷ [] → LineOf a c at
+  added-to I c p d = subst (LineOf a c) (sym (x .place)) (line-of (topOf a) I c a (x .number) (x .in-count) (moved-to I c p d))
+
+  -- nothing is done: it is no F or R line, its head is not reached, or it adds no more than its head holds
+  nothing-done : Covered e a s s at → Raised e a at s s false
+  nothing-done v =
+      record {
+        half = H;
+        steady = steady-same e n s;
+        still = λ z. refl;
+        moves = λ z. absurd (false≢true z);
+        covered = v;
+        only = λ c l d. refl;
+      }
+
+  pub raised-query : 5 < getD a (at + 1) 0 → Raised e a at s s false
+  raised-query q = nothing-done (λ c l r g p d. absurd (omega (arith, added-to (held n s) c p d .body)))
+
+  pub raised-apart : getD s (4 * n + h) 0 ≡ 0 → Raised e a at s s false
+  raised-apart q = nothing-done (λ c l r g p d. absurd (true≢false (sym r ∙ ap (λ (k : ℕ). leb 1 (getD s (4 * n + k) 0)) (sym (added-to (held n s) c p d .head)) ∙ ap (leb 1) q)))
+
+  module _ {v : ℕ} (w : LineEnd e a (tableOf n e s) at v) where
+    -- the value of the line at s
+    line-adds : (p : Interval) × (lineBody (topOf a) (held n s) h (lineAt (drop at a)) ≡ p ∷ []) × (v ≡ endOf e p)
+    line-adds = w .is (held n s) (half-table H)
+
+    adds-v : (c : ℕ) (p : Interval) → lineBody (topOf a) (held n s) c (lineAt (drop at a)) ≡ p ∷ [] → (c ≡ h) × (endOf e p ≡ v)
+    adds-v c p d =
+        let q = line-adds in
+        let z : h ≡ c = added-to (held n s) c p d .head in
+        let y : lineBody (topOf a) (held n s) h (lineAt (drop at a)) ≡ p ∷ [] = rw z d in
+        let o : q .0 ≡ p = cc in
+        (sym z, ap (endOf e) (sym o) ∙ sym (q .2))
+
+    pub raised-not : v ≤ endOf e (held n s h) → Raised e a at s s false
+    raised-not m = nothing-done (λ c l r g p d. let y = adds-v c p d in rw (y .0) (omega (arith, y .1)))
+
+    -- the end of the head becomes v
+    module _ (real : h < n) (reached : reachedAt n s h ≡ true) (over : endOf e (held n s h) < v) where
+      abbrev s′ : List ℕ
+      s′ = set s (baseOf n e + 2 * h) v
+
+      v-below : v ≤ settledAt e a s h
+      unfolding unknownByDefault pageOf
+      v-below =
+          let q = line-adds in
+          omega (
+            arith,
+            q .2,
+            body-has e a (H .page-sound) (held n s) h (x .number) (x .in-count) (q .0) (moved-to (held n s) h (q .0) (q .1)),
+            below-T (S a (H .page-sound)) (E a (H .page-sound)) e (held n s) (H .within) (held n s) (λ c l. refl) (H .below) h real,
+          )
+
+      to-others : (c : ℕ) → c < n → endOf (other e) (held n s′ c) ≡ endOf (other e) (held n s c)
+      to-others = put-other n s h v (H .long) real e
+
+      settled-same : (c : ℕ) → c < n → settledAt e a s′ c ≡ settledAt e a s c
+      unfolding unknownByDefault
+      settled-same c l = settled-others (S a (H .page-sound)) (E a (H .page-sound)) e (held n s′) (held n s) to-others c l
+
+      by-head : (P : ℕ → Type 0) → P h → ((c : ℕ) → c < n → c ≢ h → P c) → (c : ℕ) → c < n → P c
+      by-head P f g c l =
+          elim (ℕ-discrete c h) [
+            | yes z ↦ subst P (sym z) f
+            | no z ↦ g c l z
+          ]
+
+      here : endOf e (held n s′ h) ≡ v
+      here = put-here n s h v (H .long) real e
+
+      else′ : (c : ℕ) → c ≢ h → endOf e (held n s′ c) ≡ endOf e (held n s c)
+      else′ = put-else n s h v (H .long) real e
+
+      rises′ : (c : ℕ) → c < n → endOf e (held n s c) ≤ endOf e (held n s′ c)
+      rises′ = by-head (λ c. endOf e (held n s c) ≤ endOf e (held n s′ c)) (omega (arith, here)) (λ c l z. omega (arith, else′ c z))
+
+      half′ : Half e a s′
+      half′ =
+          record {
+            page-sound = H .page-sound;
+            long = rw length-set (H .long);
+            shut = shut-over (λ c l. put-mark n s h v (H .long) real e c) (H .shut);
+            within = λ c l. ends-in e (held n s′ c)
+                (by-head (λ c. endOf e (held n s′ c) ≤ topOf a) (omega (arith, here, w .grade)) (λ c l z. omega (arith, else′ c z, end-in e (held n s c) (H .within c l))) c l)
+                (subst (λ (k : ℕ). k ≤ topOf a) (sym (to-others c l)) (end-in (other e) (held n s c) (H .within c l)));
+            negated = λ c l. put-negated n s h v (H .long) real e c ∙ H .negated c l ∙ ap (λ (k : ℕ). topOf a - k) (sym (to-others c l));
+            below = λ c l. by-head (λ c. endOf e (held n s′ c) ≤ settledAt e a s′ c) (omega (arith, here, v-below, settled-same h real)) (λ c l z. omega (arith, else′ c z, settled-same c l, H .below c l)) c l;
+          }
+
+      steady′ : Steady e n s s′
+      steady′ =
+          record {
+            same-length = length-set s (baseOf n e + 2 * h) v;
+            others = to-others;
+            marks = λ c l. put-mark n s h v (H .long) real e c;
+            apart = λ c l r. else′ c (λ z. true≢false (sym reached ∙ sym (ap (reachedAt n s) z) ∙ r));
+            rises = rises′;
+            negations = put-rest n s h v (H .long) real e;
+            beyond = put-beyond n s h v (H .long) real e;
+          }
+
+      moves′ : roomAt e a s′ < roomAt e a s
+      unfolding room
+      moves′ =
+          omega (
+            arith,
+            sum-drop n (λ c. topOf a - endOf e (held n s′ c)) (λ c. topOf a - endOf e (held n s c)) 1 h real (λ c l z. omega (arith, rises′ c l)) (omega (arith, here, over, w .grade)),
+          )
+
+      covered′ : Covered e a s s′ at
+      covered′ c l r g p d =
+          let q = line-level n (topOf a) e (held n s′) (held n s) (lineAt (drop at a)) (line-ranged a (H .page-sound) x) c g to-others d in
+          let y = adds-v c (q .0) (q .1) in
+          rw (y .0) (omega (arith, q .2, y .1, here))
+
+      pub raised-up : Raised e a at s s′ true
+      raised-up =
+          record {
+            half = half′;
+            steady = steady′;
+            still = λ z. absurd (true≢false z);
+            moves = λ z. moves′;
+            covered = covered′;
+            only = λ c l z. else′ c (λ q. z (sym q));
+          }
+
+  -- in the code's own terms
+  pub record Facts (base : ℕ) : Type 0 where
+    pub four : at + 4 ≤ length a
+    pub head : 4 ≤ length a
+    pub real : getD a at 0 < conditionsOf a
+    pub few : conditionsOf a ≤ 512
+    pub first : base ≤ 2 * conditionsOf a
+    pub long : 6 * conditionsOf a ≤ length s
+
+  module _ (base : ℕ) (q : base ≡ baseOf n e) where
+    pub facts : Facts base
+    facts =
+        let k = head-of a (H .page-sound) in
+        record {
+          four = line-entry a (H .page-sound) x .four;
+          head = k .four;
+          real = line-head a (H .page-sound) x;
+          few = k .few;
+          first = omega (arith, base-in n e);
+          long = H .long;
+        }
+
+    pub line-here : getD a (at + 1) 0 ≤ 5 → LineOf a h at
+    line-here l = record { number = x .number; in-count = x .in-count; place = x .place; head = refl; body = l }
+
+    abbrev part : List ℕ
+    part = take (base + 2 * n - base) (drop base s)
+
+    pub part-grades : Grades (topOf a) n part
+    part-grades = rw (part-is n s e base q) (half-grades H)
+
+    module _ {v : ℕ} (w : LineEnd e a part at v) where
+      on-table : LineEnd e a (tableOf n e s) at v
+      on-table = rw (part-is n s e base q) at w
+
+      pub kept-here : v ≤ getD s (base + 2 * h) 0 → Raised e a at s s false
+      kept-here m = raised-not on-table (rw (end-at n s e h, ← q) m)
+
+      pub raised-here : getD s (4 * n + h) 0 ≢ 0 → getD s (base + 2 * h) 0 < v → Raised e a at s (set s (base + 2 * h) v) true
+      raised-here r m =
+          subst (λ (b : ℕ). Raised e a at s (set s (b + 2 * h) v) true) (sym q)
+          (raised-up on-table (line-head a (H .page-sound) x) (le-leb 1 (getD s (4 * n + h) 0) (omega arith)) (rw (end-at n s e h, ← q) m))

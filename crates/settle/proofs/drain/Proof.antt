@@ -1,0 +1,103 @@
+-- `drain` takes out one that waits after the other (`Drains`).
+use mathlib.Core.Path.{sym, _∙_, ap}
+use mathlib.Core.Logic.{⊎-elim}
+use Prim.Native.Nat.{_+_}
+use native.Mathlib.Omega.{arith}
+use lib.ListN.{length}
+use Rattle.value.specs.Table.{side}
+use Rattle.settle.proofs.Draining.{left, draining-first, Drains, drains-real, drains-few, drains-group, drains-set, drains-rose, rose-less, drains-still, still-less, drains-last}
+use Rattle.settle.proofs.drain.Statement.{statement}
+use Rattle.settle.proofs.drain.Tie as tie
+
+abbrev Inv-loop : tie.InvT-loop
+Inv-loop a first places users scratch₀ words₀ base end changed₀ c₀ scratch words changed c = Drains (side end) a first places users base scratch₀ scratch words changed c
+
+abbrev μ-loop : tie.MeasureT-loop
+μ-loop a first places users scratch₀ words₀ base end changed₀ c₀ scratch words changed c = left (side end) a scratch words
+
+any-in-requires : tie.Need-any-in-requires Inv-loop μ-loop
+any-in-requires c κs = (c .before .before .before .before .before .before .before .pre .4 .set .size, omega arith)
+
+loop-holds : tie.Need-loop-holds Inv-loop μ-loop
+loop-holds c = let p = c .before .before .before .before .before .before .before .before .pre in record { users-in = p .3; table = p .1; draining = draining-first _ _ _ _ _ (p .2) (p .0) (p .4); any = c .any-in .ensures }
+
+remove-requires : tie.Need-remove-requires Inv-loop μ-loop
+remove-requires c κs = (c .before .before .loop .inv .draining .waiting .set .size, omega arith)
+
+cast-t : tie.Need-cast-t Inv-loop μ-loop
+cast-t c = let l = c .before .before .before .before .before .loop in omega (arith, drains-few (l .inv) (omega arith), drains-real (l .inv) (omega arith), l .inv .draining .groups .long, c .before .before .before .before .before .before .before .before .before .before .before .before .before .before .good)
+
+mul-from : tie.Need-mul-from Inv-loop μ-loop
+mul-from c = let l = c .before .before .before .before .before .loop in omega (arith, drains-few (l .inv) (omega arith), drains-real (l .inv) (omega arith), l .inv .draining .groups .long, c .before .before .before .before .before .before .before .before .before .before .before .before .before .before .good)
+
+shared-slice-read-from : tie.Need-shared-slice-read-from Inv-loop μ-loop
+shared-slice-read-from c = let l = c .before .before .before .before .before .before .loop in omega (arith, drains-few (l .inv) (omega arith), drains-real (l .inv) (omega arith), l .inv .draining .groups .long, c .before .before .before .before .before .before .before .before .before .before .before .before .before .before .before .good)
+
+cast-from : tie.Need-cast-from Inv-loop μ-loop
+cast-from c = omega (arith, c .shared-slice-known5 .given (c .before .before .before .before .before .before .loop .c))
+
+add-to : tie.Need-add-to Inv-loop μ-loop
+add-to c = let l = c .before .before .before .before .before .before .loop in omega (arith, drains-few (l .inv) (omega arith), drains-real (l .inv) (omega arith), l .inv .draining .groups .long, c .before .before .before .before .before .before .before .before .before .before .before .before .before .before .before .good)
+
+mul-to : tie.Need-mul-to Inv-loop μ-loop
+mul-to c = let l = c .before .before .before .before .before .before .loop in omega (arith, drains-few (l .inv) (omega arith), drains-real (l .inv) (omega arith), l .inv .draining .groups .long, c .before .before .before .before .before .before .before .before .before .before .before .before .before .before .before .good)
+
+shared-slice-read-to : tie.Need-shared-slice-read-to Inv-loop μ-loop
+shared-slice-read-to c = let l = c .before .before .before .before .before .before .before .loop in omega (arith, drains-few (l .inv) (omega arith), drains-real (l .inv) (omega arith), l .inv .draining .groups .long, c .before .before .before .before .before .before .before .before .before .before .before .before .before .before .before .before .good)
+
+cast-to : tie.Need-cast-to Inv-loop μ-loop
+cast-to c = omega (arith, c .shared-slice-known6 .given (c .before .before .before .before .before .before .before .loop .c + 1))
+
+look-requires : tie.Need-look-requires Inv-loop μ-loop
+look-requires c κs = let l = c .before .before .before .before .before .before .before .before .loop in (l .inv .draining .settling .half, l .inv .table, drains-group (l .inv) (omega arith))
+
+mul-wake : tie.Need-mul-wake Inv-loop μ-loop
+mul-wake c = let l = c .before .before .before .before .before .before .before .before .before .before .before .before .before .loop in omega (arith, drains-few (l .inv) (omega arith), drains-real (l .inv) (omega arith))
+
+wake-requires : tie.Need-wake-requires Inv-loop μ-loop
+wake-requires c κs = let l = c .before .before .before .before .before .before .before .before .before .before .before .before .before .loop in (l .inv .draining .settling .half .page-sound, l .inv .users-in, omega (arith, drains-real (l .inv) (omega arith)), drains-set (l .inv) (omega arith) _ (c .before .before .before .before .before .before .before .before .before .before .remove .ensures))
+
+any-in-requires-2 : tie.Need-any-in-requires-2 Inv-loop μ-loop
+any-in-requires-2 c κs = (⊎-elim (λ w. ap length (w .5) ∙ w .2 .ensures .set .size) (λ w. ap length (w .1) ∙ c .before .before .before .before .before .before .before .before .before .before .remove .ensures .0) (c .before .if1 .came), omega arith)
+
+loop-less : tie.Need-loop-less Inv-loop μ-loop
+loop-less c = let l = c .before .before .before .before .before .before .before .before .before .before .before .before .before .before .loop in ⊎-elim (λ w. rose-less (l .inv) (omega arith) _ (c .before .before .before .before .before .before .before .before .before .before .before .remove .ensures) (c .before .before .before .before .before .look .ensures) (w .0 .taken) (w .2 .ensures) (w .5) (w .6)) (λ w. still-less (l .inv) (omega arith) _ (c .before .before .before .before .before .before .before .before .before .before .before .remove .ensures) (c .before .before .before .before .before .look .ensures) (w .0 .left) (w .1) (w .2)) (c .before .before .if1 .came)
+
+loop-again : tie.Need-loop-again Inv-loop μ-loop
+loop-again c = let l = c .before .before .before .before .before .before .before .before .before .before .before .before .before .before .loop in ⊎-elim (λ w. drains-rose (l .inv) (omega arith) _ (c .before .before .before .before .before .before .before .before .before .before .before .remove .ensures) (c .before .before .before .before .before .look .ensures) (w .0 .taken) (w .2 .ensures) (w .5) (w .6) (c .any-in2 .ensures)) (λ w. drains-still (l .inv) (omega arith) _ (c .before .before .before .before .before .before .before .before .before .before .before .remove .ensures) (c .before .before .before .before .before .look .ensures) (w .0 .left) (w .1) (w .2) (c .any-in2 .ensures)) (c .before .before .if1 .came)
+
+same-length : tie.Need-same-length Inv-loop μ-loop
+same-length c = c .before .loop .inv .draining .settling .steady .same-length
+
+same-length-2 : tie.Need-same-length-2 Inv-loop μ-loop
+same-length-2 c = c .before .loop .inv .draining .waiting .set .size ∙ sym (c .before .before .before .before .before .before .before .before .before .before .pre .4 .set .size)
+
+returns : tie.Need-returns Inv-loop μ-loop
+returns c = drains-last (c .before .loop .inv) (omega arith)
+
+pub drain-spec : {M : Type 1} → statement M
+drain-spec =
+    tie.close
+    (tie.spec
+    Inv-loop
+    μ-loop
+    any-in-requires
+    loop-holds
+    remove-requires
+    cast-t
+    mul-from
+    shared-slice-read-from
+    cast-from
+    add-to
+    mul-to
+    shared-slice-read-to
+    cast-to
+    look-requires
+    mul-wake
+    wake-requires
+    any-in-requires-2
+    loop-less
+    loop-again
+    same-length
+    same-length-2
+    returns)

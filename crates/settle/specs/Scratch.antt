@@ -1,0 +1,119 @@
+-- The scratch on n conditions, and what each step of a half leaves in it. Assumes nothing.
+--
+-- Low ends by the code of the literal in [0, 2 × n), high ends in [2 × n, 4 × n), a mark for each reached condition in [4 × n, 5 × n).
+-- So the tables are the assignment: the end of c stands at 2 × c of its table, and behind it top less the other end of c as it was when
+-- the half began.
+use mathlib.Core.Path.{_≡_}
+use mathlib.Core.Logic.{_≢_}
+use mathlib.Core.Bool.{Bool, true, false}
+use mathlib.Core.List.{List, [], _∷_}
+use Prim.Native.Nat.{ℕ, zero, suc, _+_, _*_, _-_, _≤_, _<_}
+use lib.Dec.{leb}
+use lib.ListN.{length, getD, take, drop}
+use Rattle.fixpoint.specs.Interval.{Interval, Within, Assign}
+use Rattle.fixpoint.specs.ChaoticIteration.{DependencyClosed}
+use Rattle.semantics.specs.Area.{sound, lineAt, pageOf, topOf, conditionsOf, countOf}
+use Rattle.semantics.specs.Body.{lineBody, T, unknownByDefault}
+use Rattle.semantics.specs.Grade.{End, lower, upper}
+use Rattle.semantics.specs.Page.{names}
+use Rattle.index.specs.Readers.{linesRead}
+use Rattle.page.specs.Places.{placeOf, LineIn}
+use Rattle.value.specs.Table.{endOf, other}
+use Rattle.settle.specs.Ends.{settledEnd, room}
+
+-- where the table of an end begins, and the table
+abbrev pub baseOf : ℕ → End → ℕ
+baseOf n lower = 0
+baseOf n upper = 2 * n
+
+abbrev pub tableOf : ℕ → End → List ℕ → List ℕ
+tableOf n e s = take (2 * n) (drop (baseOf n e) s)
+
+-- the interval held, and whether a condition is reached
+abbrev pub held : ℕ → List ℕ → Assign
+held n s c = record { low = getD s (2 * c) 0; high = getD s (2 * n + 2 * c) 0 }
+
+abbrev pub reachedAt : ℕ → List ℕ → ℕ → Bool
+reachedAt n s c = leb 1 (getD s (4 * n + c) 0)
+
+-- what the end e of c comes to while the other ends stay as they are held, and how far all are from top
+abbrev pub settledAt : End → (a s : List ℕ) → ℕ → ℕ
+settledAt e a s c = settledEnd e (conditionsOf a) (topOf a) (T (pageOf a)) (unknownByDefault (pageOf a)) (held (conditionsOf a) s) c
+
+abbrev pub roomAt : End → (a s : List ℕ) → ℕ
+roomAt e a s = room e (conditionsOf a) (topOf a) (held (conditionsOf a) s)
+
+-- a half under way: grades, the negations of the other ends, and no end above what it comes to
+pub record Half (e : End) (a s : List ℕ) : Type 0 where
+  pub page-sound : sound a ≡ true
+  pub long : 6 * conditionsOf a ≤ length s
+  pub shut : DependencyClosed (conditionsOf a) (names (pageOf a)) (reachedAt (conditionsOf a) s)
+  pub within : (c : ℕ) → c < conditionsOf a → Within (topOf a) (held (conditionsOf a) s c)
+  pub negated : (c : ℕ) → c < conditionsOf a
+      → getD s (baseOf (conditionsOf a) e + (2 * c + 1)) 0 ≡ topOf a - endOf (other e) (held (conditionsOf a) s c)
+  pub below : (c : ℕ) → c < conditionsOf a → endOf e (held (conditionsOf a) s c) ≤ settledAt e a s c
+
+-- what every step of a half keeps; no end falls
+pub record Steady (e : End) (n : ℕ) (s s′ : List ℕ) : Type 0 where
+  pub same-length : length s′ ≡ length s
+  pub others : (c : ℕ) → c < n → endOf (other e) (held n s′ c) ≡ endOf (other e) (held n s c)
+  pub marks : (c : ℕ) → c < n → reachedAt n s′ c ≡ reachedAt n s c
+  pub apart : (c : ℕ) → c < n → reachedAt n s c ≡ false → endOf e (held n s′ c) ≡ endOf e (held n s c)
+  pub rises : (c : ℕ) → c < n → endOf e (held n s c) ≤ endOf e (held n s′ c)
+  pub negations : (c : ℕ) → c < n → getD s′ (baseOf n (other e) + (2 * c + 1)) 0 ≡ getD s (baseOf n (other e) + (2 * c + 1)) 0
+  pub beyond : drop (6 * n) s′ ≡ drop (6 * n) s
+
+-- The line at a place is looked at between s and s′: if what it names plainly holds in s′ what it held in s, it adds to no reached
+-- condition more than that holds.
+abbrev pub Covered : End → (a s s′ : List ℕ) → ℕ → Type 0
+Covered e a s s′ at =
+    (c : ℕ) → c < conditionsOf a → reachedAt (conditionsOf a) s′ c ≡ true
+    → ((b : ℕ) → b < conditionsOf a → linesRead (2 * b) (lineAt (drop at a) ∷ []) c ≡ true → endOf e (held (conditionsOf a) s′ b) ≡ endOf e (held (conditionsOf a) s b))
+    → (p : Interval) → lineBody (topOf a) (held (conditionsOf a) s′) c (lineAt (drop at a)) ≡ p ∷ [] → endOf e p ≤ endOf e (held (conditionsOf a) s′ c)
+
+-- the end of the head of the line at a place is raised, or nothing is done
+pub record Raised (e : End) (a : List ℕ) (at : ℕ) (s s′ : List ℕ) (rose : Bool) : Type 0 where
+  pub half : Half e a s′
+  pub steady : Steady e (conditionsOf a) s s′
+  pub still : rose ≡ false → s′ ≡ s
+  pub moves : rose ≡ true → roomAt e a s′ < roomAt e a s
+  pub covered : Covered e a s s′ at
+  pub only : (c : ℕ) → c < conditionsOf a → getD a at 0 ≢ c → endOf e (held (conditionsOf a) s′ c) ≡ endOf e (held (conditionsOf a) s c)
+
+-- where line i stands: by the index of the places, or without one by the order of the page
+abbrev pub placeAs : ℕ → (a places : List ℕ) → ℕ → ℕ
+placeAs zero a places i = placeOf a i
+placeAs (suc m) a places i = getD places i 0
+
+abbrev pub placeIn : (a places : List ℕ) → ℕ → ℕ
+placeIn a places i = placeAs (length places) a places i
+
+-- the lines numbered from `from` up to `to` can be looked at
+pub record Lookable (a places : List ℕ) (from to : ℕ) : Type 0 where
+  pub ordered : from ≤ to
+  pub first : length places ≡ 0 → (from ≡ 0) × (to ≤ countOf a)
+  pub inside : (length places ≡ 0 → ⊥) → to ≤ length places
+  pub lines : (i : ℕ) → from ≤ i → i < to → LineIn a (placeIn a places i)
+
+-- they were looked at
+pub record Looked (e : End) (a places : List ℕ) (from to : ℕ) (s s′ : List ℕ) (rose : Bool) : Type 0 where
+  pub half : Half e a s′
+  pub steady : Steady e (conditionsOf a) s s′
+  pub still : rose ≡ false → s′ ≡ s
+  pub moves : rose ≡ true → roomAt e a s′ < roomAt e a s
+  pub covered : (i : ℕ) → from ≤ i → i < to → Covered e a s s′ (placeIn a places i)
+  pub only : (c : ℕ) → c < conditionsOf a → ((i : ℕ) → from ≤ i → i < to → getD a (placeIn a places i) 0 ≢ c)
+      → endOf e (held (conditionsOf a) s′ c) ≡ endOf e (held (conditionsOf a) s c)
+
+-- T makes no more of the end e of c than c holds
+abbrev pub RestsAt : End → (a s : List ℕ) → ℕ → Type 0
+RestsAt e a s c = endOf e (T (pageOf a) (held (conditionsOf a) s) c) ≤ endOf e (held (conditionsOf a) s c)
+
+-- the ends e are settled
+pub record Settled (e : End) (a s s′ : List ℕ) (changed : Bool) : Type 0 where
+  pub half : Half e a s′
+  pub steady : Steady e (conditionsOf a) s s′
+  pub still : changed ≡ false → s′ ≡ s
+  pub moves : changed ≡ true → roomAt e a s′ < roomAt e a s
+  pub rests : (c : ℕ) → c < conditionsOf a → reachedAt (conditionsOf a) s c ≡ true → RestsAt e a s′ c
+  pub ends : (c : ℕ) → c < conditionsOf a → reachedAt (conditionsOf a) s c ≡ true → endOf e (held (conditionsOf a) s′ c) ≡ settledAt e a s c
