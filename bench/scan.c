@@ -464,6 +464,25 @@ static int rise(const uint16_t *page, const uint16_t *seen, uint16_t *value, uns
     return any;
 }
 
+/*
+ * Returns 1 if a rule negates a condition whose low end rose since the high ends were made: only then can a high end
+ * change.
+ */
+static int stale(const uint16_t *page, const uint16_t *low, const uint16_t *high)
+{
+    const uint16_t *p, *end = page + page[3];
+    unsigned top = page[0], i;
+
+    for (p = page + HEAD; p < end; p = next_line(p)) {
+        if (!is_rule(p))
+            continue;
+        for (i = 0; i < p[3]; i++)
+            if (p[4 + i] % 2 == 1 && high[p[4 + i]] != top - low[p[4 + i] - 1])
+                return 1;
+    }
+    return 0;
+}
+
 int32_t scan_closed(const uint16_t *page, size_t page_length, const uint16_t *queries, size_t queries_length,
                     uint16_t *scratch, size_t scratch_length, uint16_t *answers, size_t answers_length)
 {
@@ -510,7 +529,7 @@ int32_t scan_closed(const uint16_t *page, size_t page_length, const uint16_t *qu
         rise(page, seen, high, 3);
         for (c = 0; c < count; c++)
             low[2 * c + 1] = top - high[2 * c];
-    } while (rise(page, seen, low, 2));
+    } while (rise(page, seen, low, 2) && stale(page, low, high));
 
     for (i = 0; i < queries_length; i++) {
         answers[2 * i] = low[2 * queries[i]];

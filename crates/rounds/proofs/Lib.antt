@@ -4,3 +4,5 @@ pub mod Rounding
 -- where a half starts
 pub mod AllWaiting
 pub mod Starting
+-- whether a round was the last
+pub mod Stale

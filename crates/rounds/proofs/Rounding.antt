@@ -1,6 +1,6 @@
 -- A round in the code's own terms: what each settling asks, and what the round leaves. Assumes nothing.
 use mathlib.Core.Path.{_≡_, refl, sym, _∙_, ap, subst}
-use mathlib.Core.Bool.{Bool, true, false, true≢false}
+use mathlib.Core.Bool.{Bool, true, false, true≢false, false≢true}
 use mathlib.Core.Logic.{inl, inr, ⊎-elim}
 use mathlib.Core.List.{List}
 use Prim.Native.Nat.{ℕ, suc, _+_, _*_, _-_, _<_}
@@ -17,13 +17,14 @@ use Rattle.semantics.specs.Grade.{lower, upper}
 use Rattle.page.proofs.Head.{head-of}
 use Rattle.bits.specs.Words.{has}
 use Rattle.index.specs.Parts.{Users}
-use Rattle.settle.specs.Ends.{room}
+use Rattle.settle.specs.Ends.{reads, room}
 use Rattle.settle.specs.Scratch.{held, reachedAt, roomAt, Half, RestsAt, Settled}
 use Rattle.settle.specs.Waiting.{WaitSet, MaybeIndex, MaybeIndexed}
-use Rattle.rounds.specs.Round.{AllWait, HighsBegun, LowsBegun, Woke, past, LowsWait, TurnedAt, ToppedAt, closedAt, RoundReady, Rounded, Alternated}
+use Rattle.rounds.specs.Round.{AllWait, HighsBegun, LowsBegun, Woke, past, LowsWait, TurnedAt, ToppedAt, closedAt, Comparable, Fresh, Searched, LinesHave, RoundReady, Rounded, Alternated}
 use Rattle.settle.proofs.Scratch.{shut-over}
+use Rattle.settle.proofs.Halves.{settled-alike, settled-others}
 use Rattle.settle.proofs.Raising.{S, E}
-use Rattle.rounds.proofs.Turns.{turned-same, topped-same, topped-by, turned-by, lows-known, rounds-end}
+use Rattle.rounds.proofs.Turns.{turned-same, topped-by, turned-by, lows-known, rounds-end}
 
 low-eq : {p q : Interval} → p ≡ q → p .low ≡ q .low
 low-eq h = ap (λ (r : Interval). r .low) h
@@ -124,12 +125,35 @@ module _ (a s : List ℕ) (b : RoundReady a s) where
         unfolding unknownByDefault
         turned₄ = turned-by (S a (b .page-sound)) (b .shut) topped₃ (λ c l r. w .ends c l (marks₃ c l ∙ r))
 
-        ended : changed ≡ false → (c : ℕ) → c < n → reachedAt n s c ≡ true → held n s₄ c ≡ closedAt a c
+        -- the low ends are as before wherever a rule of a reached condition negates them
+        abbrev Still : Type 0
+        Still = (d e : ℕ) → d < n → e < n → reachedAt n s d ≡ true → reads (pageOf a) true d e ≡ true → held n s₄ e .low ≡ held n s e .low
+
+        -- then the high ends that are held are those over the low ends held
+        topped₄ : Still → ToppedAt a (reachedAt n s) (suc (b .round)) (held n s₄)
+        unfolding unknownByDefault pageOf
+        topped₄ q =
+            topped-by (S a (b .page-sound)) (b .shut) {L = held n s₄} turned₄
+            (λ c l r. w .steady .others c l ∙ high-eq (g .intervals c l) ∙ v .ends c l (h .marks c l ∙ r)
+            ∙ settled-alike (S a (b .page-sound)) (E a (b .page-sound)) (b .shut) upper (held n s₁) (held n s₄) (λ d e k m p f. h .lows e m ∙ sym (q d e k m p f)) c l r)
+
+        -- and the low ends are those over these high ends, so both are the closed reading
+        ended : Still → (c : ℕ) → c < n → reachedAt n s c ≡ true → held n s₄ c ≡ closedAt a c
         unfolding unknownByDefault
-        ended z =
-            let q : s₄ ≡ s₃ = w .still z in
-            rounds-end (S a (b .page-sound)) (b .shut) (turned-same (S a (b .page-sound)) (b .shut) (λ c l r. ap (λ (x : List ℕ). held n x c .low) q) turned₃)
-            (topped-same (S a (b .page-sound)) (b .shut) (λ c l r. ap (λ (x : List ℕ). held n x c .high) q) topped₃) turned₄
+        ended q =
+            rounds-end (S a (b .page-sound)) (b .shut) turned₄ (topped₄ q)
+            (turned-by (S a (b .page-sound)) (b .shut) (topped₄ q)
+            (λ c l r. w .ends c l (marks₃ c l ∙ r) ∙ settled-others (S a (b .page-sound)) (E a (b .page-sound)) lower (held n s₃) (held n s₄) (λ d m. sym (w .steady .others d m)) c l))
+
+        -- where a negation is fresh the low end is as before
+        number₄ : (c : ℕ) → c < n → getD s₄ (2 * n + (2 * c + 1)) 0 ≡ topOf a - held n s c .low
+        number₄ c l = w .steady .negations c l ∙ g .negations c l ∙ v .half .negated c l ∙ ap (λ (x : ℕ). topOf a - x) (v .steady .others c l ∙ h .lows c l)
+
+        fresh-same : (c : ℕ) → c < n → Fresh a s₄ c → held n s₄ c .low ≡ held n s c .low
+        fresh-same c l f = omega (arith, number₄ c l, f, w .half .within c l .low-in, b .within c l)
+
+        pub comparable₄ : Comparable a s₄
+        comparable₄ = record { page-sound = b .page-sound; long = w .half .long; within = λ c l. w .half .within c l .low-in }
 
         -- everybody rests, over the high ends held
         pub lows-wait : {lows : List ℕ} → WaitSet n lows → LowsWait a s₄ lows
@@ -149,8 +173,8 @@ module _ (a s : List ℕ) (b : RoundReady a s) where
         unfolding room
         room-same = sum-eq n _ _ (λ c l. ap (λ (x : ℕ). topOf a - x) (lows₃ c l))
 
-        pub rounded : Rounded a s s₄ changed
-        rounded =
+        rounded : {moved : Bool} → (moved ≡ false → Still) → (moved ≡ true → roomAt lower a s₄ < roomAt lower a s) → Rounded a s s₄ moved
+        rounded q m =
             record {
               same-length = w .steady .same-length ∙ g .same-length ∙ v .steady .same-length ∙ h .same-length;
               marks = marks₄;
@@ -164,9 +188,18 @@ module _ (a s : List ℕ) (b : RoundReady a s) where
                 round = suc (b .round);
                 turned = turned-over marks₄ turned₄;
               };
-              ends = ended;
-              moves = λ z. omega (arith, w .moves z, room-same);
+              ends = λ z. ended (q z);
+              moves = m;
             }
+
+        -- no low end rose
+        pub rounded-still : changed ≡ false → Rounded a s s₄ false
+        rounded-still z =
+            rounded (λ y d e k m p f. ap (λ (x : List ℕ). held n x e .low) (w .still z) ∙ lows₃ e m) (λ y. absurd (false≢true y))
+
+        -- some rose
+        pub rounded-rose : {moved : Bool} → changed ≡ true → Searched a s₄ (LinesHave (pageOf a .lines)) moved → Rounded a s s₄ moved
+        rounded-rose z q = rounded (λ y d e k m p f. fresh-same e m (q .all y e (d, f))) (λ y. omega (arith, w .moves z, room-same))
 
 -- the loop over the rounds
 module _ (a s₀ : List ℕ) where
@@ -179,11 +212,11 @@ module _ (a s₀ : List ℕ) where
   pub alternating-first : RoundReady a s₀ → Alternating s₀
   alternating-first b = record { same-length = refl; marks = λ c l. refl; beyond = refl; ready = b }
 
-  module _ {s s′ : List ℕ} {changed : Bool} (v : Alternating s) (r : Rounded a s s′ changed) where
+  module _ {s s′ : List ℕ} {moved : Bool} (v : Alternating s) (r : Rounded a s s′ moved) where
     pub alternating-next : Alternating s′
     alternating-next = record { same-length = r .same-length ∙ v .same-length; marks = λ c l. r .marks c l ∙ v .marks c l; beyond = r .beyond ∙ v .beyond; ready = r .next }
 
-    pub alternating-last : changed ≡ false → Alternated a s₀ s′
+    pub alternating-last : moved ≡ false → Alternated a s₀ s′
     alternating-last z =
         record {
           same-length = r .same-length ∙ v .same-length;

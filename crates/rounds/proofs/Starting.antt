@@ -205,6 +205,7 @@ module _ (a users s₀ words₀ : List ℕ) where
       same-length = v .same-length;
       intervals = λ d m. pair-eq (v .plain d) (v .over (2 * size + 2 * d) (omega arith));
       negated = λ d m. v .negated d (omega arith);
+      negations = λ d m. v .over (2 * size + (2 * d + 1)) (omega arith);
       marks = λ d m. ap (leb 1) (v .over (4 * size + d) (omega arith));
       beyond = v .beyond;
     },

@@ -12,7 +12,7 @@ use Rattle.fixpoint.specs.WellFounded.{closed}
 use Rattle.semantics.specs.Area.{sound, pageOf, topOf, conditionsOf}
 use Rattle.semantics.specs.Body.{T, bodyless, unknownByDefault}
 use Rattle.semantics.specs.Grade.{lower}
-use Rattle.semantics.specs.Page.{names}
+use Rattle.semantics.specs.Page.{Line, names}
 use Rattle.bits.specs.Words.{has}
 use Rattle.index.specs.Readers.{linesRead}
 use Rattle.settle.specs.Scratch.{held, reachedAt, roomAt}
@@ -60,8 +60,32 @@ pub record LowsBegun (a s s′ : List ℕ) : Type 0 where
   pub same-length : length s′ ≡ length s
   pub intervals : (c : ℕ) → c < conditionsOf a → held (conditionsOf a) s′ c ≡ held (conditionsOf a) s c
   pub negated : (c : ℕ) → c < conditionsOf a → getD s′ (2 * c + 1) 0 ≡ topOf a - getD s (2 * conditionsOf a + 2 * c) 0
+  pub negations : (c : ℕ) → c < conditionsOf a → getD s′ (2 * conditionsOf a + (2 * c + 1)) 0 ≡ getD s (2 * conditionsOf a + (2 * c + 1)) 0
   pub marks : (c : ℕ) → c < conditionsOf a → reachedAt (conditionsOf a) s′ c ≡ reachedAt (conditionsOf a) s c
   pub beyond : drop (6 * conditionsOf a) s′ ≡ drop (6 * conditionsOf a) s
+
+-- the numbers that a comparison of the negations reads
+pub record Comparable (a s : List ℕ) : Type 0 where
+  pub page-sound : sound a ≡ true
+  pub long : 6 * conditionsOf a ≤ length s
+  pub within : (c : ℕ) → c < conditionsOf a → getD s (2 * c) 0 ≤ topOf a
+
+-- the negation of c has at its high end the number over the low end that is held now
+abbrev pub Fresh : (a s : List ℕ) → ℕ → Type 0
+Fresh a s c = getD s (2 * conditionsOf a + (2 * c + 1)) 0 ≡ topOf a - getD s (2 * c) 0
+
+-- a search for a negation that is not fresh among literals: there is one, or all are fresh
+pub record Searched (a s : List ℕ) (literal : ℕ → Type 0) (found : Bool) : Type 0 where
+  pub one : found ≡ true → (c : ℕ) × (c < conditionsOf a) × (Fresh a s c → ⊥)
+  pub all : found ≡ false → (c : ℕ) → literal (2 * c + 1) → Fresh a s c
+
+-- the literal stands at a place from one up to another
+abbrev pub Between : (a : List ℕ) (from to : ℕ) → ℕ → Type 0
+Between a from to code = (j : ℕ) × (from ≤ j) × (j < to) × (getD a j 0 ≡ code)
+
+-- some line of a list, of whatever head, has the literal
+abbrev pub LinesHave : List Line → ℕ → Type 0
+LinesHave ls code = (h : ℕ) × (linesRead code ls h ≡ true)
 
 -- the round k, on what is reached
 abbrev pub TurnedAt : List ℕ → (ℕ → Bool) → ℕ → Assign → Type 0
@@ -83,14 +107,14 @@ pub record RoundReady (a s : List ℕ) : Type 0 where
   pub round : ℕ
   pub turned : TurnedAt a (reachedAt (conditionsOf a) s) round (held (conditionsOf a) s)
 
--- a round leaves the next state; one that moves no low end leaves the closed reading on what is reached
-pub record Rounded (a s s′ : List ℕ) (changed : Bool) : Type 0 where
+-- a round leaves the next state; if no low end moved that a rule negates, it leaves the closed reading on what is reached
+pub record Rounded (a s s′ : List ℕ) (moved : Bool) : Type 0 where
   pub same-length : length s′ ≡ length s
   pub marks : (c : ℕ) → c < conditionsOf a → reachedAt (conditionsOf a) s′ c ≡ reachedAt (conditionsOf a) s c
   pub beyond : drop (6 * conditionsOf a) s′ ≡ drop (6 * conditionsOf a) s
   pub next : RoundReady a s′
-  pub ends : changed ≡ false → (c : ℕ) → c < conditionsOf a → reachedAt (conditionsOf a) s c ≡ true → held (conditionsOf a) s′ c ≡ closedAt a c
-  pub moves : changed ≡ true → roomAt lower a s′ < roomAt lower a s
+  pub ends : moved ≡ false → (c : ℕ) → c < conditionsOf a → reachedAt (conditionsOf a) s c ≡ true → held (conditionsOf a) s′ c ≡ closedAt a c
+  pub moves : moved ≡ true → roomAt lower a s′ < roomAt lower a s
 
 -- all rounds
 pub record Alternated (a s s′ : List ℕ) : Type 0 where

@@ -1,14 +1,16 @@
 // Rounds of two halves: the least high ends over the low ends held, then the least low ends over the high ends held.
 ghost use mathlib.Core.Path.{_≡_};
 ghost use mathlib.Core.Bool.{true};
-ghost use Prim.Native.Nat.{_≤_, _<_, _+_, _*_};
-ghost use lib.ListN.{length, getD};
-ghost use Rattle.semantics.specs.Area.{sound, topOf, conditionsOf};
+ghost use mathlib.Core.List.{[], _∷_};
+ghost use Prim.Native.Nat.{ℕ, _≤_, _<_, _+_, _*_};
+ghost use lib.ListN.{length, getD, drop};
+ghost use Rattle.semantics.specs.Area.{sound, lineAt, pageOf, topOf, conditionsOf};
 ghost use Rattle.semantics.specs.Grade.{upper};
+ghost use Rattle.page.specs.Places.{LineIn};
 ghost use Rattle.index.specs.Parts.{MaybeUsers};
 ghost use Rattle.settle.specs.Scratch.{Half};
 ghost use Rattle.settle.specs.Waiting.{WaitSet, MaybeIndex};
-ghost use Rattle.rounds.specs.Round.{AllWait, HighsBegun, Renegated, Woke, LowsWait, LowsBegun, RoundReady, Rounded, Alternated};
+ghost use Rattle.rounds.specs.Round.{AllWait, HighsBegun, Renegated, Woke, LowsWait, LowsBegun, Comparable, Searched, Between, LinesHave, RoundReady, Rounded, Alternated};
 use settle::settle;
 use settle::wake;
 use value::End;
@@ -77,7 +79,64 @@ fn wait_all(scratch: &[u16], n: u16, words: &mut [u64])
     }
 }
 
-// A round: the high ends anew, then the low ends from where they are; whether a low end changed.
+// Whether the literal is a negation whose number at its high end is not that over the low end held.
+fn literal_stale(a: &[u16], scratch: &[u16], code: u16) -> bool
+    requires { ⌜ Comparable (now a) (now scratch) × (code < 2 * conditionsOf (now a)) ⌝ }
+    ensures { λ r. ⌜ Searched (now (a .entry)) (now (scratch .entry)) (λ t. t ≡ code) r ⌝ }
+{
+    if code % 2 == 0 {
+        return false;
+    }
+    let t = code as usize;
+    let base = 2 * a[1] as usize;
+    scratch[base + t] != a[0] - scratch[t - 1]
+}
+
+// Whether one of the literals from one place up to another is.
+fn literals_stale(a: &[u16], from: usize, to: usize, scratch: &[u16]) -> bool
+    requires { ⌜ Comparable (now a) (now scratch) × (from ≤ to) × (to ≤ length (now a)) × ((j : ℕ) → from ≤ j → j < to → getD (now a) j 0 < 2 * conditionsOf (now a)) ⌝ }
+    ensures { λ r. ⌜ Searched (now (a .entry)) (now (scratch .entry)) (Between (now (a .entry)) from to) r ⌝ }
+{
+    let mut j = from;
+    while j < to {
+        if literal_stale(a, scratch, a[j]) {
+            return true;
+        }
+        j += 1;
+    }
+    false
+}
+
+// Whether a literal of the line at `at` is.
+fn line_stale(a: &[u16], at: usize, scratch: &[u16]) -> bool
+    requires { ⌜ Comparable (now a) (now scratch) × LineIn (now a) at ⌝ }
+    ensures { λ r. ⌜ Searched (now (a .entry)) (now (scratch .entry)) (LinesHave (lineAt (drop at (now (a .entry))) ∷ [])) r ⌝ }
+{
+    let k = a[at + 1];
+    match k {
+        1..=5 => literals_stale(a, at + 4, at + 4 + a[at + 3] as usize, scratch),
+        _ => false,
+    }
+}
+
+// Whether a literal of the page is: only then can a high end come out as another.
+fn negation_stale(a: &[u16], scratch: &[u16]) -> bool
+    requires { ⌜ Comparable (now a) (now scratch) ⌝ }
+    ensures { λ r. ⌜ Searched (now (a .entry)) (now (scratch .entry)) (LinesHave (pageOf (now (a .entry)) .lines)) r ⌝ }
+{
+    let count = a[2];
+    let mut line = page::Cursor::first(a);
+    while line.passed < count {
+        let at = line.at;
+        if line_stale(a, at, scratch) {
+            return true;
+        }
+        line = line.next(a);
+    }
+    false
+}
+
+// A round: the high ends anew, then the low ends from where they are; whether one moved that a rule negates.
 fn round(
     a: &[u16],
     lines: &[u16],
@@ -95,10 +154,13 @@ fn round(
     wait_all(scratch, n, tops);
     settle(a, lines, users, scratch, tops, base, End::Upper);
     start_lows(a, users, scratch, lows);
-    settle(a, lines, users, scratch, lows, 0, End::Lower)
+    if !settle(a, lines, users, scratch, lows, 0, End::Lower) {
+        return false;
+    }
+    negation_stale(a, scratch)
 }
 
-// Rounds until one changes no low end. In the first every reached condition waits in both halves.
+// Rounds until one moves no low end that a rule negates. In the first every reached condition waits in both halves.
 pub fn alternate(a: &[u16], lines: &[u16], users: &[u16], scratch: &mut [u16])
     requires { ⌜ RoundReady (now a) (now scratch) × MaybeIndex (now a) (now lines) (now users) ⌝ }
     ensures { λ r. ⌜ Alternated (now (a .entry)) (now (scratch .entry)) (now (scratch .exit)) ⌝ }

@@ -33,7 +33,7 @@ use Rattle.settle.proofs.Settling.{Settling, settling-first, settling-n
 use Rattle.index.proofs.Grouped.{group-within}
 
 -- what a line reads its page reads
-read-cons : (code : ℕ) (l : Line) (ls : List Line) (c : ℕ) → linesRead code (l ∷ ls) c ≡ (linesRead code (l ∷ []) c || linesRead code ls c)
+pub read-cons : (code : ℕ) (l : Line) (ls : List Line) (c : ℕ) → linesRead code (l ∷ ls) c ≡ (linesRead code (l ∷ []) c || linesRead code ls c)
 unfolding linesRead
 read-cons code (fact d x y) ls c = refl
 read-cons code (rule d w op lits) ls c = go (eqb d c && among code lits)

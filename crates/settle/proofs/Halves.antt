@@ -175,19 +175,26 @@ module _ {n top : ℕ} {T : Assign → ℕ → Interval} {names : ℕ → ℕ �
             settled-is n top T e K c,
           )
 
-  -- the ends come to the same over the same other ends
-  half-others : (e : End) (L M : Assign) → ((b : ℕ) → b < n → endOf (other e) (L b) ≡ endOf (other e) (M b)) → (X Y : Assign) → Alike n (λ b. true) X Y
-      → Alike n (λ b. true) (half top T e L X) (half top T e M Y)
-  unfolding raise roof lift
-  half-others upper L M g X Y h c l r =
-      ap (λ (x : ℕ). record { low = x; high = top })
-      (E .local-end upper (join (floor top nobody L) (roof X)) (join (floor top nobody M) (roof Y)) c l
-      (λ b m f. ap (λ (p : Interval). min top (p .low)) (h b m refl)) (λ b m f. ap (λ (x : ℕ). max x 0) (g b m)))
-  half-others lower L M g X Y h c l r =
-      ap (λ (x : ℕ). record { low = min top x; high = top })
-      (E .local-end lower (mix nobody X L) (mix nobody Y M) c l (λ b m f. ap (λ (p : Interval). p .low) (h b m refl)) (λ b m f. g b m))
+  -- The ends of what is reached come to the same over other ends that are the same wherever a reached condition negates them.
+  module _ {reached : ℕ → Bool} (shut : DependencyClosed n names reached) (e : End) (L M : Assign)
+      (same : (a b : ℕ) → a < n → b < n → reached a ≡ true → reads true a b ≡ true → endOf (other e) (L b) ≡ endOf (other e) (M b)) where
+    half-alike : (g : End) → ((a b : ℕ) → a < n → b < n → reached a ≡ true → reads true a b ≡ true → endOf (other g) (L b) ≡ endOf (other g) (M b))
+        → (X Y : Assign) → Alike n reached X Y → Alike n reached (half top T g L X) (half top T g M Y)
+    unfolding raise roof lift
+    half-alike upper g X Y h c l r =
+        ap (λ (x : ℕ). record { low = x; high = top })
+        (E .local-end upper (join (floor top nobody L) (roof X)) (join (floor top nobody M) (roof Y)) c l
+        (λ b m f. ap (λ (p : Interval). min top (p .low)) (h b m (shut c b l m r (E .named false c b f)))) (λ b m f. ap (λ (x : ℕ). max x 0) (g c b l m r f)))
+    half-alike lower g X Y h c l r =
+        ap (λ (x : ℕ). record { low = min top x; high = top })
+        (E .local-end lower (mix nobody X L) (mix nobody Y M) c l
+        (λ b m f. ap (λ (p : Interval). p .low) (h b m (shut c b l m r (E .named false c b f)))) (λ b m f. g c b l m r f))
 
+    pub settled-alike : (c : ℕ) → c < n → reached c ≡ true → settledEnd e n top T nobody L c ≡ settledEnd e n top T nobody M c
+    settled-alike c l r =
+        sym (settled-is n top T e L c) ∙ ap (λ (p : Interval). p .low) (lfp-alike top (half top T e L) (half top T e M) (half-alike e same) c l r) ∙ settled-is n top T e M c
+
+  -- over the same other ends everywhere
   pub settled-others : (e : End) (L M : Assign) → ((b : ℕ) → b < n → endOf (other e) (L b) ≡ endOf (other e) (M b)) → (c : ℕ) → c < n
       → settledEnd e n top T nobody L c ≡ settledEnd e n top T nobody M c
-  settled-others e L M g c l =
-      sym (settled-is n top T e L c) ∙ ap (λ (p : Interval). p .low) (lfp-alike top (half top T e L) (half top T e M) (half-others e L M g) c l refl) ∙ settled-is n top T e M c
+  settled-others e L M g c l = settled-alike {reached = λ b. true} (λ a b k m r f. refl) e L M (λ a b k m r f. g b m) c l refl

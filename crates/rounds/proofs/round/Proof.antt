@@ -1,11 +1,13 @@
--- `round` is a round of the alternating fixed point (`rounded`).
+-- `round` is a round of the alternating fixed point: the last, if no low end rose (`rounded-still`) or none that a rule negates
+-- (`rounded-rose`).
 use mathlib.Core.Path.{refl, sym, _∙_}
 use mathlib.Core.Logic.{inl, inr, ⊎-elim}
 use native.Mathlib.Omega.{arith}
 use borrow.Author.Needs.{needs}
+use borrow.Author.Tests.{not-true, not-false}
 use Rattle.page.proofs.Head.{head-of}
 use Rattle.rounds.proofs.AllWaiting.{all-indexed}
-use Rattle.rounds.proofs.Rounding.{highs-half, lows-half, lows-indexed, lows-wait, rounded}
+use Rattle.rounds.proofs.Rounding.{highs-half, lows-half, lows-indexed, lows-wait, comparable₄, rounded-still, rounded-rose}
 use Rattle.rounds.proofs.round.Statement.{statement}
 use Rattle.rounds.proofs.round.Tie as tie
 
@@ -34,16 +36,31 @@ settle-requires-2 : tie.Need-settle-requires-2
 settle-requires-2 c κs = let s = c .before .before .before .before .before .before .before .before .before .before .before .before .before .before .before .before .before .before .before .before .before .before .before .before .before .before .before .before .before .before .before .before in (lows-half _ _ (s .pre .0) (c .before .before .before .before .before .before .before .before .before .before .before .before .before .before .before .before .before .before .before .before .before .before .before .start-highs .ensures) (c .before .before .before .before .before .before .before .before .before .before .before .before .before .settle .ensures .0) (c .before .before .before .before .before .before .start-lows .ensures .0), refl, lows-indexed _ _ (s .pre .0) (c .before .before .before .before .before .before .before .before .before .before .before .before .before .before .before .before .before .before .before .before .before .before .before .start-highs .ensures) (c .before .before .before .before .before .before .before .before .before .before .before .before .before .settle .ensures .0) (c .before .before .before .before .before .before .start-lows .ensures .0) (s .pre .3) (c .before .before .before .before .before .before .start-lows .ensures .1) (s .pre .1), c .before .before .before .before .before .before .start-lows .ensures .1 .set-in)
 
 same-length : tie.Need-same-length
-same-length c = let s = c .before .before .before .before .before .before .before .before .before .before .before .before .before .before .before .before .before .before .before .before .before .before .before .before .before .before .before .before .before .before .before .before .before .before .before .before .before in rounded _ _ (s .pre .0) (c .before .before .before .before .before .before .before .before .before .before .before .before .before .before .before .before .before .before .before .before .before .before .before .before .before .before .before .before .start-highs .ensures) (c .before .before .before .before .before .before .before .before .before .before .before .before .before .before .before .before .before .before .settle .ensures .0) (c .before .before .before .before .before .before .before .before .before .before .before .start-lows .ensures .0) (c .before .before .before .before .settle2 .ensures .0) .same-length
+same-length c = let s = c .before .before .before .before .before .before .before .before .before .before .before .before .before .before .before .before .before .before .before .before .before .before .before .before .before .before .before .before .before .before .before .before .before .before .before .before .before .before in rounded-still _ _ (s .pre .0) (c .before .before .before .before .before .before .before .before .before .before .before .before .before .before .before .before .before .before .before .before .before .before .before .before .before .before .before .before .before .start-highs .ensures) (c .before .before .before .before .before .before .before .before .before .before .before .before .before .before .before .before .before .before .before .settle .ensures .0) (c .before .before .before .before .before .before .before .before .before .before .before .before .start-lows .ensures .0) (c .before .before .before .before .before .settle2 .ensures .0) (not-true _ (c .if1 .taken)) .same-length
 
 same-length-2 : tie.Need-same-length-2
-same-length-2 c = let s = c .before .before .before .before .before .before .before .before .before .before .before .before .before .before .before .before .before .before .before .before .before .before .before .before .before .before .before .before .before .before .before .before .before .before .before .before .before in c .before .before .before .before .before .before .before .before .before .before .before .before .before .before .before .before .before .before .settle .ensures .1 .size ∙ sym (s .pre .2 .size)
+same-length-2 c = search needs
 
 same-length-3 : tie.Need-same-length-3
-same-length-3 c = let s = c .before .before .before .before .before .before .before .before .before .before .before .before .before .before .before .before .before .before .before .before .before .before .before .before .before .before .before .before .before .before .before .before .before .before .before .before .before in c .before .before .before .before .settle2 .ensures .1 .size ∙ sym (s .pre .3 .set-in .size)
+same-length-3 c = search needs
 
 returns : tie.Need-returns
-returns c = let s = c .before .before .before .before .before .before .before .before .before .before .before .before .before .before .before .before .before .before .before .before .before .before .before .before .before .before .before .before .before .before .before .before .before .before .before .before .before in (rounded _ _ (s .pre .0) (c .before .before .before .before .before .before .before .before .before .before .before .before .before .before .before .before .before .before .before .before .before .before .before .before .before .before .before .before .start-highs .ensures) (c .before .before .before .before .before .before .before .before .before .before .before .before .before .before .before .before .before .before .settle .ensures .0) (c .before .before .before .before .before .before .before .before .before .before .before .start-lows .ensures .0) (c .before .before .before .before .settle2 .ensures .0), c .before .before .before .before .before .before .before .before .before .before .before .before .before .before .before .before .before .before .settle .ensures .1, lows-wait _ _ (s .pre .0) (c .before .before .before .before .before .before .before .before .before .before .before .before .before .before .before .before .before .before .before .before .before .before .before .before .before .before .before .before .start-highs .ensures) (c .before .before .before .before .before .before .before .before .before .before .before .before .before .before .before .before .before .before .settle .ensures .0) (c .before .before .before .before .before .before .before .before .before .before .before .start-lows .ensures .0) (c .before .before .before .before .settle2 .ensures .0) (c .before .before .before .before .settle2 .ensures .1))
+returns c = let s = c .before .before .before .before .before .before .before .before .before .before .before .before .before .before .before .before .before .before .before .before .before .before .before .before .before .before .before .before .before .before .before .before .before .before .before .before .before .before in (rounded-still _ _ (s .pre .0) (c .before .before .before .before .before .before .before .before .before .before .before .before .before .before .before .before .before .before .before .before .before .before .before .before .before .before .before .before .before .start-highs .ensures) (c .before .before .before .before .before .before .before .before .before .before .before .before .before .before .before .before .before .before .before .settle .ensures .0) (c .before .before .before .before .before .before .before .before .before .before .before .before .start-lows .ensures .0) (c .before .before .before .before .before .settle2 .ensures .0) (not-true _ (c .if1 .taken)), c .before .before .before .before .before .before .before .before .before .before .before .before .before .before .before .before .before .before .before .settle .ensures .1, lows-wait _ _ (s .pre .0) (c .before .before .before .before .before .before .before .before .before .before .before .before .before .before .before .before .before .before .before .before .before .before .before .before .before .before .before .before .before .start-highs .ensures) (c .before .before .before .before .before .before .before .before .before .before .before .before .before .before .before .before .before .before .before .settle .ensures .0) (c .before .before .before .before .before .before .before .before .before .before .before .before .start-lows .ensures .0) (c .before .before .before .before .before .settle2 .ensures .0) (c .before .before .before .before .before .settle2 .ensures .1))
+
+negation-stale-requires : tie.Need-negation-stale-requires
+negation-stale-requires c κs = let s = c .before .before .before .before .before .before .before .before .before .before .before .before .before .before .before .before .before .before .before .before .before .before .before .before .before .before .before .before .before .before .before .before .before .before .before .before .before .before .before in comparable₄ _ _ (s .pre .0) (c .before .before .before .before .before .before .before .before .before .before .before .before .before .before .before .before .before .before .before .before .before .before .before .before .before .before .before .before .before .before .start-highs .ensures) (c .before .before .before .before .before .before .before .before .before .before .before .before .before .before .before .before .before .before .before .before .settle .ensures .0) (c .before .before .before .before .before .before .before .before .before .before .before .before .before .start-lows .ensures .0) (c .before .before .before .before .before .before .settle2 .ensures .0)
+
+same-length-4 : tie.Need-same-length-4
+same-length-4 c = let s = c .before .before .before .before .before .before .before .before .before .before .before .before .before .before .before .before .before .before .before .before .before .before .before .before .before .before .before .before .before .before .before .before .before .before .before .before .before .before .before .before in rounded-rose _ _ (s .pre .0) (c .before .before .before .before .before .before .before .before .before .before .before .before .before .before .before .before .before .before .before .before .before .before .before .before .before .before .before .before .before .before .before .start-highs .ensures) (c .before .before .before .before .before .before .before .before .before .before .before .before .before .before .before .before .before .before .before .before .before .settle .ensures .0) (c .before .before .before .before .before .before .before .before .before .before .before .before .before .before .start-lows .ensures .0) (c .before .before .before .before .before .before .before .settle2 .ensures .0) (not-false _ (c .before .before .if1 .left)) (c .negation-stale .ensures) .same-length
+
+same-length-5 : tie.Need-same-length-5
+same-length-5 c = search needs
+
+same-length-6 : tie.Need-same-length-6
+same-length-6 c = search needs
+
+returns-2 : tie.Need-returns-2
+returns-2 c = let s = c .before .before .before .before .before .before .before .before .before .before .before .before .before .before .before .before .before .before .before .before .before .before .before .before .before .before .before .before .before .before .before .before .before .before .before .before .before .before .before .before in (rounded-rose _ _ (s .pre .0) (c .before .before .before .before .before .before .before .before .before .before .before .before .before .before .before .before .before .before .before .before .before .before .before .before .before .before .before .before .before .before .before .start-highs .ensures) (c .before .before .before .before .before .before .before .before .before .before .before .before .before .before .before .before .before .before .before .before .before .settle .ensures .0) (c .before .before .before .before .before .before .before .before .before .before .before .before .before .before .start-lows .ensures .0) (c .before .before .before .before .before .before .before .settle2 .ensures .0) (not-false _ (c .before .before .if1 .left)) (c .negation-stale .ensures), c .before .before .before .before .before .before .before .before .before .before .before .before .before .before .before .before .before .before .before .before .before .settle .ensures .1, lows-wait _ _ (s .pre .0) (c .before .before .before .before .before .before .before .before .before .before .before .before .before .before .before .before .before .before .before .before .before .before .before .before .before .before .before .before .before .before .before .start-highs .ensures) (c .before .before .before .before .before .before .before .before .before .before .before .before .before .before .before .before .before .before .before .before .before .settle .ensures .0) (c .before .before .before .before .before .before .before .before .before .before .before .before .before .before .start-lows .ensures .0) (c .before .before .before .before .before .before .before .settle2 .ensures .0) (c .before .before .before .before .before .before .before .settle2 .ensures .1))
 
 pub round-spec : {M : Type 1} → statement M
 round-spec =
@@ -60,4 +77,9 @@ round-spec =
     same-length
     same-length-2
     same-length-3
-    returns)
+    returns
+    negation-stale-requires
+    same-length-4
+    same-length-5
+    same-length-6
+    returns-2)
