@@ -1,6 +1,6 @@
 -- The sets of those that wait, where the rounds start: nobody, and every reached condition. Assumes nothing.
 use mathlib.Core.Path.{_≡_, refl, sym, _∙_, ap}
-use mathlib.Core.Logic.{inl, inr, ⊎-elim}
+use mathlib.Core.Logic.{_⊎_, inl, inr, ⊎-elim}
 use mathlib.Core.Bool.{true, false, or-true, true≢false}
 use mathlib.Core.List.{List, [], _∷_}
 use Prim.Native.Nat.{ℕ, zero, suc, _+_, _*_, _/_, _≤_, _<_}
@@ -70,7 +70,8 @@ nobody-waits n = record { size = refl; inside = λ c l r. absurd (true≢false (
     zero-at (suc m) (suc i) = zero-at m i
 
 -- all who are reached wait: an index with them
-pub all-indexed : (e : End) (a lines users s words : List ℕ) → MaybeIndex a lines users → AllWait (conditionsOf a) s words → MaybeIndexed e a lines users s words
+pub all-indexed : (e : End) (a lines users s words : List ℕ) → MaybeIndex a lines users → (length users ≡ 0) ⊎ AllWait (conditionsOf a) s words → MaybeIndexed e a lines users s words
 all-indexed e a lines users s words (inl z) w = inl z
-all-indexed e a lines users s words (inr i) w =
+all-indexed e a lines users s words (inr i) (inl z) = inl z
+all-indexed e a lines users s words (inr i) (inr w) =
     inr (record { lines-in = i .0; users-in = i .1; waiting = record { set = w .set; rests = λ c l r q. absurd (true≢false (sym (w .waits c l r) ∙ q)) } })

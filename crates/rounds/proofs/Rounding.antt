@@ -1,7 +1,7 @@
 -- A round in the code's own terms: what each settling asks, and what the round leaves. Assumes nothing.
 use mathlib.Core.Path.{_≡_, refl, sym, _∙_, ap, subst}
 use mathlib.Core.Bool.{Bool, true, false, true≢false, false≢true}
-use mathlib.Core.Logic.{inl, inr, ⊎-elim}
+use mathlib.Core.Logic.{_⊎_, inl, inr, ⊎-elim}
 use mathlib.Core.List.{List}
 use Prim.Native.Nat.{ℕ, suc, _+_, _*_, _-_, _<_}
 use native.Mathlib.Decide.{ℕ-discrete}
@@ -91,7 +91,7 @@ module _ (a s : List ℕ) (b : RoundReady a s) where
           }
 
       -- whoever does not wait negates no condition whose number is another
-      module _ {users lows lows′ : List ℕ} (k : LowsWait a s lows) (o : Woke a users s₂ s₃ lows lows′) where
+      module _ {users lows lows′ : List ℕ} (k : LowsWait a users s lows) (o : Woke a users s₂ s₃ lows lows′) where
         number-same : (b : ℕ) → b < n → getD s₂ (2 * b + 1) 0 ≡ getD s (2 * b + 1) 0
         number-same b m = ap (λ (i : ℕ). getD s₂ i 0) (omega arith) ∙ v .steady .negations b m ∙ ap (λ (i : ℕ). getD s₁ i 0) (omega arith) ∙ h .negations b m
 
@@ -105,7 +105,7 @@ module _ (a s : List ℕ) (b : RoundReady a s) where
             let out : has lows c ≡ false = by-bool (has lows c) (λ y. absurd (true≢false (sym (o .kept c (omega arith) y) ∙ q))) (λ y. y) in
             omega (
               arith,
-              k .rests c l (sym (marks₃ c l) ∙ r) out,
+              k .rests (λ z. omega (arith, u .long)) c l (sym (marks₃ c l) ∙ r) out,
               lows₃ c l,
               E a (b .page-sound) .local-end lower (held n s₃) (past a s) c l (λ d m f. lows₃ d m)
                   (λ d m f. past-high d m (elim (ℕ-discrete (getD s₂ (2 * d + 1) 0) (getD s₃ (2 * d + 1) 0)) [
@@ -156,12 +156,12 @@ module _ (a s : List ℕ) (b : RoundReady a s) where
         comparable₄ = record { page-sound = b .page-sound; long = w .half .long; within = λ c l. w .half .within c l .low-in }
 
         -- everybody rests, over the high ends held
-        pub lows-wait : {lows : List ℕ} → WaitSet n lows → LowsWait a s₄ lows
+        pub lows-wait : {users lows : List ℕ} → WaitSet n lows → LowsWait a users s₄ lows
         unfolding pageOf
-        lows-wait {lows} q =
+        lows-wait {users} {lows} q =
             record {
               set-in = q;
-              rests = λ c l r z. omega (
+              rests = λ y c l r z. omega (
                 arith,
                 w .rests c l (sym (w .steady .marks c l) ∙ r),
                 E a (b .page-sound) .local-end lower (past a s₄) (held n s₄) c l (λ d m f. refl)
@@ -225,5 +225,6 @@ module _ (a s₀ : List ℕ) where
         }
 
 -- at first everybody waits
-pub all-lows : (a s words : List ℕ) → AllWait (conditionsOf a) s words → LowsWait a s words
-all-lows a s words w = record { set-in = w .set; rests = λ c l r z. absurd (true≢false (sym (w .waits c l r) ∙ z)) }
+pub all-lows : (a users s words : List ℕ) → WaitSet (conditionsOf a) words → (length users ≡ 0) ⊎ AllWait (conditionsOf a) s words → LowsWait a users s words
+all-lows a users s words h w =
+    record { set-in = h; rests = λ y c l r z. ⊎-elim (λ e. absurd (y e)) (λ v. absurd (true≢false (sym (v .waits c l r) ∙ z))) w }

@@ -50,10 +50,10 @@ pub record Woke (a users s s′ words words′ : List ℕ) : Type 0 where
 abbrev pub past : (a s : List ℕ) → Assign
 past a s c = record { low = getD s (2 * c) 0; high = topOf a - getD s (2 * c + 1) 0 }
 
--- whoever is reached and does not wait holds what T made of it then
-pub record LowsWait (a s words : List ℕ) : Type 0 where
+-- if there is an index, whoever is reached and does not wait holds what T made of it then
+pub record LowsWait (a users s words : List ℕ) : Type 0 where
   pub set-in : WaitSet (conditionsOf a) words
-  pub rests : (c : ℕ) → c < conditionsOf a → reachedAt (conditionsOf a) s c ≡ true → has words c ≡ false → T (pageOf a) (past a s) c .low ≤ getD s (2 * c) 0
+  pub rests : (length users ≡ 0 → ⊥) → (c : ℕ) → c < conditionsOf a → reachedAt (conditionsOf a) s c ≡ true → has words c ≡ false → T (pageOf a) (past a s) c .low ≤ getD s (2 * c) 0
 
 -- every low end goes on over the high ends
 pub record LowsBegun (a s s′ : List ℕ) : Type 0 where

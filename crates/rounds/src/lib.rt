@@ -1,6 +1,7 @@
 // Rounds of two halves: the least high ends over the low ends held, then the least low ends over the high ends held.
 ghost use mathlib.Core.Path.{_≡_};
 ghost use mathlib.Core.Bool.{true};
+ghost use mathlib.Core.Logic.{_⊎_};
 ghost use mathlib.Core.List.{[], _∷_};
 ghost use Prim.Native.Nat.{ℕ, _≤_, _<_, _+_, _*_};
 ghost use lib.ListN.{length, getD, drop};
@@ -64,11 +65,14 @@ fn start_lows(a: &[u16], users: &[u16], scratch: &mut [u16], words: &mut [u64])
     }
 }
 
-// Every reached condition waits.
-fn wait_all(scratch: &[u16], n: u16, words: &mut [u64])
+// Every reached condition waits, if there is an index.
+fn wait_all(scratch: &[u16], users: &[u16], n: u16, words: &mut [u64])
     requires { ⌜ (6 * n ≤ length (now scratch)) × (n ≤ 512) × WaitSet n (now words) ⌝ }
-    ensures { λ r. ⌜ AllWait n (now (scratch .entry)) (now (words .exit)) ⌝ }
+    ensures { λ r. ⌜ WaitSet n (now (words .exit)) × ((length (now (users .entry)) ≡ 0) ⊎ AllWait n (now (scratch .entry)) (now (words .exit))) ⌝ }
 {
+    if users.len() == 0 {
+        return;
+    }
     let base = 4 * n as usize;
     let mut c: u16 = 0;
     while c < n {
@@ -145,16 +149,14 @@ fn round(
     tops: &mut [u64],
     lows: &mut [u64],
 ) -> bool
-    requires { ⌜ RoundReady (now a) (now scratch) × MaybeIndex (now a) (now lines) (now users) × WaitSet (conditionsOf (now a)) (now tops) × LowsWait (now a) (now scratch) (now lows) ⌝ }
-    ensures { λ r. ⌜ Rounded (now (a .entry)) (now (scratch .entry)) (now (scratch .exit)) r × WaitSet (conditionsOf (now (a .entry))) (now (tops .exit)) × LowsWait (now (a .entry)) (now (scratch .exit)) (now (lows .exit)) ⌝ }
+    requires { ⌜ RoundReady (now a) (now scratch) × MaybeIndex (now a) (now lines) (now users) × WaitSet (conditionsOf (now a)) (now tops) × LowsWait (now a) (now users) (now scratch) (now lows) ⌝ }
+    ensures { λ r. ⌜ Rounded (now (a .entry)) (now (scratch .entry)) (now (scratch .exit)) r × WaitSet (conditionsOf (now (a .entry))) (now (tops .exit)) × LowsWait (now (a .entry)) (now (users .entry)) (now (scratch .exit)) (now (lows .exit)) ⌝ }
 {
-    let n = a[1];
-    let base = 2 * n as usize;
     start_highs(a, scratch);
-    wait_all(scratch, n, tops);
-    settle(a, lines, users, scratch, tops, base, End::Upper);
+    wait_all(scratch, users, a[1], tops);
+    settle(a, lines, users, scratch, tops, End::Upper);
     start_lows(a, users, scratch, lows);
-    if !settle(a, lines, users, scratch, lows, 0, End::Lower) {
+    if !settle(a, lines, users, scratch, lows, End::Lower) {
         return false;
     }
     negation_stale(a, scratch)
@@ -167,6 +169,6 @@ pub fn alternate(a: &[u16], lines: &[u16], users: &[u16], scratch: &mut [u16])
 {
     let mut tops = [0u64; 8];
     let mut lows = [0u64; 8];
-    wait_all(scratch, a[1], &mut lows);
+    wait_all(scratch, users, a[1], &mut lows);
     while round(a, lines, users, scratch, &mut tops, &mut lows) {}
 }

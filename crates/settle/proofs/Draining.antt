@@ -25,9 +25,8 @@ use Rattle.index.specs.Parts.{Users}
 use Rattle.index.specs.Readers.{among, linesRead}
 use Rattle.value.specs.Table.{endOf, other}
 use Rattle.value.proofs.BodyEnds.{body-most}
-use Rattle.settle.specs.Scratch.{baseOf, held, reachedAt, roomAt, Half, placeIn, Lookable, Looked, RestsAt, Settled}
+use Rattle.settle.specs.Scratch.{held, reachedAt, roomAt, Half, Lookable, Looked, RestsAt, Settled}
 use Rattle.settle.specs.Waiting.{WaitSet, Woken, Waiting}
-use Rattle.settle.proofs.Looking.{place-index}
 use Rattle.settle.proofs.Raising.{E}
 use Rattle.settle.proofs.Settling.{Settling, settling-first, settling-next, settling-last}
 use Rattle.index.proofs.Grouped.{group-within}
@@ -72,19 +71,18 @@ module _ (a first places : List ℕ) (ok : sound a ≡ true) (g : LinesByHead a 
   to-in : to ≤ length places
   to-in = group-within g (c + 1) (omega arith)
 
-  line-at-group : (i : ℕ) → from ≤ i → i < to → LineOf a c (placeIn a places i)
-  line-at-group i l u = rw (place-index a places i (omega (arith, to-in))) (g .only c i real l u)
+  line-at-group : (i : ℕ) → from ≤ i → i < to → LineOf a c (getD places i 0)
+  line-at-group i l u = g .only c i real l u
 
   pub group-lookable : Lookable a places from to
   group-lookable =
       record {
         ordered = g .ordered c real;
-        first = λ z. (omega (arith, to-in, g .ordered c real), omega (arith, to-in));
-        inside = λ z. to-in;
+        inside = to-in;
         lines = λ i l u. let w = line-at-group i l u in record { number = w .number; in-count = w .in-count; place = w .place };
       }
 
-  module _ {e : End} {s s′ : List ℕ} {t : Bool} (r : Looked e a places from to s s′ t) where
+  module _ {e : End} {s s′ : List ℕ} {t : Bool} (r : Looked e a (λ i. getD places i 0) from to s s′ t) where
     -- no other condition rose
     pub group-only : (b : ℕ) → b < conditionsOf a → b ≢ c → endOf e (held (conditionsOf a) s′ b) ≡ endOf e (held (conditionsOf a) s b)
     group-only b m d = r .only b m (λ i l u q. d (sym q ∙ line-at-group i l u .head))
@@ -95,11 +93,11 @@ module _ (a first places : List ℕ) (ok : sound a ≡ true) (g : LinesByHead a 
         body-most e a ok (held (conditionsOf a) s′) c (endOf e (held (conditionsOf a) s′ c))
         (λ j u p d.
         let y = g .every c (placeOf a j) real (line-of (topOf a) (held (conditionsOf a) s′) c a j u d) in
-        let z : placeIn a places (y .0) ≡ placeOf a j = place-index a places (y .0) (omega (arith, y .2, to-in)) ∙ y .3 in
+        let z : getD places (y .0) 0 ≡ placeOf a j = y .3 in
         r .covered (y .0) (y .1) (y .2) c real q
         (λ b m f. elim (ℕ-discrete b c) [
           | yes k ↦ subst (λ (x : ℕ). endOf e (held (conditionsOf a) s′ x) ≡ endOf e (held (conditionsOf a) s x)) (sym k)
-              (h (read-in a ok (2 * c) c (placeIn a places (y .0)) (group-lookable .lines (y .0) (y .1) (y .2)) (subst (λ (x : ℕ). linesRead (2 * x) (lineAt (drop (placeIn a places (y .0)) a) ∷ []) c ≡ true) k f)))
+              (h (read-in a ok (2 * c) c (getD places (y .0) 0) (group-lookable .lines (y .0) (y .1) (y .2)) (subst (λ (x : ℕ). linesRead (2 * x) (lineAt (drop (getD places (y .0) 0) a) ∷ []) c ≡ true) k f)))
           | no k ↦ group-only b m k
         ])
         p (rw z d))
@@ -163,7 +161,7 @@ module _ (e : End) (a first places s₀ : List ℕ) where
         bits : (d : ℕ) → d < 512 → (has words₁ d ≡ true → has words d ≡ true) → bit (has words₁ d) ≤ bit (has words d)
         bits d l h = by-bool (has words₁ d) (λ q. rw (q, h q) (omega arith)) (λ q. rw q (omega arith))
 
-    module _ {s′ : List ℕ} {t : Bool} (r : Looked e a places (getD first c 0) (getD first (c + 1) 0) s s′ t) where
+    module _ {s′ : List ℕ} {t : Bool} (r : Looked e a (λ i. getD places i 0) (getD first c 0) (getD first (c + 1) 0) s s′ t) where
       abbrev n : ℕ
       n = conditionsOf a
 
@@ -222,7 +220,7 @@ module _ (e : End) (a first places s₀ : List ℕ) where
         draining-rose z = (
           record {
             groups = v .groups;
-            settling = settling-next e a (v .settling) (subst (Looked e a places (getD first c 0) (getD first (c + 1) 0) s s′) z r);
+            settling = settling-next e a (v .settling) (subst (Looked e a (λ i. getD places i 0) (getD first c 0) (getD first (c + 1) 0) s s′) z r);
             waiting = record {
               set = w .set;
               rests = λ d l m o. elim (ℕ-discrete d c) [
@@ -236,13 +234,13 @@ module _ (e : End) (a first places s₀ : List ℕ) where
         )
 
 -- the loop: c is one that waits, or 512
-pub record Drains (e : End) (a first places users : List ℕ) (base : ℕ) (s₀ s words : List ℕ) (changed : Bool) (c : ℕ) : Type 0 where
+pub record Drains (e : End) (a first places users : List ℕ) (n : ℕ) (s₀ s words : List ℕ) (changed : Bool) (c : ℕ) : Type 0 where
   pub users-in : Users a users
-  pub table : base ≡ baseOf (conditionsOf a) e
+  pub size : n ≡ conditionsOf a
   pub draining : Draining e a first places s₀ s words changed
   pub any : AnyIn words c
 
-module _ {e : End} {a first places users : List ℕ} {base : ℕ} {s₀ s words : List ℕ} {changed : Bool} {c : ℕ} (v : Drains e a first places users base s₀ s words changed c) (small : c < 512) where
+module _ {e : End} {a first places users : List ℕ} {n : ℕ} {s₀ s words : List ℕ} {changed : Bool} {c : ℕ} (v : Drains e a first places users n s₀ s words changed c) (small : c < 512) where
   pub drains-real : c < conditionsOf a
   drains-real = v .draining .waiting .set .inside c small (v .any .found small)
 
@@ -256,13 +254,13 @@ module _ {e : End} {a first places users : List ℕ} {base : ℕ} {s₀ s words 
     pub drains-set : WaitSet (conditionsOf a) words₁
     drains-set = set₁ e a first places s₀ (v .draining) c small (v .any .found small) words₁ x
 
-    module _ {s′ : List ℕ} {t : Bool} (r : Looked e a places (getD first c 0) (getD first (c + 1) 0) s s′ t) {words′ : List ℕ} {changed′ : Bool} where
+    module _ {s′ : List ℕ} {t : Bool} (r : Looked e a (λ i. getD places i 0) (getD first c 0) (getD first (c + 1) 0) s s′ t) {words′ : List ℕ} {changed′ : Bool} where
       module _ (z : t ≡ true) {words₂ : List ℕ} (w : Woken a (2 * c) words₁ words₂) (q : words′ ≡ words₂) (k : changed′ ≡ true) where
         rose : Draining e a first places s₀ s′ words₂ true × (left e a s′ words₂ < left e a s words)
         rose = draining-rose e a first places s₀ (v .draining) c small (v .any .found small) words₁ x r w z
 
-        pub drains-rose : {c′ : ℕ} → AnyIn words′ c′ → Drains e a first places users base s₀ s′ words′ changed′ c′
-        drains-rose y = record { users-in = v .users-in; table = v .table; draining = rw (q, k) (rose .0); any = y }
+        pub drains-rose : {c′ : ℕ} → AnyIn words′ c′ → Drains e a first places users n s₀ s′ words′ changed′ c′
+        drains-rose y = record { users-in = v .users-in; size = v .size; draining = rw (q, k) (rose .0); any = y }
 
         pub rose-less : left e a s′ words′ < left e a s words
         rose-less = rw q (rose .1)
@@ -271,12 +269,12 @@ module _ {e : End} {a first places users : List ℕ} {base : ℕ} {s₀ s words 
         still : (s′ ≡ s) × Draining e a first places s₀ s words₁ changed × (left e a s words₁ < left e a s words)
         still = draining-still e a first places s₀ (v .draining) c small (v .any .found small) words₁ x r z
 
-        pub drains-still : {c′ : ℕ} → AnyIn words′ c′ → Drains e a first places users base s₀ s′ words′ changed′ c′
-        drains-still y = record { users-in = v .users-in; table = v .table; draining = rw (q, k, still .0) (still .1); any = y }
+        pub drains-still : {c′ : ℕ} → AnyIn words′ c′ → Drains e a first places users n s₀ s′ words′ changed′ c′
+        drains-still y = record { users-in = v .users-in; size = v .size; draining = rw (q, k, still .0) (still .1); any = y }
 
         pub still-less : left e a s′ words′ < left e a s words
         still-less = rw (q, still .0) (still .2)
 
-pub drains-last : {e : End} {a first places users : List ℕ} {base : ℕ} {s₀ s words : List ℕ} {changed : Bool} {c : ℕ} → Drains e a first places users base s₀ s words changed c → 512 ≤ c
+pub drains-last : {e : End} {a first places users : List ℕ} {n : ℕ} {s₀ s words : List ℕ} {changed : Bool} {c : ℕ} → Drains e a first places users n s₀ s words changed c → 512 ≤ c
     → Settled e a s₀ s changed × WaitSet (conditionsOf a) words
 drains-last {e} {a} {first} {places} {s₀ = s₀} v l = (draining-last e a first places s₀ (v .draining) (v .any .none (omega (arith, v .any .within))), v .draining .waiting .set)

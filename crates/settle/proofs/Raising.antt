@@ -220,44 +220,54 @@ module _ (e : End) (a s : List ℕ) (at : ℕ) (H : Half e a s) (x : LineIn a at
           }
 
   -- in the code's own terms
-  pub record Facts (base : ℕ) : Type 0 where
+  pub record Facts : Type 0 where
     pub four : at + 4 ≤ length a
     pub head : 4 ≤ length a
     pub real : getD a at 0 < conditionsOf a
     pub few : conditionsOf a ≤ 512
-    pub first : base ≤ 2 * conditionsOf a
     pub long : 6 * conditionsOf a ≤ length s
 
-  module _ (base : ℕ) (q : base ≡ baseOf n e) where
-    pub facts : Facts base
-    facts =
-        let k = head-of a (H .page-sound) in
-        record {
-          four = line-entry a (H .page-sound) x .four;
-          head = k .four;
-          real = line-head a (H .page-sound) x;
-          few = k .few;
-          first = omega (arith, base-in n e);
-          long = H .long;
-        }
+  pub facts : Facts
+  facts =
+      let k = head-of a (H .page-sound) in
+      record { four = line-entry a (H .page-sound) x .four; head = k .four; real = line-head a (H .page-sound) x; few = k .few; long = H .long }
 
-    pub line-here : getD a (at + 1) 0 ≤ 5 → LineOf a h at
-    line-here l = record { number = x .number; in-count = x .in-count; place = x .place; head = refl; body = l }
+  pub line-here : getD a (at + 1) 0 ≤ 5 → LineOf a h at
+  line-here l = record { number = x .number; in-count = x .in-count; place = x .place; head = refl; body = l }
 
-    abbrev part : List ℕ
-    part = take (base + 2 * n - base) (drop base s)
+  some : {y : ℕ} → y ≢ 0 → 1 ≤ y
+  some l = omega arith
 
-    pub part-grades : Grades (topOf a) n part
-    part-grades = rw (part-is n s e base q) (half-grades H)
+  -- m is the number of conditions
+  module _ (m : ℕ) (z : m ≡ n) where
+    pub apart-here : getD s (4 * m + h) 0 ≡ 0 → Raised e a at s s false
+    apart-here q = raised-apart (sym (ap (λ (k : ℕ). getD s (4 * k + h) 0) z) ∙ q)
 
-    module _ {v : ℕ} (w : LineEnd e a part at v) where
-      on-table : LineEnd e a (tableOf n e s) at v
-      on-table = rw (part-is n s e base q) at w
+    -- and the table of the end begins at base
+    module _ (base : ℕ) (g : base ≡ baseOf m e) where
+      q : base ≡ baseOf n e
+      q = g ∙ ap (λ (k : ℕ). baseOf k e) z
 
-      pub kept-here : v ≤ getD s (base + 2 * h) 0 → Raised e a at s s false
-      kept-here m = raised-not on-table (rw (end-at n s e h, ← q) m)
+      pub base-small : base ≤ 2 * n
+      base-small = omega (arith, q, base-in n e)
 
-      pub raised-here : getD s (4 * n + h) 0 ≢ 0 → getD s (base + 2 * h) 0 < v → Raised e a at s (set s (base + 2 * h) v) true
-      raised-here r m =
-          subst (λ (b : ℕ). Raised e a at s (set s (b + 2 * h) v) true) (sym q)
-          (raised-up on-table (line-head a (H .page-sound) x) (le-leb 1 (getD s (4 * n + h) 0) (omega arith)) (rw (end-at n s e h, ← q) m))
+      abbrev part : List ℕ
+      part = take (base + 2 * m - base) (drop base s)
+
+      part-table : part ≡ tableOf n e s
+      part-table = ap (λ (k : ℕ). take (base + 2 * k - base) (drop base s)) z ∙ part-is n s e base q
+
+      pub part-grades : Grades (topOf a) n part
+      part-grades = rw part-table (half-grades H)
+
+      module _ {v : ℕ} (w : LineEnd e a part at v) where
+        on-table : LineEnd e a (tableOf n e s) at v
+        on-table = rw part-table at w
+
+        pub kept-here : v ≤ getD s (base + 2 * h) 0 → Raised e a at s s false
+        kept-here l = raised-not on-table (rw (end-at n s e h, ← q) l)
+
+        pub raised-here : getD s (4 * m + h) 0 ≢ 0 → getD s (base + 2 * h) 0 < v → Raised e a at s (set s (base + 2 * h) v) true
+        raised-here r l =
+            subst (λ (b : ℕ). Raised e a at s (set s (b + 2 * h) v) true) (sym q)
+            (raised-up on-table (line-head a (H .page-sound) x) (le-leb 1 (getD s (4 * n + h) 0) (some (λ y. r (ap (λ (k : ℕ). getD s (4 * k + h) 0) z ∙ y)))) (rw (end-at n s e h, ← q) l))

@@ -1,27 +1,18 @@
 -- One end of every reached condition, settled: where no line adds more than its head holds. Assumes nothing.
 use mathlib.Core.Path.{_≡_, refl, sym, _∙_, ap, subst}
 use mathlib.Core.Bool.{Bool, true, false, false≢true}
-use mathlib.Core.List.{List, []}
+use mathlib.Core.List.{List}
 use Prim.Native.Nat.{ℕ, _<_}
 use native.Mathlib.Omega.{arith}
 use Rattle.semantics.specs.Area.{conditionsOf, countOf}
 use Rattle.semantics.specs.Body.{T, unknownByDefault}
 use Rattle.semantics.specs.Grade.{End}
+use Rattle.page.specs.Places.{placeOf}
 use Rattle.value.specs.Table.{endOf}
 use Rattle.value.proofs.BodyEnds.{body-most}
-use Rattle.settle.specs.Scratch.{held, reachedAt, roomAt, Half, Steady, Lookable, Looked, RestsAt, Settled}
+use Rattle.settle.specs.Scratch.{held, reachedAt, roomAt, Half, Steady, Looked, RestsAt, Settled}
 use Rattle.settle.proofs.Halves.{settled-at, settled-others}
 use Rattle.settle.proofs.Raising.{S, E, room-less, steady-same, steady-on}
-
--- without an index all lines are looked at
-pub all-lines : (a : List ℕ) → Lookable a [] 0 (countOf a)
-all-lines a =
-    record {
-      ordered = omega arith;
-      first = λ z. (refl, omega arith);
-      inside = λ z. absurd (z refl);
-      lines = λ i l u. record { number = i; in-count = u; place = refl };
-    }
 
 module _ (e : End) (a : List ℕ) where
   abbrev n : ℕ
@@ -38,7 +29,7 @@ module _ (e : End) (a : List ℕ) where
   settling-first h = record { half = h; steady = steady-same e n _; still = λ z. refl; moves = λ z. absurd (false≢true z) }
 
   -- a look that raised an end
-  module _ {s₀ s s′ places : List ℕ} {from to : ℕ} {changed : Bool} (v : Settling s₀ s changed) (r : Looked e a places from to s s′ true) where
+  module _ {s₀ s s′ : List ℕ} {place : ℕ → ℕ} {from to : ℕ} {changed : Bool} (v : Settling s₀ s changed) (r : Looked e a place from to s s′ true) where
     pub settling-next : Settling s₀ s′ true
     settling-next =
         record {
@@ -64,8 +55,8 @@ module _ (e : End) (a : List ℕ) where
             ∙ settled-others (S a (h .page-sound)) (E a (h .page-sound)) e (held n s) (held n s₀) (v .steady .others) c l;
       }
 
-  -- if a look at all lines raised nothing, T makes no more of any
-  pub swept : {s s′ : List ℕ} → Looked e a [] 0 (countOf a) s s′ false → (s′ ≡ s) × ((c : ℕ) → c < n → reachedAt n s c ≡ true → RestsAt e a s c)
+  -- if a sweep raised nothing, T makes no more of any
+  pub swept : {s s′ : List ℕ} → Looked e a (placeOf a) 0 (countOf a) s s′ false → (s′ ≡ s) × ((c : ℕ) → c < n → reachedAt n s c ≡ true → RestsAt e a s c)
   swept {s} {s′} r =
       let z : s′ ≡ s = r .still refl in (
         z,

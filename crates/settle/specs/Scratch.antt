@@ -7,17 +7,17 @@ use mathlib.Core.Path.{_≡_}
 use mathlib.Core.Logic.{_≢_}
 use mathlib.Core.Bool.{Bool, true, false}
 use mathlib.Core.List.{List, [], _∷_}
-use Prim.Native.Nat.{ℕ, zero, suc, _+_, _*_, _-_, _≤_, _<_}
+use Prim.Native.Nat.{ℕ, _+_, _*_, _-_, _≤_, _<_}
 use lib.Dec.{leb}
 use lib.ListN.{length, getD, take, drop}
 use Rattle.fixpoint.specs.Interval.{Interval, Within, Assign}
 use Rattle.fixpoint.specs.ChaoticIteration.{DependencyClosed}
-use Rattle.semantics.specs.Area.{sound, lineAt, pageOf, topOf, conditionsOf, countOf}
+use Rattle.semantics.specs.Area.{sound, lineAt, pageOf, topOf, conditionsOf}
 use Rattle.semantics.specs.Body.{lineBody, T, unknownByDefault}
 use Rattle.semantics.specs.Grade.{End, lower, upper}
 use Rattle.semantics.specs.Page.{names}
 use Rattle.index.specs.Readers.{linesRead}
-use Rattle.page.specs.Places.{placeOf, LineIn}
+use Rattle.page.specs.Places.{LineIn}
 use Rattle.value.specs.Table.{endOf, other}
 use Rattle.settle.specs.Ends.{settledEnd, room}
 
@@ -80,29 +80,20 @@ pub record Raised (e : End) (a : List ℕ) (at : ℕ) (s s′ : List ℕ) (rose 
   pub covered : Covered e a s s′ at
   pub only : (c : ℕ) → c < conditionsOf a → getD a at 0 ≢ c → endOf e (held (conditionsOf a) s′ c) ≡ endOf e (held (conditionsOf a) s c)
 
--- where line i stands: by the index of the places, or without one by the order of the page
-abbrev pub placeAs : ℕ → (a places : List ℕ) → ℕ → ℕ
-placeAs zero a places i = placeOf a i
-placeAs (suc m) a places i = getD places i 0
-
-abbrev pub placeIn : (a places : List ℕ) → ℕ → ℕ
-placeIn a places i = placeAs (length places) a places i
-
--- the lines numbered from `from` up to `to` can be looked at
+-- lines stand at the places of a list from one number up to another
 pub record Lookable (a places : List ℕ) (from to : ℕ) : Type 0 where
   pub ordered : from ≤ to
-  pub first : length places ≡ 0 → (from ≡ 0) × (to ≤ countOf a)
-  pub inside : (length places ≡ 0 → ⊥) → to ≤ length places
-  pub lines : (i : ℕ) → from ≤ i → i < to → LineIn a (placeIn a places i)
+  pub inside : to ≤ length places
+  pub lines : (i : ℕ) → from ≤ i → i < to → LineIn a (getD places i 0)
 
--- they were looked at
-pub record Looked (e : End) (a places : List ℕ) (from to : ℕ) (s s′ : List ℕ) (rose : Bool) : Type 0 where
+-- the lines at the places from one number up to another were looked at
+pub record Looked (e : End) (a : List ℕ) (place : ℕ → ℕ) (from to : ℕ) (s s′ : List ℕ) (rose : Bool) : Type 0 where
   pub half : Half e a s′
   pub steady : Steady e (conditionsOf a) s s′
   pub still : rose ≡ false → s′ ≡ s
   pub moves : rose ≡ true → roomAt e a s′ < roomAt e a s
-  pub covered : (i : ℕ) → from ≤ i → i < to → Covered e a s s′ (placeIn a places i)
-  pub only : (c : ℕ) → c < conditionsOf a → ((i : ℕ) → from ≤ i → i < to → getD a (placeIn a places i) 0 ≢ c)
+  pub covered : (i : ℕ) → from ≤ i → i < to → Covered e a s s′ (place i)
+  pub only : (c : ℕ) → c < conditionsOf a → ((i : ℕ) → from ≤ i → i < to → getD a (place i) 0 ≢ c)
       → endOf e (held (conditionsOf a) s′ c) ≡ endOf e (held (conditionsOf a) s c)
 
 -- T makes no more of the end e of c than c holds

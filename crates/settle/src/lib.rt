@@ -3,29 +3,39 @@ ghost use mathlib.Core.Path.{_≡_};
 ghost use mathlib.Core.Bool.{true};
 ghost use Prim.Native.Nat.{ℕ, _*_, _≤_, _<_};
 ghost use lib.ListN.{length, getD};
-ghost use Rattle.semantics.specs.Area.{sound, conditionsOf};
-ghost use Rattle.page.specs.Places.{LineIn};
-ghost use Rattle.index.specs.Groups.{LinesByHead};
-ghost use Rattle.index.specs.Parts.{Users};
+ghost use Rattle.semantics.specs.Area.{sound, conditionsOf, countOf};
+ghost use Rattle.page.specs.Places.{placeOf, LineIn};
+ghost use Rattle.index.specs.Parts.{Lines, Users};
 ghost use Rattle.value.specs.Table.{side};
 ghost use Rattle.settle.specs.Scratch.{baseOf, Half, Raised, Lookable, Looked, Settled};
 ghost use Rattle.settle.specs.Waiting.{WaitSet, HeadsWait, Woken, Waiting, MaybeIndexed};
 use value::End;
 
+// Where the table of an end begins.
+fn base_of(n: usize, end: End) -> usize
+    requires { ⌜ n ≤ 512 ⌝ }
+    ensures { λ r. ⌜ r ≡ baseOf n (side end) ⌝ }
+{
+    match end {
+        End::Lower => 0,
+        End::Upper => 2 * n,
+    }
+}
+
 // If the line at `at` is an F or R line of a reached condition, that condition's end becomes the line's where the line's is higher;
 // whether it rose.
-fn raise(a: &[u16], at: usize, scratch: &mut [u16], base: usize, end: End) -> bool
-    requires { ⌜ Half (side end) (now a) (now scratch) × (base ≡ baseOf (conditionsOf (now a)) (side end)) × LineIn (now a) at ⌝ }
+fn raise(a: &[u16], at: usize, scratch: &mut [u16], n: usize, end: End) -> bool
+    requires { ⌜ Half (side end) (now a) (now scratch) × (n ≡ conditionsOf (now a)) × LineIn (now a) at ⌝ }
     ensures { λ r. ⌜ Raised (side end) (now (a .entry)) at (now (scratch .entry)) (now (scratch .exit)) r ⌝ }
 {
     if 5 < a[at + 1] {
         return false;
     }
-    let n = a[1] as usize;
     let h = a[at] as usize;
     if scratch[4 * n + h] == 0 {
         return false;
     }
+    let base = base_of(n, end);
     let to = base + 2 * n;
     let values = &scratch[base..to];
     let v = value::line_end(a, at, values, end);
@@ -37,49 +47,59 @@ fn raise(a: &[u16], at: usize, scratch: &mut [u16], base: usize, end: End) -> bo
     true
 }
 
-// Looks at the lines numbered from `from` up to `to`, and raises the ends of their heads; whether any rose. With an index line i stands
-// at places[i]; without one, where `places` is empty, they are met in page order from the first.
+// Looks at all lines in page order and raises the ends of their heads; whether any rose.
+fn sweep(a: &[u16], scratch: &mut [u16], n: usize, end: End) -> bool
+    requires { ⌜ Half (side end) (now a) (now scratch) × (n ≡ conditionsOf (now a)) ⌝ }
+    ensures { λ r. ⌜ Looked (side end) (now (a .entry)) (placeOf (now (a .entry))) 0 (countOf (now (a .entry))) (now (scratch .entry)) (now (scratch .exit)) r ⌝ }
+{
+    let used = a[3] as usize;
+    let line = page::Cursor::first(a);
+    let mut at = line.at;
+    let mut rose = false;
+    while at < used {
+        if raise(a, at, scratch, n, end) {
+            rose = true;
+        }
+        at += page::span_of(a[at + 1], a[at + 3]);
+    }
+    rose
+}
+
+// Settles the ends by sweeps, until one raises none; whether any rose.
+fn settle_sweeping(a: &[u16], scratch: &mut [u16], end: End) -> bool
+    requires { ⌜ Half (side end) (now a) (now scratch) ⌝ }
+    ensures { λ r. ⌜ Settled (side end) (now (a .entry)) (now (scratch .entry)) (now (scratch .exit)) r ⌝ }
+{
+    let n = a[1] as usize;
+    let mut changed = false;
+    while sweep(a, scratch, n, end) {
+        changed = true;
+    }
+    changed
+}
+
+// Looks at the lines whose places are numbered from one up to another, and raises the ends of their heads; whether any rose.
 fn look(
     a: &[u16],
     places: &[u16],
     from: usize,
     to: usize,
     scratch: &mut [u16],
-    base: usize,
+    n: usize,
     end: End,
 ) -> bool
-    requires { ⌜ Half (side end) (now a) (now scratch) × (base ≡ baseOf (conditionsOf (now a)) (side end)) × Lookable (now a) (now places) from to ⌝ }
-    ensures { λ r. ⌜ Looked (side end) (now (a .entry)) (now (places .entry)) from to (now (scratch .entry)) (now (scratch .exit)) r ⌝ }
+    requires { ⌜ Half (side end) (now a) (now scratch) × (n ≡ conditionsOf (now a)) × Lookable (now a) (now places) from to ⌝ }
+    ensures { λ r. ⌜ Looked (side end) (now (a .entry)) (λ i. getD (now (places .entry)) i 0) from to (now (scratch .entry)) (now (scratch .exit)) r ⌝ }
 {
-    let line = page::Cursor::first(a);
-    let mut at = line.at;
     let mut rose = false;
     let mut i = from;
     while i < to {
-        if 0 < places.len() {
-            at = places[i] as usize;
-        }
-        if raise(a, at, scratch, base, end) {
+        if raise(a, places[i] as usize, scratch, n, end) {
             rose = true;
         }
-        at += page::span_of(a[at + 1], a[at + 3]);
         i += 1;
     }
     rose
-}
-
-// Settles the ends by looks at all lines, until one raises none; whether any rose.
-fn settle_sweeping(a: &[u16], scratch: &mut [u16], base: usize, end: End) -> bool
-    requires { ⌜ Half (side end) (now a) (now scratch) × (base ≡ baseOf (conditionsOf (now a)) (side end)) ⌝ }
-    ensures { λ r. ⌜ Settled (side end) (now (a .entry)) (now (scratch .entry)) (now (scratch .exit)) r ⌝ }
-{
-    let none = &a[0..0];
-    let count = a[2] as usize;
-    let mut changed = false;
-    while look(a, none, 0, count, scratch, base, end) {
-        changed = true;
-    }
-    changed
 }
 
 // The heads from one place up to another wait.
@@ -109,17 +129,19 @@ pub fn wake(a: &[u16], users: &[u16], words: &mut [u64], code: u16)
 // Takes out one that waits after the other and looks at its lines; if it rose, whoever names it plainly waits. Whether any rose.
 fn drain(
     a: &[u16],
-    first: &[u16],
-    places: &[u16],
+    lines: &[u16],
     users: &[u16],
     scratch: &mut [u16],
     words: &mut [u64],
-    base: usize,
     end: End,
 ) -> bool
-    requires { ⌜ Half (side end) (now a) (now scratch) × (base ≡ baseOf (conditionsOf (now a)) (side end)) × LinesByHead (now a) (now first) (now places) × Users (now a) (now users) × Waiting (side end) (now a) (now scratch) (now words) ⌝ }
+    requires { ⌜ Half (side end) (now a) (now scratch) × Lines (now a) (now lines) × Users (now a) (now users) × Waiting (side end) (now a) (now scratch) (now words) ⌝ }
     ensures { λ r. ⌜ Settled (side end) (now (a .entry)) (now (scratch .entry)) (now (scratch .exit)) r × WaitSet (conditionsOf (now (a .entry))) (now (words .exit)) ⌝ }
 {
+    let n = a[1] as usize;
+    let k = n + 1;
+    let first = &lines[0..k];
+    let places = &lines[k..];
     let mut changed = false;
     let mut c = bits::any_in(words, 0);
     while c < 512 {
@@ -127,7 +149,7 @@ fn drain(
         let t = c as usize;
         let from = first[t] as usize;
         let to = first[t + 1] as usize;
-        if look(a, places, from, to, scratch, base, end) {
+        if look(a, places, from, to, scratch, n, end) {
             changed = true;
             wake(a, users, words, 2 * c);
         }
@@ -136,24 +158,20 @@ fn drain(
     changed
 }
 
-// Settles the ends over an index, or by looks at all lines; whether any rose.
+// Settles the ends over an index, or by sweeps; whether any rose.
 pub fn settle(
     a: &[u16],
     lines: &[u16],
     users: &[u16],
     scratch: &mut [u16],
     words: &mut [u64],
-    base: usize,
     end: End,
 ) -> bool
-    requires { ⌜ Half (side end) (now a) (now scratch) × (base ≡ baseOf (conditionsOf (now a)) (side end)) × MaybeIndexed (side end) (now a) (now lines) (now users) (now scratch) (now words) × WaitSet (conditionsOf (now a)) (now words) ⌝ }
+    requires { ⌜ Half (side end) (now a) (now scratch) × MaybeIndexed (side end) (now a) (now lines) (now users) (now scratch) (now words) × WaitSet (conditionsOf (now a)) (now words) ⌝ }
     ensures { λ r. ⌜ Settled (side end) (now (a .entry)) (now (scratch .entry)) (now (scratch .exit)) r × WaitSet (conditionsOf (now (a .entry))) (now (words .exit)) ⌝ }
 {
     if users.len() == 0 {
-        return settle_sweeping(a, scratch, base, end);
+        return settle_sweeping(a, scratch, end);
     }
-    let k = a[1] as usize + 1;
-    let first = &lines[0..k];
-    let places = &lines[k..];
-    drain(a, first, places, users, scratch, words, base, end)
+    drain(a, lines, users, scratch, words, end)
 }

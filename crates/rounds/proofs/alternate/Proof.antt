@@ -1,4 +1,4 @@
--- `alternate` makes rounds until one moves no low end (`Alternating`).
+-- `alternate` makes rounds until one moves no low end that a rule negates (`Alternating`).
 use mathlib.Core.Path.{refl, _∙_, sym}
 use native.Mathlib.Omega.{arith}
 use Rattle.semantics.specs.Area.{conditionsOf}
@@ -13,7 +13,7 @@ use Rattle.rounds.proofs.alternate.Statement.{statement}
 use Rattle.rounds.proofs.alternate.Tie as tie
 
 abbrev Inv-loop : tie.InvT-loop
-Inv-loop a lines users scratch₀ tops₀ lows₀ scratch tops lows = Alternating a scratch₀ scratch × WaitSet (conditionsOf a) tops × LowsWait a scratch lows
+Inv-loop a lines users scratch₀ tops₀ lows₀ scratch tops lows = Alternating a scratch₀ scratch × WaitSet (conditionsOf a) tops × LowsWait a users scratch lows
 
 abbrev μ-loop : tie.MeasureT-loop
 μ-loop a lines users scratch₀ tops₀ lows₀ scratch tops lows = roomAt lower a scratch
@@ -28,7 +28,7 @@ wait-all-requires : tie.Need-wait-all-requires Inv-loop μ-loop
 wait-all-requires c κs = let s = c .before .before .before .before .before .before .before in (s .pre .0 .long, head-of (s .args .a .now) (s .pre .0 .page-sound) .few, nobody-waits _)
 
 loop-holds : tie.Need-loop-holds Inv-loop μ-loop
-loop-holds c = let s = c .before .before .before .before .before .before .before .before .before in (alternating-first _ _ (s .pre .0), nobody-waits _, all-lows _ _ _ (c .before .wait-all .ensures))
+loop-holds c = let s = c .before .before .before .before .before .before .before .before .before in (alternating-first _ _ (s .pre .0), nobody-waits _, all-lows _ _ _ _ (c .before .wait-all .ensures .0) (c .before .wait-all .ensures .1))
 
 slice-aggregate-round : tie.Need-slice-aggregate-round Inv-loop μ-loop
 slice-aggregate-round c = sym (c .before .before .loop .inv .1 .size)
