@@ -1,9 +1,9 @@
--- Sets of conditions as bits: one bit set or cleared, the lowest of a set, and one of it. Assumes nothing.
-use mathlib.Core.Path.{_≡_, refl, sym, _∙_, ap}
+-- Sets of conditions as bits: one bit set or cleared, a whole set put into others, the lowest of a set, and one of it. Assumes nothing.
+use mathlib.Core.Path.{_≡_, refl, sym, _∙_, ap, ap₂}
 use mathlib.Core.Logic.{_≢_, _⊎_, inl, inr, ⊎-elim}
 use mathlib.Core.Bool.{Bool, true, false, cond, not, _&&_, _||_, and-true, and-false, or-true, or-false, true≢false}
 use mathlib.Core.List.{List}
-use Prim.Native.Nat.{ℕ, _+_, _-_, _*_, _/_, _%_, _^_, _≤_, _<_}
+use Prim.Native.Nat.{ℕ, zero, suc, _+_, _-_, _*_, _/_, _%_, _^_, _≤_, _<_}
 use native.Mathlib.Decide.{ℕ-discrete}
 use native.Mathlib.Omega.{arith}
 use native.Mathlib.Nat.{lt-of-not-le}
@@ -14,8 +14,8 @@ use lib.ListN.{length, getD, set, length-set}
 use lib.Pow.{shr-le}
 use lib.Seq.{getD-set-same, getD-set-other}
 use borrow.Author.Tests.{eq-eqb, ne-eqb, lt-ltb, le-ltb, ltb-true, ltb-false, eqb-true}
-use Rattle.bits.specs.Words.{has, Inserted, Removed, LowestIn, AnyIn}
-use Rattle.bits.proofs.Bits.{bit, bit-lt, bit-zero, bit-past, bit-down, set-same, set-other, clear-same, clear-other, trailing-found, trailing-below, trailing-in, highest-lt, highest-found, bit-masked, masked-fits}
+use Rattle.bits.specs.Words.{has, Inserted, Removed, Absorbed, LowestIn, AnyIn}
+use Rattle.bits.proofs.Bits.{bit, bit-lt, bit-or, bit-and, bit-not, bit-zero, bit-past, bit-down, set-same, set-other, clear-same, clear-other, trailing-found, trailing-below, trailing-in, highest-lt, highest-found, bit-masked, masked-fits}
 
 or-as-cond : (b t : Bool) → cond t true b ≡ (b || t)
 or-as-cond true true = refl
@@ -64,6 +64,93 @@ module _ (words : List ℕ) (c : ℕ) (size : length words ≡ 8) (l : c < 512) 
     length-set words (c / 64) _ ∙ size,
     λ k m. changed _ 0 (clear-same old (c % 64) (omega arith)) (clear-other old (c % 64) (omega arith)) k ∙ and-not-as-cond (has words k) (eqb k c),
   )
+
+-- what is in the set already changes nothing
+pub inserted-there : (words : List ℕ) (c : ℕ) → length words ≡ 8 → has words c ≡ true → Inserted c words words
+inserted-there words c size old = (size, λ k m. go k (eqb k c) refl)
+  where
+    go : (k : ℕ) (t : Bool) → eqb k c ≡ t → has words k ≡ (has words k || t)
+    go k true e = ap (has words) (eqb-true k c e) ∙ old ∙ sym (or-true (has words k))
+    go k false e = sym (or-false (has words k))
+
+pub new-none : {t : Bool} → t ≡ true → _≡_ {A = ℕ} 0 (cond t 0 1)
+new-none e = rw e
+
+pub new-one : {t : Bool} → t ≡ false → _≡_ {A = ℕ} 1 (cond t 0 1)
+new-one e = rw e
+
+-- one word of a set after the other is changed: those passed have the property P, the others are as they were
+pub record Changing (words₀ : List ℕ) (P : ℕ → ℕ → Type 0) (words : List ℕ) (w : ℕ) : Type 0 where
+  pub size : length words ≡ 8
+  pub passed : (v : ℕ) → v < w → P v (getD words v 0)
+  pub ahead : (v : ℕ) → w ≤ v → getD words v 0 ≡ getD words₀ v 0
+
+module _ {words₀ : List ℕ} {P : ℕ → ℕ → Type 0} where
+  pub changing-first : length words₀ ≡ 8 → Changing words₀ P words₀ 0
+  changing-first e = record { size = e; passed = λ v l. absurd (omega arith); ahead = λ v l. refl }
+
+  pub changing-next : {words : List ℕ} {w x : ℕ} → Changing words₀ P words w → w < 8 → P w x → Changing words₀ P (set words w x) (w + 1)
+  changing-next {words} {w} {x} h l p =
+      record {
+        size = length-set words w x ∙ h .size;
+        passed = λ v m.
+            elim (ℕ-discrete v w) [
+              | yes e ↦ rw (e, getD-set-same words w x 0 (omega (arith, h .size))) p
+              | no e ↦ rw (getD-set-other words w v x 0 e) (h .passed v (omega arith))
+            ];
+        ahead = λ v m. getD-set-other words w v x 0 (omega arith) ∙ h .ahead v (omega arith);
+      }
+
+-- digits as truth values
+or-digit : (x y : ℕ) → x < 2 → y < 2 → eqb (bitOr x y) 1 ≡ (eqb x 1 || eqb y 1)
+or-digit zero zero l m = refl
+or-digit zero (suc zero) l m = refl
+or-digit zero (suc (suc y)) l m = absurd (omega arith)
+or-digit (suc zero) zero l m = refl
+or-digit (suc zero) (suc zero) l m = refl
+or-digit (suc zero) (suc (suc y)) l m = absurd (omega arith)
+or-digit (suc (suc x)) y l m = absurd (omega arith)
+
+and-not-digit : (x y : ℕ) → x < 2 → y < 2 → eqb (bitAnd x (1 - y)) 1 ≡ (eqb x 1 && not (eqb y 1))
+and-not-digit zero zero l m = refl
+and-not-digit zero (suc zero) l m = refl
+and-not-digit zero (suc (suc y)) l m = absurd (omega arith)
+and-not-digit (suc zero) zero l m = refl
+and-not-digit (suc zero) (suc zero) l m = refl
+and-not-digit (suc zero) (suc (suc y)) l m = absurd (omega arith)
+and-not-digit (suc (suc x)) y l m = absurd (omega arith)
+
+-- the set `named` is put into `reached`, and those of it that were not there into `waiting`
+module _ (named reached waiting : List ℕ) where
+  abbrev pub Joined : ℕ → ℕ → Type 0
+  Joined v x = (j : ℕ) → j < 64 → eqb (bit x j) 1 ≡ (eqb (bit (getD reached v 0) j) 1 || eqb (bit (getD named v 0) j) 1)
+
+  abbrev pub JoinedNew : ℕ → ℕ → Type 0
+  JoinedNew v x = (j : ℕ) → j < 64 → eqb (bit x j) 1 ≡ (eqb (bit (getD waiting v 0) j) 1 || (eqb (bit (getD named v 0) j) 1 && not (eqb (bit (getD reached v 0) j) 1)))
+
+  pub joined : (v : ℕ) {y : ℕ} → y ≡ getD reached v 0 → Joined v (bitOr y (getD named v 0))
+  joined v {y} e j l =
+      rw e
+      (ap (λ (d : ℕ). eqb d 1) (bit-or (getD reached v 0) (getD named v 0) j) ∙ or-digit _ _ (bit-lt (getD reached v 0) j) (bit-lt (getD named v 0) j))
+
+  pub joined-new : (v : ℕ) {y z : ℕ} → y ≡ getD reached v 0 → y < 2 ^ 64 → z ≡ getD waiting v 0 → JoinedNew v (bitOr z (bitAnd (getD named v 0) ((2 ^ 64 - 1) - y)))
+  joined-new v {y} {z} e fits f j l =
+      let x = getD named v 0 in
+      let new : bit (bitAnd x ((2 ^ 64 - 1) - y)) j ≡ bitAnd (bit x j) (1 - bit y j) = bit-and x ((2 ^ 64 - 1) - y) j ∙ ap (bitAnd (bit x j)) (bit-not 64 j y l fits) in
+      rw (sym e, sym f)
+      (ap (λ (d : ℕ). eqb d 1) (bit-or z (bitAnd x ((2 ^ 64 - 1) - y)) j)
+      ∙ or-digit _ _ (bit-lt z j) (bit-lt (bitAnd x ((2 ^ 64 - 1) - y)) j)
+      ∙ ap (λ (d : ℕ). eqb (bit z j) 1 || eqb d 1) new
+      ∙ ap (λ (t : Bool). eqb (bit z j) 1 || t) (and-not-digit _ _ (bit-lt x j) (bit-lt y j)))
+
+  pub absorbed : {reached′ waiting′ : List ℕ} {w : ℕ} → Changing reached Joined reached′ w → Changing waiting JoinedNew waiting′ w → 8 ≤ w → Absorbed named reached waiting reached′ waiting′
+  absorbed h k l =
+      record {
+        reached-size = h .size;
+        waiting-size = k .size;
+        reached-is = λ c m. h .passed (c / 64) (omega arith) (c % 64) (omega arith);
+        waiting-is = λ c m. k .passed (c / 64) (omega arith) (c % 64) (omega arith);
+      }
 
 -- a word of a set that is 0 has no bit, and one that is not has its lowest
 module _ (words : List ℕ) where

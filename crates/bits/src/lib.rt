@@ -2,7 +2,7 @@
 ghost use mathlib.Core.Path.{_≡_};
 ghost use Prim.Native.Nat.{_<_};
 ghost use lib.ListN.{length};
-ghost use Rattle.bits.specs.Words.{Inserted, Removed, LowestIn, AnyIn};
+ghost use Rattle.bits.specs.Words.{has, Inserted, InsertedNew, Removed, Absorbed, LowestIn, AnyIn};
 
 // Puts c into the set.
 pub fn insert(words: &mut [u64], c: u16)
@@ -13,6 +13,27 @@ pub fn insert(words: &mut [u64], c: u16)
     words[i / 64] |= 1u64 << (i % 64);
 }
 
+// Whether c is in the set.
+pub fn contains(words: &[u64], c: u16) -> bool
+    requires { ⌜ (length (now words) ≡ 8) × (c < 512) ⌝ }
+    ensures { λ r. ⌜ r ≡ has (now (words .entry)) c ⌝ }
+{
+    let i = c as usize;
+    (words[i / 64] >> (i % 64)) % 2 == 1
+}
+
+// Puts c into the set; answers 1 if it is new and 0 if it was there.
+pub fn insert_new(words: &mut [u64], c: u16) -> u32
+    requires { ⌜ (length (now words) ≡ 8) × (c < 512) ⌝ }
+    ensures { λ r. ⌜ InsertedNew c (now (words .entry)) (now (words .exit)) r ⌝ }
+{
+    if contains(words, c) {
+        return 0;
+    }
+    insert(words, c);
+    1
+}
+
 // Takes c out of the set.
 pub fn remove(words: &mut [u64], c: u16)
     requires { ⌜ (length (now words) ≡ 8) × (c < 512) ⌝ }
@@ -20,6 +41,21 @@ pub fn remove(words: &mut [u64], c: u16)
 {
     let i = c as usize;
     words[i / 64] &= !(1u64 << (i % 64));
+}
+
+// Puts `named` into the set `reached`, and those of it that were not there into `waiting`.
+pub fn absorb(named: &[u64], reached: &mut [u64], waiting: &mut [u64])
+    requires { ⌜ (length (now named) ≡ 8) × (length (now reached) ≡ 8) × (length (now waiting) ≡ 8) ⌝ }
+    ensures { λ _. ⌜ Absorbed (now (named .entry)) (now (reached .entry)) (now (waiting .entry)) (now (reached .exit)) (now (waiting .exit)) ⌝ }
+{
+    let mut w: usize = 0;
+    while w < 8 {
+        let x = named[w];
+        let y = reached[w];
+        reached[w] = y | x;
+        waiting[w] |= x & !y;
+        w += 1;
+    }
 }
 
 // The lowest of the set, or 512.
