@@ -9,7 +9,7 @@ use Rattle.semantics.specs.Page.{Line}
 use Rattle.semantics.proofs.Soundness.{sound-proper}
 use Rattle.page.proofs.Scanning.{Scanning, linesLeft, scanning-first, lines-first, scanning-moved, lines-moved, lines-none}
 use Rattle.page.specs.Lines.{Next}
-use Rattle.reach.specs.Marks.{Adds, lineNames, namedBy}
+use Rattle.reach.specs.Marks.{Adds, headNames, namedBy}
 use Rattle.reach.proofs.Adding.{Adding, adding-first, adding-next, adding-last}
 use Rattle.reach.proofs.Naming.{linesNamed, named-lines}
 
@@ -38,7 +38,7 @@ module _ (a : List ℕ) (heads m₀ : List Bool) where
       })
 
   pub following-next : {m m′ : List Bool} {at k at′ k′ new added : ℕ} (s : Following m at k new) (l : k < countOf a)
-      → Adds (lineNames heads (lineAt (drop at a))) m m′ added → Next a at k at′ k′ → Following m′ at′ k′ (new + added)
+      → Adds (headNames heads (lineAt (drop at a))) m m′ added → Next a at k at′ k′ → Following m′ at′ k′ (new + added)
   unfolding linesNamed
   following-next s l h e =
       record {

@@ -16,7 +16,7 @@ use Rattle.semantics.specs.Table.{member, anyBelow, listed}
 use Rattle.semantics.proofs.Soundness.{both-true, every-true}
 use Rattle.semantics.proofs.Table.{any-true, any-found}
 use Rattle.page.proofs.Scan.{rule-kind, fact-kind, query-kind, other-kind}
-use Rattle.reach.specs.Marks.{lineNames}
+use Rattle.reach.specs.Marks.{headNames}
 
 -- the queries
 pub under-at : (m : ℕ) (xs : List ℕ) → allUnder m xs ≡ true → (i : ℕ) → i < length xs → getD xs i 0 < m
@@ -75,34 +75,34 @@ module _ (s : List Bool) (a : List ℕ) (at b : ℕ) where
       let e : getD (drop at a) 0 0 ≡ getD a at 0 = getD-drop at a 0 0 ∙ ap (λ (i : ℕ). getD a i 0) (omega arith) in
       rw (e, getD-drop at a 1 0, getD-drop at a 2 0, getD-drop at a 3 0, drop-drop 4 at a)
 
-  by-kind : {k : Kind} → t ≡ k → lineNames s (lineAt (drop at a)) b ≡ lineNames s (lineAs k (getD a at 0) (getD a (at + 2) 0) (getD a (at + 3) 0) lits) b
+  by-kind : {k : Kind} → t ≡ k → headNames s (lineAt (drop at a)) b ≡ headNames s (lineAs k (getD a at 0) (getD a (at + 2) 0) (getD a (at + 3) 0) lits) b
   by-kind e =
-      ap (λ (l : Line). lineNames s l b) line-at
-      ∙ ap (λ (k : Kind). lineNames s (lineAs k (getD a at 0) (getD a (at + 2) 0) (getD a (at + 3) 0) lits) b) e
+      ap (λ (l : Line). headNames s l b) line-at
+      ∙ ap (λ (k : Kind). headNames s (lineAs k (getD a at 0) (getD a (at + 2) 0) (getD a (at + 3) 0) lits) b) e
 
   -- it is no line of a condition of the set
-  pub names-other : member s (getD a at 0) ≡ false → lineNames s (lineAt (drop at a)) b ≡ false
-  names-other h = ap (λ (l : Line). lineNames s l b) line-at ∙ go t
+  pub names-other : member s (getD a at 0) ≡ false → headNames s (lineAt (drop at a)) b ≡ false
+  names-other h = ap (λ (l : Line). headNames s l b) line-at ∙ go t
     where
-      go : (k : Kind) → lineNames s (lineAs k (getD a at 0) (getD a (at + 2) 0) (getD a (at + 3) 0) lits) b ≡ false
+      go : (k : Kind) → headNames s (lineAs k (getD a at 0) (getD a (at + 2) 0) (getD a (at + 3) 0) lits) b ≡ false
       go factKind = refl
       go (ruleKind op) = rw h
       go queryKind = refl
       go noKind = refl
 
   -- it is a fact
-  pub names-fact : getD a (at + 1) 0 < 1 → lineNames s (lineAt (drop at a)) b ≡ false
+  pub names-fact : getD a (at + 1) 0 < 1 → headNames s (lineAt (drop at a)) b ≡ false
   names-fact l = by-kind (fact-kind (getD a (at + 1) 0) (omega arith))
 
   -- it is a query
-  pub names-query : 5 < getD a (at + 1) 0 → lineNames s (lineAt (drop at a)) b ≡ false
+  pub names-query : 5 < getD a (at + 1) 0 → headNames s (lineAt (drop at a)) b ≡ false
   names-query l =
       elim (ℕ-discrete (getD a (at + 1) 0) 6) [
         | yes e ↦ by-kind (query-kind (getD a (at + 1) 0) e)
         | no e ↦ by-kind (other-kind (getD a (at + 1) 0) (omega arith))
       ]
 
-  pub names-rule : member s (getD a at 0) ≡ true → 1 ≤ getD a (at + 1) 0 → getD a (at + 1) 0 ≤ 5 → mentions (map literalOf lits) b ≡ lineNames s (lineAt (drop at a)) b
+  pub names-rule : member s (getD a at 0) ≡ true → 1 ≤ getD a (at + 1) 0 → getD a (at + 1) 0 ≤ 5 → mentions (map literalOf lits) b ≡ headNames s (lineAt (drop at a)) b
   names-rule h l u = sym (by-kind (rule-kind (getD a (at + 1) 0) l u .1) ∙ ap (λ (x : Bool). x && mentions (map literalOf lits) b) h)
 
 -- its head is a condition
@@ -114,7 +114,7 @@ head-in top n left a at ok =
 -- the lines: some R line of a condition of the set names b
 unfoldable pub linesNamed : List Bool → List Line → ℕ → Bool
 linesNamed s [] b = false
-linesNamed s (l ∷ ls) b = lineNames s l b || linesNamed s ls b
+linesNamed s (l ∷ ls) b = headNames s l b || linesNamed s ls b
 
 pub iff-eq : (a b : Bool) → (a ≡ true → b ≡ true) → (b ≡ true → a ≡ true) → a ≡ b
 iff-eq true b f g = sym (f refl)

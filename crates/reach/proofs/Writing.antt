@@ -9,11 +9,10 @@ use lib.ListN.{length, getD, drop, set, length-set}
 use lib.Seq.{getD-set-same, getD-set-other, drop-set-lt, drop-drop}
 use Rattle.fixpoint.specs.KnowledgeOrder.{unknown}
 use Rattle.fixpoint.proofs.KnowledgeOrder.{pair-eq}
-use Rattle.fixpoint.specs.Sum.{count}
 use Rattle.semantics.specs.Area.{pageOf, topOf, conditionsOf}
 use Rattle.semantics.specs.Operation.{openedWith}
 use Rattle.semantics.specs.Page.{Page}
-use Rattle.semantics.specs.Reading.{closure, countR, countE, bound}
+use Rattle.semantics.specs.Reading.{closure, bound}
 use Rattle.semantics.specs.RunArea.{intervalAt, markAt, markOf, runOf}
 use Rattle.semantics.specs.Table.{member, allUnknown}
 use Rattle.semantics.specs.Worklist.{start}
@@ -21,8 +20,8 @@ use Rattle.semantics.proofs.Areas.{from-cells}
 use Rattle.semantics.proofs.Table.{getD-table}
 use Rattle.reach.specs.Marks.{Marks, ClosureMarks}
 use Rattle.reach.specs.Opening.{accepted, Written}
+use Rattle.reach.specs.Sets.{Followed}
 use Rattle.worklist.specs.Evaluation.{stored}
-use Rattle.reach.proofs.Counting.{same-R, same-E}
 
 -- one cell
 module _ (run : List ℕ) (c high mark : ℕ) (fits : 3 * c + 3 ≤ length run) where
@@ -101,15 +100,13 @@ opened-run page {s} {marks} {run} {run′} h l w =
     ∙ ap (λ (r : List ℕ). runOf page s (start page s) ++ r) (w .rest)
 
 -- an accepted opening
-module _ (a qs run : List ℕ) {marks : List Bool} (h : ClosureMarks (pageOf a) qs marks) where
-  pub accepted-answer : {r e b : ℕ} → r ≡ count (conditionsOf a) (member marks) → e ≡ countE (pageOf a) marks → b ≡ r + topOf a * e → openedWith r e b ≡ accepted a qs run .answer
-  unfolding bound countR pageOf
-  accepted-answer {r} {e} {b} p q s =
-      let rs : r ≡ countR (pageOf a) (closure (pageOf a) qs) = p ∙ same-R (pageOf a) h in
-      let es : e ≡ countE (pageOf a) (closure (pageOf a) qs) = q ∙ same-E (pageOf a) h in
-      let bs : b ≡ bound (pageOf a) (closure (pageOf a) qs) = s ∙ ap₂ (λ (x y : ℕ). x + topOf a * y) rs es in
-      λ i. openedWith (rs i) (es i) (bs i)
+module _ (a qs run : List ℕ) where
+  pub accepted-answer : {words : List ℕ} {r e b : ℕ} → Followed (pageOf a) qs words r e → b ≡ r + topOf a * e → openedWith r e b ≡ accepted a qs run .answer
+  unfolding bound pageOf
+  accepted-answer {b = b} f s =
+      let bs : b ≡ bound (pageOf a) (closure (pageOf a) qs) = s ∙ ap₂ (λ (x y : ℕ). x + topOf a * y) (f .reached-is) (f .edges-is) in
+      λ i. openedWith (f .reached-is i) (f .edges-is i) (bs i)
 
-  pub accepted-run : {run′ : List ℕ} → 3 * conditionsOf a ≤ length run → Written (conditionsOf a) (topOf a) marks run run′ → run′ ≡ accepted a qs run .run
+  pub accepted-run : {marks : List Bool} {run′ : List ℕ} → ClosureMarks (pageOf a) qs marks → 3 * conditionsOf a ≤ length run → Written (conditionsOf a) (topOf a) marks run run′ → run′ ≡ accepted a qs run .run
   unfolding pageOf
-  accepted-run l w = opened-run (pageOf a) h l w
+  accepted-run h l w = opened-run (pageOf a) h l w

@@ -30,10 +30,10 @@ pub record Adds (f : ℕ → Bool) (before after : List Bool) (added : ℕ) : Ty
   pub counted : count 512 (member after) ≡ count 512 (member before) + added
 
 -- an R line whose head is in the set names b
-abbrev pub lineNames : List Bool → Line → ℕ → Bool
-lineNames s (fact c l h) b = false
-lineNames s (rule c w op lits) b = member s c && mentions lits b
-lineNames s (query r c) b = false
+abbrev pub headNames : List Bool → Line → ℕ → Bool
+headNames s (fact c l h) b = false
+headNames s (rule c w op lits) b = member s c && mentions lits b
+headNames s (query r c) b = false
 
 -- "named in an R line" of a condition of the set
 abbrev pub namedBy : Page → List Bool → ℕ → Bool

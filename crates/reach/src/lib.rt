@@ -1,20 +1,20 @@
 ghost use mathlib.Core.Path.{_≡_};
 ghost use mathlib.Core.Bool.{true, _&&_};
 ghost use mathlib.Core.List.{map};
-ghost use Prim.Native.Nat.{_≤_, _+_, _<_, _*_};
+ghost use Prim.Native.Nat.{_≤_, _+_, _-_, _<_, _*_};
 ghost use lib.Dec.{eqb, leb};
 ghost use lib.ListN.{length, getD, take, drop};
-ghost use Rattle.semantics.specs.Area.{sound, lineAt, lineTests, every, allUnder, literalOf, pageOf, topOf, conditionsOf};
-ghost use Rattle.fixpoint.specs.ChaoticIteration.{DependencyClosed};
-ghost use Rattle.fixpoint.specs.Sum.{count};
+ghost use Rattle.semantics.specs.Area.{sound, lineAt, lineTests, every, allUnder, literalOf, pageOf, topOf, conditionsOf, usedOf};
 ghost use Rattle.semantics.specs.Operation.{openOf};
 ghost use Rattle.semantics.specs.Page.{mentions, names};
-ghost use Rattle.semantics.specs.Reading.{countE};
 ghost use Rattle.semantics.specs.RunArea.{markOf};
-ghost use Rattle.semantics.specs.Table.{member, listed};
-ghost use Rattle.page.specs.Graded.{RuleAt};
+ghost use Rattle.semantics.specs.Table.{listed};
+ghost use Rattle.page.specs.Graded.{RuleAt, EntryAt};
+ghost use Rattle.page.specs.Lines.{lineNames};
+ghost use Rattle.index.specs.Groups.{Cleared};
 ghost use Rattle.reach.specs.Opening.{openingOf, accepted, Written};
-ghost use Rattle.reach.specs.Marks.{ClosureMarks, Below, Adds, lineNames, namedBy, Passed};
+ghost use Rattle.reach.specs.Marks.{ClosureMarks, Below, Adds, headNames, namedBy, Passed};
+ghost use Rattle.reach.specs.Sets.{Joins, Inserts, Visited, Followed, MarksBelow};
 
 // Marks c; answers how many marks are new.
 fn mark(marks: &mut [bool], c: usize) -> u32
@@ -61,7 +61,7 @@ fn mark_literals(a: &[u16], at: usize, marks: &mut [bool]) -> u32
 // Marks the conditions that the line at `at` names, if it is an R line of a condition of the set; answers how many marks are new.
 fn mark_line(a: &[u16], at: usize, left: usize, heads: &[bool], marks: &mut [bool]) -> u32
     requires { ⌜ (at + left ≤ length (now a)) × (conditionsOf (now a) ≤ 512) × (every (lineTests (topOf (now a)) (conditionsOf (now a)) left (drop at (now a))) ≡ true) × (length (now heads) ≡ 512) × (length (now marks) ≡ 512) ⌝ }
-    ensures { λ r. ⌜ Adds (lineNames (now (heads .entry)) (lineAt (drop at (now (a .entry))))) (now (marks .entry)) (now (marks .exit)) r ⌝ }
+    ensures { λ r. ⌜ Adds (headNames (now (heads .entry)) (lineAt (drop at (now (a .entry))))) (now (marks .entry)) (now (marks .exit)) r ⌝ }
 {
     let c = a[at] as usize;
     let k = a[at + 1];
@@ -115,48 +115,116 @@ pub fn closure_of(a: &[u16], queries: &[u16]) -> [bool; 512]
     }
 }
 
-// How many of the first n conditions are marked.
-fn count_marks(marks: &[bool], n: u16) -> u32
-    requires { ⌜ n ≤ length (now marks) ⌝ }
-    ensures { λ r. ⌜ (r ≡ count n (member (now (marks .entry)))) × (r ≤ n) ⌝ }
+// Puts the queries into the set.
+fn insert_queries(queries: &[u16], words: &mut [u64])
+    requires { ⌜ (allUnder 512 (now queries) ≡ true) × (length (now words) ≡ 8) ⌝ }
+    ensures { λ _. ⌜ Joins (λ c. listed c (now (queries .entry))) (now (words .entry)) (now (words .exit)) ⌝ }
 {
-    let mut r: u32 = 0;
-    let mut c: u16 = 0;
-    while c < n {
-        if marks[c as usize] {
-            r += 1;
-        }
-        c += 1;
+    let mut i: usize = 0;
+    while i < queries.len() {
+        bits::insert(words, queries[i]);
+        i += 1;
     }
-    r
 }
 
-// How many conditions the R lines of c name.
-fn named_by(a: &[u16], c: u16) -> u32
-    requires { ⌜ (sound (now a) ≡ true) × (c < conditionsOf (now a)) ⌝ }
-    ensures { λ r. ⌜ (r ≡ count (conditionsOf (now (a .entry))) (names (pageOf (now (a .entry))) c)) × (r ≤ 512) ⌝ }
+// Puts the conditions that the literals of the rule at `at` name into the set; answers how many are new.
+fn insert_literals(a: &[u16], at: usize, words: &mut [u64]) -> u32
+    requires { ⌜ RuleAt (topOf (now a)) (conditionsOf (now a)) (now a) at × (conditionsOf (now a) ≤ 512) × (length (now words) ≡ 8) ⌝ }
+    ensures { λ r. ⌜ Inserts (mentions (map literalOf (take (getD (now (a .entry)) (at + 3) 0) (drop (at + 4) (now (a .entry)))))) (now (words .entry)) (now (words .exit)) r ⌝ }
 {
-    let mut head = [false; 512];
-    let mut named = [false; 512];
-    head[c as usize] = true;
-    mark_named(a, &head, &mut named)
+    let y = a[at + 3];
+    let mut new: u32 = 0;
+    let mut j: u16 = 0;
+    while j < y {
+        new += bits::insert_new(words, a[at + 4 + j as usize] / 2);
+        j += 1;
+    }
+    new
 }
 
-// E, where the marks are those of a set that names only itself.
-fn count_edges(a: &[u16], marks: &[bool]) -> u32
-    requires { ⌜ (sound (now a) ≡ true) × (length (now marks) ≡ 512) × DependencyClosed (conditionsOf (now a)) (names (pageOf (now a))) (member (now marks)) ⌝ }
-    ensures { λ r. ⌜ (r ≡ countE (pageOf (now (a .entry))) (now (marks .entry))) × (r ≤ 512 * 512) ⌝ }
+// Puts the conditions that the line at `at` names into the set, if it is an R line; answers how many are new.
+fn insert_line(a: &[u16], at: usize, words: &mut [u64]) -> u32
+    requires { ⌜ EntryAt (topOf (now a)) (conditionsOf (now a)) (usedOf (now a) - at) (now a) at × (conditionsOf (now a) ≤ 512) × (length (now words) ≡ 8) ⌝ }
+    ensures { λ r. ⌜ Inserts (lineNames (lineAt (drop at (now (a .entry))))) (now (words .entry)) (now (words .exit)) r ⌝ }
 {
-    let n = a[1];
-    let mut r: u32 = 0;
+    let k = a[at + 1];
+    match k {
+        1..=5 => insert_literals(a, at, words),
+        _ => 0,
+    }
+}
+
+// Puts the conditions that the R lines of c name into the set, in one scan over the lines; answers how many are new.
+fn insert_named(a: &[u16], c: u16, words: &mut [u64]) -> u32
+    requires { ⌜ (sound (now a) ≡ true) × (length (now words) ≡ 8) ⌝ }
+    ensures { λ r. ⌜ Inserts (names (pageOf (now (a .entry))) c) (now (words .entry)) (now (words .exit)) r ⌝ }
+{
+    let count = a[2];
+    let mut line = page::Cursor::first(a);
+    let mut new: u32 = 0;
+    while line.passed < count {
+        let at = line.at;
+        if a[at] == c {
+            new += insert_line(a, at, words);
+        }
+        line = line.next(a);
+    }
+    new
+}
+
+// The condition c waits no longer. What its R lines name is reached, and waits if it is new; answers how many conditions they name.
+fn visit(a: &[u16], c: u16, reached: &mut [u64], waiting: &mut [u64]) -> u32
+    requires { ⌜ (sound (now a) ≡ true) × (c < conditionsOf (now a)) × (length (now reached) ≡ 8) × (length (now waiting) ≡ 8) ⌝ }
+    ensures { λ r. ⌜ Visited (pageOf (now (a .entry))) c (now (reached .entry)) (now (waiting .entry)) (now (reached .exit)) (now (waiting .exit)) r ⌝ }
+{
+    let mut named = [0u64; 8];
+    let edges = insert_named(a, c, &mut named);
+    bits::remove(waiting, c);
+    bits::absorb(&named, reached, waiting);
+    edges
+}
+
+// R and E.
+struct Tally {
+    reached: u32,
+    edges: u32,
+}
+
+// The closure of the queries, with R and E: each reached condition is visited once.
+fn follow(a: &[u16], queries: &[u16], reached: &mut [u64]) -> Tally
+    requires { ⌜ (sound (now a) ≡ true) × (allUnder (conditionsOf (now a)) (now queries) ≡ true) × (length (now reached) ≡ 8) × Cleared (now reached) ⌝ }
+    ensures { λ r. ⌜ Followed (pageOf (now (a .entry))) (now (queries .entry)) (now (reached .exit)) (r .reached) (r .edges) ⌝ }
+{
+    let mut waiting = [0u64; 8];
+    insert_queries(queries, reached);
+    insert_queries(queries, &mut waiting);
+    let mut visited: u32 = 0;
+    let mut edges: u32 = 0;
+    loop {
+        let c = bits::lowest_in(&waiting);
+        if 512 <= c {
+            return Tally {
+                reached: visited,
+                edges,
+            };
+        }
+        edges += visit(a, c, reached, &mut waiting);
+        visited += 1;
+    }
+}
+
+// The set as marks: "all 512 possible conditions begin as not reached".
+fn marks_of(words: &[u64], n: u16) -> [bool; 512]
+    requires { ⌜ (length (now words) ≡ 8) × (n ≤ 512) ⌝ }
+    ensures { λ r. ⌜ MarksBelow n (now (words .entry)) r ⌝ }
+{
+    let mut marks = [false; 512];
     let mut c: u16 = 0;
     while c < n {
-        if marks[c as usize] {
-            r += named_by(a, c);
-        }
+        marks[c as usize] = bits::contains(words, c);
         c += 1;
     }
-    r
+    marks
 }
 
 // R + top × E.
@@ -231,9 +299,11 @@ fn open_accepted(page: &[u16], queries: &[u16], run: &mut [u16]) -> OpenAnswer
 {
     let top = page[0];
     let n = page[1];
-    let marks = closure_of(page, queries);
-    let reached = count_marks(&marks, n);
-    let edges = count_edges(page, &marks);
+    let mut set = [0u64; 8];
+    let tally = follow(page, queries, &mut set);
+    let reached = tally.reached;
+    let edges = tally.edges;
+    let marks = marks_of(&set, n);
     write_run(run, n, top, &marks);
     OpenAnswer::Opened {
         reached,

@@ -1,0 +1,57 @@
+-- A set of conditions written as marks. Assumes nothing.
+use mathlib.Core.Path.{_≡_, refl, sym, _∙_, ap}
+use mathlib.Core.Logic.{_≢_}
+use mathlib.Core.Bool.{Bool, false, _&&_}
+use mathlib.Core.List.{List}
+use Prim.Native.Nat.{ℕ, zero, suc, _+_, _≤_, _<_}
+use native.Mathlib.Decide.{decLe, ℕ-discrete}
+use native.Mathlib.Omega.{arith}
+use lib.Dec.{ltb}
+use lib.ListN.{length, set, length-set, replicate, List·getD-eq-default}
+use lib.Seq.{getD-set-same, getD-set-other}
+use borrow.Author.Tests.{lt-ltb, le-ltb}
+use Rattle.semantics.specs.Page.{Page}
+use Rattle.semantics.specs.Reading.{closure}
+use Rattle.semantics.specs.Table.{member}
+use Rattle.semantics.proofs.Closure.{closure-length}
+use Rattle.bits.specs.Words.{has}
+use Rattle.reach.specs.Marks.{ClosureMarks}
+use Rattle.reach.specs.Sets.{Followed, MarksBelow}
+
+none-marked : (n c : ℕ) → member (replicate n false) c ≡ false
+none-marked zero c = refl
+none-marked (suc n) zero = refl
+none-marked (suc n) (suc c) = none-marked n c
+
+ltb-on : (k c : ℕ) → k ≢ c → ltb k (c + 1) ≡ ltb k c
+ltb-on k c n =
+    elim (decLe c k) [
+      | yes l ↦ le-ltb k (c + 1) (omega arith) ∙ sym (le-ltb k c l)
+      | no l ↦ lt-ltb k (c + 1) (omega arith) ∙ sym (lt-ltb k c (omega arith))
+    ]
+
+module _ (words : List ℕ) where
+  pub marks-first : MarksBelow 0 words (replicate 512 false)
+  marks-first = record { size = refl; is = λ c. none-marked 512 c ∙ sym (ap (λ (t : Bool). t && has words c) (le-ltb c 0 (omega arith))) }
+
+  pub marks-next : {marks : List Bool} {c : ℕ} {x : Bool} → MarksBelow c words marks → c < 512 → x ≡ has words c → MarksBelow (c + 1) words (set marks c x)
+  marks-next {marks} {c} {x} h l e = record { size = length-set marks c x ∙ h .size; is = is }
+    where
+      is : (k : ℕ) → member (set marks c x) k ≡ (ltb k (c + 1) && has words k)
+      is k =
+          elim (ℕ-discrete k c) [
+            | yes q ↦ rw q (getD-set-same marks c x false (omega (arith, h .size)) ∙ e ∙ sym (ap (λ (t : Bool). t && has words c) (lt-ltb c (c + 1) (omega arith))))
+            | no q ↦ getD-set-other marks c k x false q ∙ h .is k ∙ ap (λ (t : Bool). t && has words k) (sym (ltb-on k c q))
+          ]
+
+-- the marks of the set that is the closure are those of the closure
+pub closure-marks : (page : Page) (qs : List ℕ) {words : List ℕ} {marks : List Bool} → page .conditions ≤ 512 → ((c : ℕ) → c < 512 → has words c ≡ member (closure page qs) c) → MarksBelow (page .conditions) words marks
+    → ClosureMarks page qs marks
+closure-marks page qs {words} {marks} l h m = record { size = m .size; same = same }
+  where
+    same : (c : ℕ) → member marks c ≡ member (closure page qs) c
+    same c =
+        elim (decLe (page .conditions) c) [
+          | yes k ↦ m .is c ∙ ap (λ (t : Bool). t && has words c) (le-ltb c (page .conditions) k) ∙ sym (List·getD-eq-default (closure page qs) false (omega (arith, closure-length page qs)))
+          | no k ↦ m .is c ∙ ap (λ (t : Bool). t && has words c) (lt-ltb c (page .conditions) (omega arith)) ∙ h c (omega arith)
+        ]
