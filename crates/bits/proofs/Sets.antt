@@ -65,19 +65,14 @@ module _ (words : List ℕ) (c : ℕ) (size : length words ≡ 8) (l : c < 512) 
     λ k m. changed _ 0 (clear-same old (c % 64) (omega arith)) (clear-other old (c % 64) (omega arith)) k ∙ and-not-as-cond (has words k) (eqb k c),
   )
 
--- what is in the set already changes nothing
-pub inserted-there : (words : List ℕ) (c : ℕ) → length words ≡ 8 → has words c ≡ true → Inserted c words words
-inserted-there words c size old = (size, λ k m. go k (eqb k c) refl)
-  where
-    go : (k : ℕ) (t : Bool) → eqb k c ≡ t → has words k ≡ (has words k || t)
-    go k true e = ap (has words) (eqb-true k c e) ∙ old ∙ sym (or-true (has words k))
-    go k false e = sym (or-false (has words k))
+-- 1 if c is new, 0 if it was there
+new-digit : (d : ℕ) → d < 2 → 1 - d ≡ cond (eqb d 1) 0 1
+new-digit zero l = refl
+new-digit (suc zero) l = refl
+new-digit (suc (suc d)) l = absurd (omega arith)
 
-pub new-none : {t : Bool} → t ≡ true → _≡_ {A = ℕ} 0 (cond t 0 1)
-new-none e = rw e
-
-pub new-one : {t : Bool} → t ≡ false → _≡_ {A = ℕ} 1 (cond t 0 1)
-new-one e = rw e
+pub new-is : (words : List ℕ) (c : ℕ) → 1 - bit (getD words (c / 64) 0) (c % 64) ≡ cond (has words c) 0 1
+new-is words c = new-digit _ (bit-lt (getD words (c / 64) 0) (c % 64))
 
 -- one word of a set after the other is changed: those passed have the property P, the others are as they were
 pub record Changing (words₀ : List ℕ) (P : ℕ → ℕ → Type 0) (words : List ℕ) (w : ℕ) : Type 0 where

@@ -27,11 +27,10 @@ pub fn insert_new(words: &mut [u64], c: u16) -> u32
     requires { ⌜ (length (now words) ≡ 8) × (c < 512) ⌝ }
     ensures { λ r. ⌜ InsertedNew c (now (words .entry)) (now (words .exit)) r ⌝ }
 {
-    if contains(words, c) {
-        return 0;
-    }
-    insert(words, c);
-    1
+    let i = c as usize;
+    let old = words[i / 64];
+    words[i / 64] = old | 1u64 << (i % 64);
+    1 - ((old >> (i % 64)) % 2) as u32
 }
 
 // Takes c out of the set.

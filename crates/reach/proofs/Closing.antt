@@ -102,16 +102,15 @@ module _ (page : Page) (qs : List ℕ) where
     inside = names-inside page w
 
     -- the queries wait
-    pub following-first : {blank words blank′ waiting : List ℕ} → Cleared blank → Joins (λ c. listed c qs) blank words → Cleared blank′ → Joins (λ c. listed c qs) blank′ waiting
-        → Following words waiting 0 0
-    following-first {blank} {words} {blank′} {waiting} z h z′ h′ =
+    pub following-first : {blank words : List ℕ} → Cleared blank → Joins (λ c. listed c qs) blank words → Following words words 0 0
+    following-first {blank} {words} z h =
         record {
           reached-size = h .size;
-          waiting-size = h′ .size;
+          waiting-size = h .size;
           has-asked = λ c e. is c (small (real c e)) ∙ e;
           in-closure = λ c l e. reached-complete page qs inside real (queried (sym (is c l) ∙ e));
-          waits = λ c l e. is c l ∙ sym (is′ c l) ∙ e;
-          follows = λ a b l e f q. absurd (true≢false (sym e ∙ is a (small l) ∙ sym (is′ a (small l)) ∙ f));
+          waits = λ c l e. e;
+          follows = λ a b l e f q. absurd (true≢false (sym e ∙ f));
           reached-is = sym (sum-eq n _ (λ c. 0) (λ c l. ap bit (none c l)) ∙ sum-zero n);
           edges-is = sym (sum-eq n _ (λ c. 0) (λ c l. ap (λ (t : Bool). cond t (degree c) 0) (none c l)) ∙ sum-zero n);
         }
@@ -122,15 +121,12 @@ module _ (page : Page) (qs : List ℕ) where
         is : (c : ℕ) → c < 512 → has words c ≡ listed c qs
         is c l = h .is c l ∙ ap (λ (t : Bool). t || listed c qs) (blank-none blank z c)
 
-        is′ : (c : ℕ) → c < 512 → has waiting c ≡ listed c qs
-        is′ c l = h′ .is c l ∙ ap (λ (t : Bool). t || listed c qs) (blank-none blank′ z′ c)
-
         go : (t : Bool) → (t && not t) ≡ false
         go true = refl
         go false = refl
 
-        none : (c : ℕ) → c < n → done words waiting c ≡ false
-        none c l = rw (is c (small l), is′ c (small l)) (go (listed c qs))
+        none : (c : ℕ) → c < n → done words words c ≡ false
+        none c l = go (has words c)
 
     module _ {words waiting : List ℕ} {r e : ℕ} (f : Following words waiting r e) where
       pub visited-few : r ≤ n

@@ -11,7 +11,6 @@ ghost use Rattle.semantics.specs.RunArea.{markOf};
 ghost use Rattle.semantics.specs.Table.{listed};
 ghost use Rattle.page.specs.Graded.{RuleAt, EntryAt};
 ghost use Rattle.page.specs.Lines.{lineNames};
-ghost use Rattle.index.specs.Groups.{Cleared};
 ghost use Rattle.reach.specs.Opening.{openingOf, accepted, Written};
 ghost use Rattle.reach.specs.Marks.{ClosureMarks, Below, Adds, headNames, namedBy, Passed};
 ghost use Rattle.reach.specs.Sets.{Joins, Inserts, Visited, Followed, MarksBelow};
@@ -159,15 +158,16 @@ fn insert_named(a: &[u16], c: u16, words: &mut [u64]) -> u32
     requires { ⌜ (sound (now a) ≡ true) × (length (now words) ≡ 8) ⌝ }
     ensures { λ r. ⌜ Inserts (names (pageOf (now (a .entry))) c) (now (words .entry)) (now (words .exit)) r ⌝ }
 {
-    let count = a[2];
+    let mut left = a[2];
     let mut line = page::Cursor::first(a);
     let mut new: u32 = 0;
-    while line.passed < count {
+    while 0 < left {
         let at = line.at;
         if a[at] == c {
             new += insert_line(a, at, words);
         }
         line = line.next(a);
+        left -= 1;
     }
     new
 }
@@ -184,31 +184,33 @@ fn visit(a: &[u16], c: u16, reached: &mut [u64], waiting: &mut [u64]) -> u32
     edges
 }
 
-// R and E.
-struct Tally {
+// A set of conditions, with R and E.
+struct Closure {
+    set: [u64; 8],
     reached: u32,
     edges: u32,
 }
 
-// The closure of the queries, with R and E: each reached condition is visited once.
-fn follow(a: &[u16], queries: &[u16], reached: &mut [u64]) -> Tally
-    requires { ⌜ (sound (now a) ≡ true) × (allUnder (conditionsOf (now a)) (now queries) ≡ true) × (length (now reached) ≡ 8) × Cleared (now reached) ⌝ }
-    ensures { λ r. ⌜ Followed (pageOf (now (a .entry))) (now (queries .entry)) (now (reached .exit)) (r .reached) (r .edges) ⌝ }
+// The closure of the queries: each reached condition is visited once.
+fn follow(a: &[u16], queries: &[u16]) -> Closure
+    requires { ⌜ (sound (now a) ≡ true) × (allUnder (conditionsOf (now a)) (now queries) ≡ true) ⌝ }
+    ensures { λ r. ⌜ Followed (pageOf (now (a .entry))) (now (queries .entry)) (r .set) (r .reached) (r .edges) ⌝ }
 {
-    let mut waiting = [0u64; 8];
-    insert_queries(queries, reached);
-    insert_queries(queries, &mut waiting);
+    let mut set = [0u64; 8];
+    insert_queries(queries, &mut set);
+    let mut waiting = set;
     let mut visited: u32 = 0;
     let mut edges: u32 = 0;
     loop {
         let c = bits::lowest_in(&waiting);
         if 512 <= c {
-            return Tally {
+            return Closure {
+                set,
                 reached: visited,
                 edges,
             };
         }
-        edges += visit(a, c, reached, &mut waiting);
+        edges += visit(a, c, &mut set, &mut waiting);
         visited += 1;
     }
 }
@@ -299,10 +301,10 @@ fn open_accepted(page: &[u16], queries: &[u16], run: &mut [u16]) -> OpenAnswer
 {
     let top = page[0];
     let n = page[1];
-    let mut set = [0u64; 8];
-    let tally = follow(page, queries, &mut set);
-    let reached = tally.reached;
-    let edges = tally.edges;
+    let closure = follow(page, queries);
+    let set = closure.set;
+    let reached = closure.reached;
+    let edges = closure.edges;
     let marks = marks_of(&set, n);
     write_run(run, n, top, &marks);
     OpenAnswer::Opened {

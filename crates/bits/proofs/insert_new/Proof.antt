@@ -1,32 +1,50 @@
 -- `bits::insert_new` meets its contract. Assumes nothing.
-use mathlib.Core.Path.{sym, _∙_}
+use Rattle.bits.proofs.Sets.{bit-inserted, new-is}
 use borrow.Author.Needs.{needs}
-use Rattle.bits.proofs.Sets.{inserted-there, new-none, new-one}
 use Rattle.bits.proofs.insert_new.Statement.{statement}
 use Rattle.bits.proofs.insert_new.Tie as tie
 
-contains-requires : tie.Need-contains-requires
-contains-requires c κs = search needs
+mul-old : tie.Need-mul-old
+mul-old c = search needs
+
+slice-read-old : tie.Need-slice-read-old
+slice-read-old c = search needs
+
+shl-words : tie.Need-shl-words
+shl-words c = search needs
+
+mul-words : tie.Need-mul-words
+mul-words c = search needs
+
+slice-write-words : tie.Need-slice-write-words
+slice-write-words c = search needs
+
+shr-result : tie.Need-shr-result
+shr-result c = search needs
+
+cast-result : tie.Need-cast-result
+cast-result c = search needs
+
+sub-result : tie.Need-sub-result
+sub-result c = search needs
 
 same-length : tie.Need-same-length
 same-length c = search needs
 
 returns : tie.Need-returns
-returns c =
-    let z = c .before .before .before .before in
-    let e = sym (c .before .contains .ensures) ∙ c .if1 .taken in
-    (inserted-there (z .args .words .now) (z .args .c) (z .pre .0) e, new-none e)
-
-insert-requires : tie.Need-insert-requires
-insert-requires c κs = search needs
-
-same-length-2 : tie.Need-same-length-2
-same-length-2 c = search needs
-
-returns-2 : tie.Need-returns-2
-returns-2 c = (c .before .before .insert .ensures, new-one (sym (c .before .before .before .before .before .contains .ensures) ∙ c .before .before .before .before .if1 .left))
+returns c = let s = c .before in (bit-inserted (s .args .words .now) (s .args .c) (s .pre .0) (s .pre .1), new-is (s .args .words .now) (s .args .c))
 
 pub insert-new-spec : {M : Type 1} → statement M
 insert-new-spec =
     tie.close
-    (tie.spec contains-requires same-length returns insert-requires same-length-2 returns-2)
+    (tie.spec
+    mul-old
+    slice-read-old
+    shl-words
+    mul-words
+    slice-write-words
+    shr-result
+    cast-result
+    sub-result
+    same-length
+    returns)

@@ -11,25 +11,20 @@ use Rattle.reach.proofs.follow.Statement.{statement}
 use Rattle.reach.proofs.follow.Tie as tie
 
 abbrev Inv-loop : tie.InvT-loop
-Inv-loop a queries reached₀ waiting₀ visited₀ edges₀ reached waiting visited edges = Following (pageOf a) queries reached waiting visited edges
+Inv-loop a queries set₀ waiting₀ visited₀ edges₀ set waiting visited edges = Following (pageOf a) queries set waiting visited edges
 
 abbrev μ-loop : tie.MeasureT-loop
-μ-loop a queries reached₀ waiting₀ visited₀ edges₀ reached waiting visited edges = conditionsOf a - visited
-
-insert-queries-requires : tie.Need-insert-queries-requires Inv-loop μ-loop
-insert-queries-requires c κs = let z = c .before .before .before .before in (queries-few (z .args .a .now) (z .pre .0) (z .args .queries .now) (z .pre .1), z .pre .2)
+μ-loop a queries set₀ waiting₀ visited₀ edges₀ set waiting visited edges = conditionsOf a - visited
 
 slice-aggregate-insert-queries : tie.Need-slice-aggregate-insert-queries Inv-loop μ-loop
 slice-aggregate-insert-queries c = refl
 
-insert-queries-requires-2 : tie.Need-insert-queries-requires-2 Inv-loop μ-loop
-insert-queries-requires-2 c κs = let z = c .before .before .before .before .before .before .before .before in (queries-few (z .args .a .now) (z .pre .0) (z .args .queries .now) (z .pre .1), refl)
+insert-queries-requires : tie.Need-insert-queries-requires Inv-loop μ-loop
+insert-queries-requires c κs = let z = c .before .before .before in (queries-few (z .args .a .now) (z .pre .0) (z .args .queries .now) (z .pre .1), refl)
 
 loop-holds : tie.Need-loop-holds Inv-loop μ-loop
 unfolding pageOf
-loop-holds c = 
-    let z = c .before .before .before .before .before .before .before .before .before .before in
-    following-first (pageOf (z .args .a .now)) (z .args .queries .now) (sound-proper (z .args .a .now) (z .pre .0)) (z .pre .1) (z .pre .3) (c .before .before .before .before .before .insert-queries .ensures) (cleared-zeros 8) (c .before .insert-queries2 .ensures)
+loop-holds c = let z = c .before .before .before .before .before in following-first (pageOf (z .args .a .now)) (z .args .queries .now) (sound-proper (z .args .a .now) (z .pre .0)) (z .pre .1) (cleared-zeros 8) (c .before .insert-queries .ensures)
 
 slice-aggregate-lowest-in : tie.Need-slice-aggregate-lowest-in Inv-loop μ-loop
 slice-aggregate-lowest-in c = sym (c .before .loop .inv .waiting-size)
@@ -37,22 +32,22 @@ slice-aggregate-lowest-in c = sym (c .before .loop .inv .waiting-size)
 lowest-in-requires : tie.Need-lowest-in-requires Inv-loop μ-loop
 lowest-in-requires c κs = c .before .loop .inv .waiting-size
 
-same-length : tie.Need-same-length Inv-loop μ-loop
-same-length c = c .before .before .before .loop .inv .reached-size ∙ sym (c .before .before .before .before .before .before .before .before .before .before .before .before .before .before .pre .2)
-
 returns : tie.Need-returns Inv-loop μ-loop
 unfolding pageOf
 returns c = 
-    let z = c .before .before .before .before .before .before .before .before .before .before .before .before .before .before in
+    let z = c .before .before .before .before .before .before .before .before .before in
     following-last (pageOf (z .args .a .now)) (z .args .queries .now) (sound-proper (z .args .a .now) (z .pre .0)) (z .pre .1) (c .before .before .before .loop .inv) (λ k l. c .before .lowest-in .ensures .below k (omega arith))
 
 slice-aggregate-visit : tie.Need-slice-aggregate-visit Inv-loop μ-loop
-slice-aggregate-visit c = sym (c .before .before .before .before .before .loop .inv .waiting-size)
+slice-aggregate-visit c = sym (c .before .before .before .before .loop .inv .reached-size)
+
+slice-aggregate-visit-2 : tie.Need-slice-aggregate-visit-2 Inv-loop μ-loop
+slice-aggregate-visit-2 c = sym (c .before .before .before .before .before .loop .inv .waiting-size)
 
 visit-requires : tie.Need-visit-requires Inv-loop μ-loop
 unfolding pageOf
 visit-requires c κs = 
-    let z = c .before .before .before .before .before .before .before .before .before .before .before .before .before .before .before .before in
+    let z = c .before .before .before .before .before .before .before .before .before .before .before in
     let h = c .before .before .before .before .before .loop .inv in
     let m = c .before .before .before .lowest-in in
     (z .pre .0, waiting-real (pageOf (z .args .a .now)) (z .args .queries .now) (sound-proper (z .args .a .now) (z .pre .0)) (z .pre .1) h (m .result) (omega arith) (m .ensures .found (omega arith)), h .reached-size, h .waiting-size)
@@ -60,27 +55,27 @@ visit-requires c κs =
 add-edges : tie.Need-add-edges Inv-loop μ-loop
 unfolding pageOf
 add-edges c = 
-    let z = c .before .before .before .before .before .before .before .before .before .before .before .before .before .before .before .before .before .before .before .before in
-    omega (arith, edges-few (pageOf (z .args .a .now)) (z .args .queries .now) (sound-proper (z .args .a .now) (z .pre .0)) (z .pre .1) (c .before .before .before .before .before .before .before .before .before .loop .inv), visit-few (pageOf (z .args .a .now)) (sound-proper (z .args .a .now) (z .pre .0) .conditions-most) (c .before .before .before .visit .ensures))
+    let z = c .before .before .before .before .before .before .before .before .before .before .before .before .before .before in
+    omega (arith, edges-few (pageOf (z .args .a .now)) (z .args .queries .now) (sound-proper (z .args .a .now) (z .pre .0)) (z .pre .1) (c .before .before .before .before .before .before .before .before .loop .inv), visit-few (pageOf (z .args .a .now)) (sound-proper (z .args .a .now) (z .pre .0) .conditions-most) (c .before .before .visit .ensures))
 
 add-visited : tie.Need-add-visited Inv-loop μ-loop
 unfolding pageOf
-add-visited c = let z = c .before .before .before .before .before .before .before .before .before .before .before .before .before .before .before .before .before .before .before .before in omega (arith, visited-few (pageOf (z .args .a .now)) (z .args .queries .now) (sound-proper (z .args .a .now) (z .pre .0)) (z .pre .1) (c .before .before .before .before .before .before .before .before .before .loop .inv), sound-proper (z .args .a .now) (z .pre .0) .conditions-most)
+add-visited c = let z = c .before .before .before .before .before .before .before .before .before .before .before .before .before .before in omega (arith, visited-few (pageOf (z .args .a .now)) (z .args .queries .now) (sound-proper (z .args .a .now) (z .pre .0)) (z .pre .1) (c .before .before .before .before .before .before .before .before .loop .inv), sound-proper (z .args .a .now) (z .pre .0) .conditions-most)
 
 loop-less : tie.Need-loop-less Inv-loop μ-loop
 unfolding pageOf
 loop-less c = 
-    let z = c .before .before .before .before .before .before .before .before .before .before .before .before .before .before .before .before .before .before .before .before in
-    let m = c .before .before .before .before .before .before .before .lowest-in in
-    let f = following-next (pageOf (z .args .a .now)) (z .args .queries .now) (sound-proper (z .args .a .now) (z .pre .0)) (z .pre .1) (c .before .before .before .before .before .before .before .before .before .loop .inv) (omega arith) (m .ensures .found (omega arith)) (c .before .before .before .visit .ensures) in
+    let z = c .before .before .before .before .before .before .before .before .before .before .before .before .before .before in
+    let m = c .before .before .before .before .before .before .lowest-in in
+    let f = following-next (pageOf (z .args .a .now)) (z .args .queries .now) (sound-proper (z .args .a .now) (z .pre .0)) (z .pre .1) (c .before .before .before .before .before .before .before .before .loop .inv) (omega arith) (m .ensures .found (omega arith)) (c .before .before .visit .ensures) in
     omega (arith, visited-few (pageOf (z .args .a .now)) (z .args .queries .now) (sound-proper (z .args .a .now) (z .pre .0)) (z .pre .1) f)
 
 loop-again : tie.Need-loop-again Inv-loop μ-loop
 unfolding pageOf
 loop-again c = 
-    let z = c .before .before .before .before .before .before .before .before .before .before .before .before .before .before .before .before .before .before .before .before in
-    let m = c .before .before .before .before .before .before .before .lowest-in in
-    let f = following-next (pageOf (z .args .a .now)) (z .args .queries .now) (sound-proper (z .args .a .now) (z .pre .0)) (z .pre .1) (c .before .before .before .before .before .before .before .before .before .loop .inv) (omega arith) (m .ensures .found (omega arith)) (c .before .before .before .visit .ensures) in
+    let z = c .before .before .before .before .before .before .before .before .before .before .before .before .before .before in
+    let m = c .before .before .before .before .before .before .lowest-in in
+    let f = following-next (pageOf (z .args .a .now)) (z .args .queries .now) (sound-proper (z .args .a .now) (z .pre .0)) (z .pre .1) (c .before .before .before .before .before .before .before .before .loop .inv) (omega arith) (m .ensures .found (omega arith)) (c .before .before .visit .ensures) in
     f
 
 pub follow-spec : {M : Type 1} → statement M
@@ -89,15 +84,14 @@ follow-spec =
     (tie.spec
     Inv-loop
     μ-loop
-    insert-queries-requires
     slice-aggregate-insert-queries
-    insert-queries-requires-2
+    insert-queries-requires
     loop-holds
     slice-aggregate-lowest-in
     lowest-in-requires
-    same-length
     returns
     slice-aggregate-visit
+    slice-aggregate-visit-2
     visit-requires
     add-edges
     add-visited

@@ -1,9 +1,7 @@
 -- `reach::open_accepted` meets its contract: R, E and the bound are those of the closure, and the run area holds its marks. Assumes nothing.
-use mathlib.Core.Path.{refl}
 use native.Mathlib.Omega.{arith}
 use borrow.Author.Needs.{needs}
 use Rattle.semantics.specs.Area.{pageOf}
-use Rattle.index.proofs.Parts.{cleared-zeros}
 use Rattle.page.proofs.Head.{head-of}
 use Rattle.page.proofs.Scan.{sound-head}
 use Rattle.reach.proofs.Closing.{followed-few}
@@ -18,28 +16,25 @@ shared-slice-read-top c = let z = c .before .before .before .before in omega (ar
 shared-slice-read-n : tie.Need-shared-slice-read-n
 shared-slice-read-n c = let z = c .before .before .before .before .before in omega (arith, sound-head (z .args .page .now) (z .pre .0))
 
-slice-aggregate-follow : tie.Need-slice-aggregate-follow
-slice-aggregate-follow c = search needs
-
 follow-requires : tie.Need-follow-requires
-follow-requires c κs = let z = c .before .before .before .before .before .before in (z .pre .0, z .pre .1, refl, cleared-zeros 8)
+follow-requires c κs = search needs
 
 slice-aggregate-marks-of : tie.Need-slice-aggregate-marks-of
 slice-aggregate-marks-of c = search needs
 
 marks-of-requires : tie.Need-marks-of-requires
-marks-of-requires c κs = let z = c .before .before .before .before .before .before .before .before .before in (c .before .before .follow .ensures .size, head-of (z .args .page .now) (z .pre .0) .few)
+marks-of-requires c κs = let z = c .before .before .before .before .before .before .before .before in (c .before .before .follow .ensures .size, head-of (z .args .page .now) (z .pre .0) .few)
 
 slice-aggregate-write-run : tie.Need-slice-aggregate-write-run
 slice-aggregate-write-run c = search needs
 
 write-run-requires : tie.Need-write-run-requires
-write-run-requires c κs = let z = c .before .before .before .before .before .before .before .before .before .before .before .before in (z .pre .2, omega (arith, head-of (z .args .page .now) (z .pre .0) .few, c .before .before .marks-of .ensures .size))
+write-run-requires c κs = let z = c .before .before .before .before .before .before .before .before .before .before .before in (z .pre .2, omega (arith, head-of (z .args .page .now) (z .pre .0) .few, c .before .before .marks-of .ensures .size))
 
 bound-of-requires : tie.Need-bound-of-requires
 unfolding pageOf
 bound-of-requires c κs = 
-    let z = c .before .before .before .before .before .before .before .before .before .before .before .before .before .before .before in
+    let z = c .before .before .before .before .before .before .before .before .before .before .before .before .before .before in
     let h = head-of (z .args .page .now) (z .pre .0) in
     let f = followed-few (pageOf (z .args .page .now)) (z .args .queries .now) (h .few) (c .before .before .before .before .before .before .before .before .follow .ensures) in
     (f .0, h .top-most, f .1)
@@ -50,7 +45,7 @@ same-length c = search needs
 returns : tie.Need-returns
 unfolding pageOf
 returns c = 
-    let z = c .before .before .before .before .before .before .before .before .before .before .before .before .before .before .before .before in
+    let z = c .before .before .before .before .before .before .before .before .before .before .before .before .before .before .before in
     let a = z .args .page .now in
     let f = c .before .before .before .before .before .before .before .before .before .follow .ensures in (
       accepted-answer a (z .args .queries .now) (z .args .run .now) f (c .bound-of .ensures),
@@ -63,7 +58,6 @@ open-accepted-spec =
     (tie.spec
     shared-slice-read-top
     shared-slice-read-n
-    slice-aggregate-follow
     follow-requires
     slice-aggregate-marks-of
     marks-of-requires
