@@ -1,4 +1,4 @@
--- The visits, until none waits: the set is then the closure of the queries, and R and E are counted. Assumes nothing.
+-- The visits, until none waits, and the passes, until one adds nothing: the set is then the closure of the queries. The visits count R and E. Assumes nothing.
 use mathlib.Core.Path.{_≡_, refl, sym, _∙_, ap}
 use mathlib.Core.Logic.{_≢_, inl, inr}
 use mathlib.Core.Bool.{Bool, true, false, cond, not, _&&_, _||_, and-true, and-false, or-true, true≢false, false≢true}
@@ -10,6 +10,7 @@ use native.Mathlib.Omega.{arith}
 use lib.Dec.{eqb, ltb}
 use lib.ListN.{length, List·getD-eq-default}
 use borrow.Author.Tests.{eqb-true, eq-eqb, ne-eqb, ltb-true}
+use Rattle.fixpoint.specs.ChaoticIteration.{DependencyClosed}
 use Rattle.fixpoint.specs.Sum.{sum, bit, count}
 use Rattle.fixpoint.proofs.Sum.{sum-eq, sum-le, sum-const, sum-zero}
 use Rattle.semantics.specs.Area.{allUnder}
@@ -22,7 +23,7 @@ use Rattle.semantics.proofs.Soundness.{both-true}
 use Rattle.semantics.proofs.Table.{or-cases}
 use Rattle.bits.specs.Words.{has}
 use Rattle.index.specs.Groups.{Cleared}
-use Rattle.reach.specs.Sets.{Joins, Visited, Followed}
+use Rattle.reach.specs.Sets.{Joins, Visited, Followed, Swept}
 use Rattle.reach.proofs.Inserting.{sum-grown, size-most}
 use Rattle.reach.proofs.Naming.{iff-eq}
 use Rattle.reach.proofs.Visiting.{blank-none}
@@ -100,6 +101,16 @@ module _ (page : Page) (qs : List ℕ) where
 
     inside : (a b : ℕ) → names page a b ≡ true → b < n
     inside = names-inside page w
+
+    -- a set between the queries and the closure that names only itself is the closure
+    module _ (words : List ℕ) (has-asked : (c : ℕ) → listed c qs ≡ true → has words c ≡ true) (in-closure : (c : ℕ) → c < 512 → has words c ≡ true → reached page qs c ≡ true)
+        (closed : DependencyClosed n (names page) (has words)) where
+      grown : {c : ℕ} → Reached page qs c → has words c ≡ true
+      grown {c} (queried q) = has-asked c q
+      grown {c} (named {a = a} p q) = closed a c (reached-real page qs inside real p) (inside a c q) (grown p) q
+
+      pub closed-same : (c : ℕ) → c < 512 → has words c ≡ member (closure page qs) c
+      closed-same c l = iff-eq (has words c) (reached page qs c) (in-closure c l) (λ q. grown (reached-sound page qs c (closure-inside c q) q))
 
     -- the queries wait
     pub following-first : {blank words : List ℕ} → Cleared blank → Joins (λ c. listed c qs) blank words → Following words words 0 0
@@ -200,14 +211,8 @@ module _ (page : Page) (qs : List ℕ) where
 
       -- none waits
       module _ (rest : (c : ℕ) → c < 512 → has waiting c ≡ false) where
-        grown : {c : ℕ} → Reached page qs c → has words c ≡ true
-        grown {c} (queried q) = f .has-asked c q
-        grown {c} (named {a = a} p q) =
-            let l : a < n = reached-real page qs inside real p in
-            f .follows a c l (grown p) (rest a (omega (arith, w .conditions-most))) q
-
         same : (c : ℕ) → c < 512 → has words c ≡ member (closure page qs) c
-        same c l = iff-eq (has words c) (reached page qs c) (f .in-closure c l) (λ q. grown (reached-sound page qs c (closure-inside c q) q))
+        same = closed-same words (f .has-asked) (f .in-closure) (λ a b l m p q. f .follows a b l p (rest a (omega (arith, w .conditions-most))) q)
 
         all-done : (c : ℕ) → c < n → done words waiting c ≡ member (closure page qs) c
         all-done c l = let m : c < 512 = omega (arith, w .conditions-most) in rw (same c m, rest c m, and-true)
@@ -230,6 +235,28 @@ module _ (page : Page) (qs : List ℕ) where
               reached-is = f .reached-is ∙ sum-eq n _ _ (λ c l. ap bit (all-done c l));
               edges-is = f .edges-is ∙ sum-eq n _ _ (λ c l. ap (λ (t : Bool). cond t (degree c) 0) (all-done c l) ∙ row c l (member (closure page qs) c) refl);
             }
+
+-- the loop of passes
+module _ (page : Page) (qs : List ℕ) where
+  pub record Spreading (words : List ℕ) : Type 0 where
+    pub size : length words ≡ 8
+    pub has-asked : (c : ℕ) → listed c qs ≡ true → has words c ≡ true
+    pub in-closure : (c : ℕ) → c < 512 → has words c ≡ true → reached page qs c ≡ true
+
+  pub spreading-first : {words waiting : List ℕ} {r e : ℕ} → Following page qs words waiting r e → Spreading words
+  spreading-first f = record { size = f .reached-size; has-asked = f .has-asked; in-closure = f .in-closure }
+
+  module _ (w : Proper page) (asked : allUnder (page .conditions) qs ≡ true) {words words′ : List ℕ} {new : ℕ} (p : Spreading words) (s : Swept page words words′ new) where
+    pub spreading-next : Spreading words′
+    spreading-next =
+        record {
+          size = s .size;
+          has-asked = λ c q. s .grows c (omega (arith, w .conditions-most, asked-in (page .conditions) qs asked c q)) (p .has-asked c q);
+          in-closure = s .inside (reached page qs) (reached-closed page qs) (p .in-closure);
+        }
+
+    pub spreading-last : new ≡ 0 → (c : ℕ) → c < 512 → has words′ c ≡ member (closure page qs) c
+    spreading-last e = closed-same page qs w asked words′ (spreading-next .has-asked) (spreading-next .in-closure) (s .settled e)
 
 -- a visit finds at most 512 conditions named
 pub visit-few : (page : Page) → page .conditions ≤ 512 → {c d : ℕ} {words waiting words′ waiting′ : List ℕ} → Visited page c words waiting words′ waiting′ d → d ≤ 512

@@ -1,16 +1,12 @@
--- marking, one condition or several
-pub mod Adding
 -- sets as words: conditions put in, one or several
 pub mod Inserting
--- what queries, literals and lines name
+-- what queries and literals name
 pub mod Naming
--- a scan over the lines that marks what they name
-pub mod Following
--- the passes, until one adds nothing
-pub mod Passes
 -- a visit to one condition
 pub mod Visiting
--- the visits, until none waits
+-- a pass over the lines
+pub mod Sweeping
+-- the visits and the passes, until the set is the closure
 pub mod Closing
 -- the set as marks
 pub mod Marking

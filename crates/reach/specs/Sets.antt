@@ -1,10 +1,11 @@
 -- Sets of conditions as words, and what a scan over a page's lines does to them. Assumes nothing.
 use mathlib.Core.Path.{_≡_}
-use mathlib.Core.Bool.{Bool, not, _&&_, _||_}
+use mathlib.Core.Bool.{Bool, true, not, _&&_, _||_}
 use mathlib.Core.List.{List}
 use Prim.Native.Nat.{ℕ, _+_, _<_}
 use lib.Dec.{eqb, ltb}
 use lib.ListN.{length}
+use Rattle.fixpoint.specs.ChaoticIteration.{DependencyClosed}
 use Rattle.fixpoint.specs.Sum.{count}
 use Rattle.semantics.specs.Page.{Page, names}
 use Rattle.semantics.specs.Reading.{closure, countR, countE}
@@ -35,6 +36,14 @@ pub record Followed (page : Page) (qs : List ℕ) (words : List ℕ) (reached ed
   pub same : (c : ℕ) → c < 512 → has words c ≡ member (closure page qs) c
   pub reached-is : reached ≡ countR page (closure page qs)
   pub edges-is : edges ≡ countE page (closure page qs)
+
+-- the set grows by `new` conditions that its own name, directly or not; with none new it names only itself
+pub record Swept (page : Page) (before after : List ℕ) (new : ℕ) : Type 0 where
+  pub size : length after ≡ 8
+  pub grows : (c : ℕ) → c < 512 → has before c ≡ true → has after c ≡ true
+  pub inside : (s : ℕ → Bool) → DependencyClosed (page .conditions) (names page) s → ((c : ℕ) → c < 512 → has before c ≡ true → s c ≡ true) → (c : ℕ) → c < 512 → has after c ≡ true → s c ≡ true
+  pub counted : count 512 (has after) ≡ count 512 (has before) + new
+  pub settled : new ≡ 0 → DependencyClosed (page .conditions) (names page) (has after)
 
 -- the marks of those of the set that are below n
 pub record MarksBelow (n : ℕ) (words : List ℕ) (marks : List Bool) : Type 0 where

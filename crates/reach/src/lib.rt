@@ -4,7 +4,7 @@ ghost use mathlib.Core.List.{map};
 ghost use Prim.Native.Nat.{_≤_, _+_, _-_, _<_, _*_};
 ghost use lib.Dec.{eqb, leb};
 ghost use lib.ListN.{length, getD, take, drop};
-ghost use Rattle.semantics.specs.Area.{sound, lineAt, lineTests, every, allUnder, literalOf, pageOf, topOf, conditionsOf, usedOf};
+ghost use Rattle.semantics.specs.Area.{sound, lineAt, allUnder, literalOf, pageOf, topOf, conditionsOf, usedOf};
 ghost use Rattle.semantics.specs.Operation.{openOf};
 ghost use Rattle.semantics.specs.Page.{mentions, names};
 ghost use Rattle.semantics.specs.RunArea.{markOf};
@@ -12,107 +12,8 @@ ghost use Rattle.semantics.specs.Table.{listed};
 ghost use Rattle.page.specs.Graded.{RuleAt, EntryAt};
 ghost use Rattle.page.specs.Lines.{lineNames};
 ghost use Rattle.reach.specs.Opening.{openingOf, accepted, Written};
-ghost use Rattle.reach.specs.Marks.{ClosureMarks, Below, Adds, headNames, namedBy, Passed};
-ghost use Rattle.reach.specs.Sets.{Joins, Inserts, Visited, Followed, MarksBelow};
-
-// Marks c; answers how many marks are new.
-fn mark(marks: &mut [bool], c: usize) -> u32
-    requires { ⌜ (length (now marks) ≡ 512) × (c < 512) ⌝ }
-    ensures { λ r. ⌜ Adds (eqb c) (now (marks .entry)) (now (marks .exit)) r ⌝ }
-{
-    if marks[c] {
-        return 0;
-    }
-    marks[c] = true;
-    1
-}
-
-// Marks the queries; answers how many marks are new.
-fn mark_queries(queries: &[u16], marks: &mut [bool]) -> u32
-    requires { ⌜ (length (now marks) ≡ 512) × (allUnder 512 (now queries) ≡ true) ⌝ }
-    ensures { λ r. ⌜ Adds (λ c. listed c (now (queries .entry))) (now (marks .entry)) (now (marks .exit)) r ⌝ }
-{
-    let mut new: u32 = 0;
-    let mut i: usize = 0;
-    while i < queries.len() {
-        new += mark(marks, queries[i] as usize);
-        i += 1;
-    }
-    new
-}
-
-// Marks the conditions that the literals of the rule at `at` name; answers how many marks are new.
-fn mark_literals(a: &[u16], at: usize, marks: &mut [bool]) -> u32
-    requires { ⌜ RuleAt (topOf (now a)) (conditionsOf (now a)) (now a) at × (conditionsOf (now a) ≤ 512) × (length (now marks) ≡ 512) ⌝ }
-    ensures { λ r. ⌜ Adds (mentions (map literalOf (take (getD (now (a .entry)) (at + 3) 0) (drop (at + 4) (now (a .entry)))))) (now (marks .entry)) (now (marks .exit)) r ⌝ }
-{
-    let y = a[at + 3];
-    let mut new: u32 = 0;
-    let mut j: u16 = 0;
-    while j < y {
-        let code = a[at + 4 + j as usize];
-        new += mark(marks, (code / 2) as usize);
-        j += 1;
-    }
-    new
-}
-
-// Marks the conditions that the line at `at` names, if it is an R line of a condition of the set; answers how many marks are new.
-fn mark_line(a: &[u16], at: usize, left: usize, heads: &[bool], marks: &mut [bool]) -> u32
-    requires { ⌜ (at + left ≤ length (now a)) × (conditionsOf (now a) ≤ 512) × (every (lineTests (topOf (now a)) (conditionsOf (now a)) left (drop at (now a))) ≡ true) × (length (now heads) ≡ 512) × (length (now marks) ≡ 512) ⌝ }
-    ensures { λ r. ⌜ Adds (headNames (now (heads .entry)) (lineAt (drop at (now (a .entry))))) (now (marks .entry)) (now (marks .exit)) r ⌝ }
-{
-    let c = a[at] as usize;
-    let k = a[at + 1];
-    if heads[c] {
-        match k {
-            1..=5 => mark_literals(a, at, marks),
-            _ => 0,
-        }
-    } else {
-        0
-    }
-}
-
-// Marks every condition that an R line of a condition of the set names, in one scan over the lines; answers how many marks are new.
-fn mark_named(a: &[u16], heads: &[bool], marks: &mut [bool]) -> u32
-    requires { ⌜ (sound (now a) ≡ true) × (length (now heads) ≡ 512) × (length (now marks) ≡ 512) ⌝ }
-    ensures { λ r. ⌜ Adds (namedBy (pageOf (now (a .entry))) (now (heads .entry))) (now (marks .entry)) (now (marks .exit)) r ⌝ }
-{
-    let count = a[2];
-    let used = a[3] as usize;
-    let mut line = page::Cursor::first(a);
-    let mut new: u32 = 0;
-    while line.passed < count {
-        let at = line.at;
-        new += mark_line(a, at, used - at, heads, marks);
-        line = line.next(a);
-    }
-    new
-}
-
-// One pass: adds every condition that an R line of those found before names; answers how many are new.
-fn pass(a: &[u16], before: &[bool], after: &mut [bool]) -> u32
-    requires { ⌜ (sound (now a) ≡ true) × Below (conditionsOf (now a)) (now before) × (now after ≡ now before) ⌝ }
-    ensures { λ r. ⌜ Passed (pageOf (now (a .entry))) (now (before .entry)) (now (after .exit)) r ⌝ }
-{
-    mark_named(a, before, after)
-}
-
-// The marks of the closure of the queries: the queries, then passes until one adds nothing.
-pub fn closure_of(a: &[u16], queries: &[u16]) -> [bool; 512]
-    requires { ⌜ (sound (now a) ≡ true) × (allUnder (conditionsOf (now a)) (now queries) ≡ true) ⌝ }
-    ensures { λ r. ⌜ ClosureMarks (pageOf (now (a .entry))) (now (queries .entry)) r ⌝ }
-{
-    let mut marks = [false; 512];
-    mark_queries(queries, &mut marks);
-    loop {
-        let before = marks;
-        if pass(a, &before, &mut marks) == 0 {
-            return marks;
-        }
-    }
-}
+ghost use Rattle.reach.specs.Marks.{ClosureMarks};
+ghost use Rattle.reach.specs.Sets.{Joins, Inserts, Visited, Followed, Swept, MarksBelow};
 
 // Puts the queries into the set.
 fn insert_queries(queries: &[u16], words: &mut [u64])
@@ -227,6 +128,39 @@ fn marks_of(words: &[u64], n: u16) -> [bool; 512]
         c += 1;
     }
     marks
+}
+
+// One pass over the lines: what a line of a condition of the set names is put into the set; answers how many are new.
+fn sweep(a: &[u16], set: &mut [u64]) -> u32
+    requires { ⌜ (sound (now a) ≡ true) × (length (now set) ≡ 8) ⌝ }
+    ensures { λ r. ⌜ Swept (pageOf (now (a .entry))) (now (set .entry)) (now (set .exit)) r ⌝ }
+{
+    let mut left = a[2];
+    let mut line = page::Cursor::first(a);
+    let mut new: u32 = 0;
+    while 0 < left {
+        let at = line.at;
+        if bits::contains(set, a[at]) {
+            new += insert_line(a, at, set);
+        }
+        line = line.next(a);
+        left -= 1;
+    }
+    new
+}
+
+// The marks of the closure of the queries, by passes until one adds nothing: fewer scans than visits, where E is not asked for.
+pub fn closure_of(a: &[u16], queries: &[u16]) -> [bool; 512]
+    requires { ⌜ (sound (now a) ≡ true) × (allUnder (conditionsOf (now a)) (now queries) ≡ true) ⌝ }
+    ensures { λ r. ⌜ ClosureMarks (pageOf (now (a .entry))) (now (queries .entry)) r ⌝ }
+{
+    let mut set = [0u64; 8];
+    insert_queries(queries, &mut set);
+    loop {
+        if sweep(a, &mut set) == 0 {
+            return marks_of(&set, a[1]);
+        }
+    }
 }
 
 // R + top × E.

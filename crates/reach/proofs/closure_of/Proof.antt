@@ -1,48 +1,64 @@
--- `reach::closure_of` meets its contract: the queries are marked, then each pass but the last adds a mark, and there are 512. Assumes nothing.
+-- `reach::closure_of` meets its contract: each pass but the last adds a condition, and there are 512. Assumes nothing.
 use mathlib.Core.Path.{refl, sym}
 use Prim.Native.Nat.{_-_}
 use native.Mathlib.Omega.{arith}
-use borrow.Author.Needs.{needs}
 use Rattle.fixpoint.specs.Sum.{count}
 use Rattle.semantics.specs.Area.{pageOf}
-use Rattle.semantics.specs.Table.{member}
-use Rattle.reach.proofs.Adding.{count-most}
-use Rattle.reach.proofs.Passes.{queries-few, first-below, closure-marked, Passing, passing-first, passing-next, passing-last, still-below}
+use Rattle.semantics.proofs.Soundness.{sound-proper}
+use Rattle.bits.specs.Words.{has}
+use Rattle.index.proofs.Parts.{cleared-zeros}
+use Rattle.page.proofs.Head.{head-of}
+use Rattle.reach.proofs.Closing.{following-first, Spreading, spreading-first, spreading-next, spreading-last}
+use Rattle.reach.proofs.Inserting.{size-most}
+use Rattle.reach.proofs.Marking.{closure-marks}
+use Rattle.reach.proofs.Naming.{queries-few}
 use Rattle.reach.proofs.closure_of.Statement.{statement}
 use Rattle.reach.proofs.closure_of.Tie as tie
 
 abbrev Inv-loop : tie.InvT-loop
-Inv-loop a queries marks₀ marks = Passing (pageOf a) marks₀ marks
+Inv-loop a queries set₀ set = Spreading (pageOf a) queries set
 
 abbrev μ-loop : tie.MeasureT-loop
-μ-loop a queries marks₀ marks = 512 - count 512 (member marks)
+μ-loop a queries set₀ set = 512 - count 512 (has set)
 
-slice-aggregate-mark-queries : tie.Need-slice-aggregate-mark-queries Inv-loop μ-loop
-slice-aggregate-mark-queries c = search needs
+slice-aggregate-insert-queries : tie.Need-slice-aggregate-insert-queries Inv-loop μ-loop
+slice-aggregate-insert-queries c = refl
 
-mark-queries-requires : tie.Need-mark-queries-requires Inv-loop μ-loop
-mark-queries-requires c κs = let z = c .before .before .before in (refl, queries-few (z .args .a .now) (z .pre .0) (z .args .queries .now) (z .pre .1))
+insert-queries-requires : tie.Need-insert-queries-requires Inv-loop μ-loop
+insert-queries-requires c κs = let z = c .before .before .before in (queries-few (z .args .a .now) (z .pre .0) (z .args .queries .now) (z .pre .1), refl)
 
 loop-holds : tie.Need-loop-holds Inv-loop μ-loop
-loop-holds c = let z = c .before .before .before .before .before in passing-first (pageOf (z .args .a .now)) _ (first-below (z .args .a .now) (z .pre .0) (z .args .queries .now) (z .pre .1) (c .before .mark-queries .ensures) .size)
+unfolding pageOf
+loop-holds c = let z = c .before .before .before .before .before in spreading-first (pageOf (z .args .a .now)) (z .args .queries .now) (following-first (pageOf (z .args .a .now)) (z .args .queries .now) (sound-proper (z .args .a .now) (z .pre .0)) (z .pre .1) (cleared-zeros 8) (c .before .insert-queries .ensures))
 
-slice-aggregate-pass : tie.Need-slice-aggregate-pass Inv-loop μ-loop
-slice-aggregate-pass c = sym (c .before .loop .inv .marks .size)
+slice-aggregate-sweep : tie.Need-slice-aggregate-sweep Inv-loop μ-loop
+slice-aggregate-sweep c = sym (c .before .loop .inv .size)
 
-slice-aggregate-pass-2 : tie.Need-slice-aggregate-pass-2 Inv-loop μ-loop
-slice-aggregate-pass-2 c = sym (c .before .before .loop .inv .marks .size)
+sweep-requires : tie.Need-sweep-requires Inv-loop μ-loop
+sweep-requires c κs = (c .before .before .before .before .before .before .before .pre .0, c .before .loop .inv .size)
 
-pass-requires : tie.Need-pass-requires Inv-loop μ-loop
-pass-requires c κs = let z = c .before .before .before .before .before .before .before .before in (z .pre .0, still-below (z .args .a .now) (z .pre .0) (first-below (z .args .a .now) (z .pre .0) (z .args .queries .now) (z .pre .1) (c .before .before .before .before .mark-queries .ensures)) (c .before .before .loop .inv), refl)
+slice-aggregate-marks-of : tie.Need-slice-aggregate-marks-of Inv-loop μ-loop
+slice-aggregate-marks-of c = sym (c .before .before .before .sweep .ensures .size)
+
+shared-slice-read-marks-of : tie.Need-shared-slice-read-marks-of Inv-loop μ-loop
+shared-slice-read-marks-of c = let z = c .before .before .before .before .before .before .before .before .before .before .before .before in omega (arith, head-of (z .args .a .now) (z .pre .0))
+
+marks-of-requires : tie.Need-marks-of-requires Inv-loop μ-loop
+marks-of-requires c κs = let z = c .before .before .before .before .before .before .before .before .before .before .before .before in (c .before .before .before .before .sweep .ensures .size, head-of (z .args .a .now) (z .pre .0) .few)
 
 returns : tie.Need-returns Inv-loop μ-loop
-returns c = let z = c .before .before .before .before .before .before .before .before .before .before .before in closure-marked (z .args .a .now) (z .pre .0) (z .args .queries .now) (z .pre .1) (c .before .before .before .before .before .before .before .mark-queries .ensures) (passing-last (pageOf (z .args .a .now)) _ (c .before .before .before .before .before .loop .inv) (c .before .before .pass .ensures) (c .if1 .taken))
+unfolding pageOf
+returns c = 
+    let z = c .before .before .before .before .before .before .before .before .before .before .before .before .before in
+    closure-marks (pageOf (z .args .a .now)) (z .args .queries .now) (head-of (z .args .a .now) (z .pre .0) .few)
+    (spreading-last (pageOf (z .args .a .now)) (z .args .queries .now) (sound-proper (z .args .a .now) (z .pre .0)) (z .pre .1) (c .before .before .before .before .before .before .before .loop .inv) (c .before .before .before .before .before .sweep .ensures) (c .before .before .before .if1 .taken)) (c .marks-of .ensures)
 
 loop-less : tie.Need-loop-less Inv-loop μ-loop
-loop-less c = omega (arith, c .before .before .pass .ensures .counted, count-most 512 (member (c .before .before .pass .last .1 .1 .0)))
+loop-less c = omega (arith, c .before .before .sweep .ensures .counted, size-most 512 (has (c .before .before .sweep .last .1 .0)))
 
 loop-again : tie.Need-loop-again Inv-loop μ-loop
-loop-again c = let z = c .before .before .before .before .before .before .before .before .before .before .before in passing-next (pageOf (z .args .a .now)) _ (c .before .before .before .before .before .loop .inv) (c .before .before .pass .ensures)
+unfolding pageOf
+loop-again c = let z = c .before .before .before .before .before .before .before .before .before .before in spreading-next (pageOf (z .args .a .now)) (z .args .queries .now) (sound-proper (z .args .a .now) (z .pre .0)) (z .pre .1) (c .before .before .before .before .loop .inv) (c .before .before .sweep .ensures)
 
 pub closure-of-spec : {M : Type 1} → statement M
 closure-of-spec =
@@ -50,12 +66,14 @@ closure-of-spec =
     (tie.spec
     Inv-loop
     μ-loop
-    slice-aggregate-mark-queries
-    mark-queries-requires
+    slice-aggregate-insert-queries
+    insert-queries-requires
     loop-holds
-    slice-aggregate-pass
-    slice-aggregate-pass-2
-    pass-requires
+    slice-aggregate-sweep
+    sweep-requires
+    slice-aggregate-marks-of
+    shared-slice-read-marks-of
+    marks-of-requires
     returns
     loop-less
     loop-again)

@@ -6,7 +6,7 @@ use Rattle.semantics.specs.Area.{pageOf, conditionsOf}
 use Rattle.semantics.proofs.Soundness.{sound-proper}
 use Rattle.index.proofs.Parts.{cleared-zeros}
 use Rattle.reach.proofs.Closing.{Following, following-first, following-next, following-last, waiting-real, visited-few, edges-few, visit-few}
-use Rattle.reach.proofs.Passes.{queries-few}
+use Rattle.reach.proofs.Naming.{queries-few}
 use Rattle.reach.proofs.follow.Statement.{statement}
 use Rattle.reach.proofs.follow.Tie as tie
 

@@ -7,8 +7,8 @@ use lib.ListN.{length}
 use borrow.Author.Needs.{needs}
 use borrow.Author.Tests.{not-true, not-false}
 use Rattle.semantics.specs.Area.{sound, allUnder, conditionsOf}
+use Rattle.page.proofs.Head.{head-of}
 use Rattle.page.proofs.Scan.{sound-head}
-use Rattle.reach.proofs.Following.{conditions-few}
 use Rattle.reach.proofs.Refusals.{open-10, open-11, open-12, open-13, open-none}
 use Rattle.reach.proofs.open_run.Statement.{statement}
 use Rattle.reach.proofs.open_run.Tie as tie
@@ -70,12 +70,12 @@ shared-slice-read-if4 c =
 cast-if4 : tie.Need-cast-if4
 cast-if4 c =
     let e = c .before .before .before .before in
-    omega (arith, conditions-few (at-2 e .args .page .now) (no-10 (e .before .before)))
+    omega (arith, head-of (at-2 e .args .page .now) (no-10 (e .before .before)) .few)
 
 mul-if4 : tie.Need-mul-if4
 mul-if4 c =
     let e = c .before .before .before .before in
-    omega (arith, conditions-few (at-2 e .args .page .now) (no-10 (e .before .before)))
+    omega (arith, head-of (at-2 e .args .page .now) (no-10 (e .before .before)) .few)
 
 returns-4 : tie.Need-returns-4
 returns-4 c =
