@@ -47,13 +47,13 @@ pub fn absorb(named: &[u64], reached: &mut [u64], waiting: &mut [u64])
     requires { ⌜ (length (now named) ≡ 8) × (length (now reached) ≡ 8) × (length (now waiting) ≡ 8) ⌝ }
     ensures { λ _. ⌜ Absorbed (now (named .entry)) (now (reached .entry)) (now (waiting .entry)) (now (reached .exit)) (now (waiting .exit)) ⌝ }
 {
-    let mut w: usize = 0;
-    while w < 8 {
-        let x = named[w];
-        let y = reached[w];
-        reached[w] = y | x;
-        waiting[w] |= x & !y;
-        w += 1;
+    let mut k: usize = 0;
+    while k < 8 {
+        let x = named[k];
+        let y = reached[k];
+        reached[k] = y | x;
+        waiting[k] |= x & !y;
+        k += 1;
     }
 }
 

@@ -180,9 +180,12 @@ module _ (page : Page) (qs : List ℕ) where
                       grows b (small (inside a b z)) (f .follows a b m (o .0) (o .1) z)
                 ];
             reached-is = omega (arith, f .reached-is, sum-grown n (λ k. bit (done words waiting k)) (λ k. bit (done words′ waiting′ k)) c 1 real-c (rw (now-done, not-done)) (λ k m i. ap bit (as-before k m i)));
-            edges-is = omega (arith, f .edges-is,
+            edges-is = omega (
+              arith,
+              f .edges-is,
               sum-grown n (λ k. cond (done words waiting k) (degree k) 0) (λ k. cond (done words′ waiting′ k) (degree k) 0) c d real-c
-              (rw (now-done, not-done) (omega (arith, v .edges-is))) (λ k m i. ap (λ (t : Bool). cond t (degree k) 0) (as-before k m i)));
+                  (rw (now-done, not-done) (omega (arith, v .edges-is))) (λ k m i. ap (λ (t : Bool). cond t (degree k) 0) (as-before k m i)),
+            );
           }
         where
           small : {k : ℕ} → k < n → k < 512

@@ -7,10 +7,10 @@ use Rattle.bits.proofs.absorb.Statement.{statement}
 use Rattle.bits.proofs.absorb.Tie as tie
 
 abbrev Inv-loop : tie.InvT-loop
-Inv-loop named reached₀ waiting₀ w₀ reached waiting w = (w ≤ 8) × Changing reached₀ (Joined named reached₀ waiting₀) reached w × Changing waiting₀ (JoinedNew named reached₀ waiting₀) waiting w
+Inv-loop named reached₀ waiting₀ k₀ reached waiting k = (k ≤ 8) × Changing reached₀ (Joined named reached₀ waiting₀) reached k × Changing waiting₀ (JoinedNew named reached₀ waiting₀) waiting k
 
 abbrev μ-loop : tie.MeasureT-loop
-μ-loop named reached₀ waiting₀ w₀ reached waiting w = 8 - w
+μ-loop named reached₀ waiting₀ k₀ reached waiting k = 8 - k
 
 loop-holds : tie.Need-loop-holds Inv-loop μ-loop
 loop-holds c = (omega arith, changing-first (c .pre .1), changing-first (c .pre .2))
@@ -42,20 +42,20 @@ slice-read-waiting c = omega (arith, c .before .before .before .before .loop .in
 slice-write-waiting : tie.Need-slice-write-waiting Inv-loop μ-loop
 slice-write-waiting c = omega (arith, c .before .before .before .before .loop .inv .2 .size)
 
-add-w : tie.Need-add-w Inv-loop μ-loop
-add-w c = omega arith
+add-k : tie.Need-add-k Inv-loop μ-loop
+add-k c = omega arith
 
 loop-less : tie.Need-loop-less Inv-loop μ-loop
 loop-less c = omega arith
 
 loop-again : tie.Need-loop-again Inv-loop μ-loop
-loop-again c = 
+loop-again c =
     let h = c .before .before .before .before .loop in
     let z = c .before .before .before .before .before .args in
-    let e = h .inv .1 .ahead (h .w) (omega arith) in (
+    let e = h .inv .1 .ahead (h .k) (omega arith) in (
       omega arith,
-      changing-next (h .inv .1) (omega arith) (joined (z .named .now) (z .reached .now) (z .waiting .now) (h .w) e),
-      changing-next (h .inv .2) (omega arith) (joined-new (z .named .now) (z .reached .now) (z .waiting .now) (h .w) e (c .before .slice-known .given (h .w) .fits) (h .inv .2 .ahead (h .w) (omega arith))),
+      changing-next (h .inv .1) (omega arith) (joined (z .named .now) (z .reached .now) (z .waiting .now) (h .k) e),
+      changing-next (h .inv .2) (omega arith) (joined-new (z .named .now) (z .reached .now) (z .waiting .now) (h .k) e (c .before .slice-known .given (h .k) .fits) (h .inv .2 .ahead (h .k) (omega arith))),
     )
 
 same-length : tie.Need-same-length Inv-loop μ-loop
@@ -83,7 +83,7 @@ absorb-spec =
     mul-waiting
     slice-read-waiting
     slice-write-waiting
-    add-w
+    add-k
     loop-less
     loop-again
     same-length

@@ -48,7 +48,7 @@ marks-of-requires c κs = let z = c .before .before .before .before .before .bef
 
 returns : tie.Need-returns Inv-loop μ-loop
 unfolding pageOf
-returns c = 
+returns c =
     let z = c .before .before .before .before .before .before .before .before .before .before .before .before .before in
     closure-marks (pageOf (z .args .a .now)) (z .args .queries .now) (head-of (z .args .a .now) (z .pre .0) .few)
     (spreading-last (pageOf (z .args .a .now)) (z .args .queries .now) (sound-proper (z .args .a .now) (z .pre .0)) (z .pre .1) (c .before .before .before .before .before .before .before .loop .inv) (c .before .before .before .before .before .sweep .ensures) (c .before .before .before .if1 .taken)) (c .marks-of .ensures)

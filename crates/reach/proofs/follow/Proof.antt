@@ -34,7 +34,7 @@ lowest-in-requires c κs = c .before .loop .inv .waiting-size
 
 returns : tie.Need-returns Inv-loop μ-loop
 unfolding pageOf
-returns c = 
+returns c =
     let z = c .before .before .before .before .before .before .before .before .before in
     following-last (pageOf (z .args .a .now)) (z .args .queries .now) (sound-proper (z .args .a .now) (z .pre .0)) (z .pre .1) (c .before .before .before .loop .inv) (λ k l. c .before .lowest-in .ensures .below k (omega arith))
 
@@ -46,7 +46,7 @@ slice-aggregate-visit-2 c = sym (c .before .before .before .before .before .loop
 
 visit-requires : tie.Need-visit-requires Inv-loop μ-loop
 unfolding pageOf
-visit-requires c κs = 
+visit-requires c κs =
     let z = c .before .before .before .before .before .before .before .before .before .before .before in
     let h = c .before .before .before .before .before .loop .inv in
     let m = c .before .before .before .lowest-in in
@@ -54,7 +54,7 @@ visit-requires c κs =
 
 add-edges : tie.Need-add-edges Inv-loop μ-loop
 unfolding pageOf
-add-edges c = 
+add-edges c =
     let z = c .before .before .before .before .before .before .before .before .before .before .before .before .before .before in
     omega (arith, edges-few (pageOf (z .args .a .now)) (z .args .queries .now) (sound-proper (z .args .a .now) (z .pre .0)) (z .pre .1) (c .before .before .before .before .before .before .before .before .loop .inv), visit-few (pageOf (z .args .a .now)) (sound-proper (z .args .a .now) (z .pre .0) .conditions-most) (c .before .before .visit .ensures))
 
@@ -64,7 +64,7 @@ add-visited c = let z = c .before .before .before .before .before .before .befor
 
 loop-less : tie.Need-loop-less Inv-loop μ-loop
 unfolding pageOf
-loop-less c = 
+loop-less c =
     let z = c .before .before .before .before .before .before .before .before .before .before .before .before .before .before in
     let m = c .before .before .before .before .before .before .lowest-in in
     let f = following-next (pageOf (z .args .a .now)) (z .args .queries .now) (sound-proper (z .args .a .now) (z .pre .0)) (z .pre .1) (c .before .before .before .before .before .before .before .before .loop .inv) (omega arith) (m .ensures .found (omega arith)) (c .before .before .visit .ensures) in
@@ -72,7 +72,7 @@ loop-less c =
 
 loop-again : tie.Need-loop-again Inv-loop μ-loop
 unfolding pageOf
-loop-again c = 
+loop-again c =
     let z = c .before .before .before .before .before .before .before .before .before .before .before .before .before .before in
     let m = c .before .before .before .before .before .before .lowest-in in
     let f = following-next (pageOf (z .args .a .now)) (z .args .queries .now) (sound-proper (z .args .a .now) (z .pre .0)) (z .pre .1) (c .before .before .before .before .before .before .before .before .loop .inv) (omega arith) (m .ensures .found (omega arith)) (c .before .before .visit .ensures) in

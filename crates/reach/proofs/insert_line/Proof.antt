@@ -20,7 +20,7 @@ shared-slice-read-k : tie.Need-shared-slice-read-k
 shared-slice-read-k c = search needs
 
 insert-literals-requires : tie.Need-insert-literals-requires
-insert-literals-requires c κs = 
+insert-literals-requires c κs =
     let z = c .before .before .before .before .before .before in
     (rule-at (topOf (z .args .a .now)) (conditionsOf (z .args .a .now)) (usedOf (z .args .a .now) - z .args .at) (z .args .a .now) (z .args .at) (z .pre .0 .fits) (z .pre .0 .tests) (omega arith) (omega arith), z .pre .1, z .pre .2)
 
@@ -28,17 +28,17 @@ same-length : tie.Need-same-length
 same-length c = search needs
 
 returns : tie.Need-returns
-returns c = 
+returns c =
     let z = c .before .before .before .before .before .before .before .before .before .args in
     inserts-as (c .before .before .insert-literals .ensures) (λ x. sym (line-rule (z .a .now) (z .at) x (omega arith) (omega arith)))
 
 returns-2 : tie.Need-returns-2
-returns-2 c = 
+returns-2 c =
     let z = c .before .before .before .before in
     inserts-none _ (z .args .words .now) (z .pre .2) (λ x. line-fact (z .args .a .now) (z .args .at) x (omega arith))
 
 returns-3 : tie.Need-returns-3
-returns-3 c = 
+returns-3 c =
     let z = c .before .before .before .before .before in
     inserts-none _ (z .args .words .now) (z .pre .2) (λ x. line-over (z .args .a .now) (z .args .at) x (omega arith))
 

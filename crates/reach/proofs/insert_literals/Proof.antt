@@ -30,7 +30,7 @@ shared-slice-read-y : tie.Need-shared-slice-read-y Inv-loop μ-loop
 shared-slice-read-y c = search needs
 
 loop-holds : tie.Need-loop-holds Inv-loop μ-loop
-loop-holds c = 
+loop-holds c =
     let z = c .before .before .before in
     let y : getD (z .args .a .now) (z .args .at + 3) 0 - 0 ≡ getD (z .args .a .now) (z .args .at + 3) 0 = omega arith in
     let x : z .args .at + 4 + 0 ≡ z .args .at + 4 = omega arith in
@@ -52,13 +52,13 @@ shared-slice-read-insert-new : tie.Need-shared-slice-read-insert-new Inv-loop μ
 shared-slice-read-insert-new c = search needs
 
 insert-new-requires : tie.Need-insert-new-requires Inv-loop μ-loop
-insert-new-requires c κs = 
+insert-new-requires c κs =
     let z = c .before .before .before .before .before .before .before in
     let h = c .before .before .before .loop in
     (h .inv .1 .joining .size, omega (arith, z .pre .1, code-in (topOf (z .args .a .now)) (conditionsOf (z .args .a .now)) (z .args .a .now) (z .args .at) (z .pre .0) (h .j) (omega arith)))
 
 add-new : tie.Need-add-new Inv-loop μ-loop
-add-new c = 
+add-new c =
     let z = c .before .before .before .before .before .before .before .before .before .before in
     let h = c .before .before .before .before .before .before .loop in
     let one = inserts-one (h .words) (c .before .before .insert-new .last .0) (getD (z .args .a .now) (z .args .at + 4 + h .j) 0 / 2) (c .before .before .insert-new .ensures .0) (omega (arith, z .pre .1, code-in (topOf (z .args .a .now)) (conditionsOf (z .args .a .now)) (z .args .a .now) (z .args .at) (z .pre .0) (h .j) (omega arith))) (c .before .before .insert-new .ensures .1) in
@@ -71,7 +71,7 @@ loop-less : tie.Need-loop-less Inv-loop μ-loop
 loop-less c = search needs
 
 loop-again : tie.Need-loop-again Inv-loop μ-loop
-loop-again c = 
+loop-again c =
     let z = c .before .before .before .before .before .before .before .before .before .before in
     let h = c .before .before .before .before .before .before .loop in
     let one = inserts-one (h .words) (c .before .before .insert-new .last .0) (getD (z .args .a .now) (z .args .at + 4 + h .j) 0 / 2) (c .before .before .insert-new .ensures .0) (omega (arith, z .pre .1, code-in (topOf (z .args .a .now)) (conditionsOf (z .args .a .now)) (z .args .a .now) (z .args .at) (z .pre .0) (h .j) (omega arith))) (c .before .before .insert-new .ensures .1) in
@@ -84,7 +84,7 @@ same-length : tie.Need-same-length Inv-loop μ-loop
 same-length c = c .before .loop .inv .1 .joining .size ∙ sym (c .before .before .before .before .before .pre .2)
 
 returns : tie.Need-returns Inv-loop μ-loop
-returns c = 
+returns c =
     let z = c .before .before .before .before .before in
     let h = c .before .loop in
     inserting-last (h .inv .1) (λ b. mentions-none (z .args .a .now) (z .args .at + 4 + h .j) b (getD (z .args .a .now) (z .args .at + 3) 0 - h .j) (omega arith))

@@ -33,7 +33,7 @@ shared-slice-read-if1 : tie.Need-shared-slice-read-if1 Inv-loop μ-loop
 shared-slice-read-if1 c = let z = c .before .before .before .before .before .before .before in let h = c .before .before .loop .inv in let e = entry-here (z .args .a .now) (h .1 .scan) (omega (arith, h .0)) in omega arith
 
 insert-line-requires : tie.Need-insert-line-requires Inv-loop μ-loop
-insert-line-requires c κs = 
+insert-line-requires c κs =
     let z = c .before .before .before .before .before .before .before .before .before in
     let h = c .before .before .before .before .loop .inv in
     (scanned-entry (z .args .a .now) (h .1 .scan) (omega (arith, h .0)), head-of (z .args .a .now) (z .pre .0) .few, h .1 .inserting .joining .size)
@@ -51,15 +51,15 @@ loop-less : tie.Need-loop-less Inv-loop μ-loop
 loop-less c = omega arith
 
 loop-again : tie.Need-loop-again Inv-loop μ-loop
-loop-again c = 
+loop-again c =
     let z = c .before .before .before .before .before .before .before .before .before .args in
     let h = c .before .before .before .before .loop .inv in
     let n = c .next .ensures in (
       omega (arith, h .0, n .count),
       ⊎-elim
-      (λ w. rw (w .5, w .6) (gathering-next (z .a .now) (z .c) (z .words .now) (h .1) (omega (arith, h .0)) n (w .0 .taken) (w .2 .ensures)))
-      (λ w. rw (w .1, w .2) (gathering-skip (z .a .now) (z .c) (z .words .now) (h .1) (omega (arith, h .0)) n (w .0 .left)))
-      (c .before .if1 .came),
+          (λ w. rw (w .5, w .6) (gathering-next (z .a .now) (z .c) (z .words .now) (h .1) (omega (arith, h .0)) n (w .0 .taken) (w .2 .ensures)))
+          (λ w. rw (w .1, w .2) (gathering-skip (z .a .now) (z .c) (z .words .now) (h .1) (omega (arith, h .0)) n (w .0 .left)))
+          (c .before .if1 .came),
     )
 
 same-length : tie.Need-same-length Inv-loop μ-loop

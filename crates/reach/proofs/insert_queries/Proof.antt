@@ -26,7 +26,7 @@ shared-slice-read-insert : tie.Need-shared-slice-read-insert Inv-loop μ-loop
 shared-slice-read-insert c = omega arith
 
 insert-requires : tie.Need-insert-requires Inv-loop μ-loop
-insert-requires c κs = 
+insert-requires c κs =
     let z = c .before .before .before .before .before .before in
     let h = c .before .before .before .loop in
     (h .inv .1 .size, under-at 512 (z .args .queries .now) (z .pre .0) (h .i) (omega arith))
@@ -38,7 +38,7 @@ loop-less : tie.Need-loop-less Inv-loop μ-loop
 loop-less c = omega arith
 
 loop-again : tie.Need-loop-again Inv-loop μ-loop
-loop-again c = 
+loop-again c =
     let q = c .before .before .before .before .before .before .before .before .before .args .queries .now in
     let h = c .before .before .before .before .before .before .loop in
     (omega arith, joining-next (h .inv .1) (joins-one _ _ _ (c .before .before .insert .ensures)) (λ x. listed-on q (h .i) x (omega arith)))
@@ -47,7 +47,7 @@ same-length : tie.Need-same-length Inv-loop μ-loop
 same-length c = c .before .loop .inv .1 .size ∙ sym (c .before .before .before .before .pre .1)
 
 returns : tie.Need-returns Inv-loop μ-loop
-returns c = 
+returns c =
     let h = c .before .loop in
     joining-last (h .inv .1) (λ x. listed-none (c .before .before .before .before .args .queries .now) (h .i) x (omega arith))
 

@@ -35,7 +35,7 @@ loop-again : tie.Need-loop-again Inv-loop μ-loop
 loop-again c = let z = c .before .before .before .before in (omega arith, marks-next (z .args .words .now) (c .before .before .loop .inv .1) (omega (arith, z .pre .1)) (c .contains .ensures))
 
 returns : tie.Need-returns Inv-loop μ-loop
-returns c = 
+returns c =
     let z = c .before .before .before .args in
     let h = c .before .loop in
     let e : h .c ≡ z .n = omega arith in

@@ -33,7 +33,7 @@ write-run-requires c κs = let z = c .before .before .before .before .before .be
 
 bound-of-requires : tie.Need-bound-of-requires
 unfolding pageOf
-bound-of-requires c κs = 
+bound-of-requires c κs =
     let z = c .before .before .before .before .before .before .before .before .before .before .before .before .before .before in
     let h = head-of (z .args .page .now) (z .pre .0) in
     let f = followed-few (pageOf (z .args .page .now)) (z .args .queries .now) (h .few) (c .before .before .before .before .before .before .before .before .follow .ensures) in
@@ -44,7 +44,7 @@ same-length c = search needs
 
 returns : tie.Need-returns
 unfolding pageOf
-returns c = 
+returns c =
     let z = c .before .before .before .before .before .before .before .before .before .before .before .before .before .before .before in
     let a = z .args .page .now in
     let f = c .before .before .before .before .before .before .before .before .before .follow .ensures in (

@@ -35,13 +35,13 @@ shared-slice-read-contains : tie.Need-shared-slice-read-contains Inv-loop μ-loo
 shared-slice-read-contains c = let z = c .before .before .before .before .before .before .before .before in let h = c .before .before .before .loop .inv in let e = entry-here (z .args .a .now) (h .1 .scan) (omega (arith, h .0)) in omega arith
 
 contains-requires : tie.Need-contains-requires Inv-loop μ-loop
-contains-requires c κs = 
+contains-requires c κs =
     let z = c .before .before .before .before .before .before .before .before in
     let h = c .before .before .before .loop .inv in
     (h .1 .size, omega (arith, head-in (z .args .a .now) (z .args .set .now) (z .pre .0) (h .1) (omega (arith, h .0)), sound-proper (z .args .a .now) (z .pre .0) .conditions-most))
 
 insert-line-requires : tie.Need-insert-line-requires Inv-loop μ-loop
-insert-line-requires c κs = 
+insert-line-requires c κs =
     let z = c .before .before .before .before .before .before .before .before .before .before .before in
     let h = c .before .before .before .before .before .before .loop .inv in
     (scanned-entry (z .args .a .now) (h .1 .scan) (omega (arith, h .0)), head-of (z .args .a .now) (z .pre .0) .few, h .1 .size)
@@ -59,16 +59,16 @@ loop-less : tie.Need-loop-less Inv-loop μ-loop
 loop-less c = omega arith
 
 loop-again : tie.Need-loop-again Inv-loop μ-loop
-loop-again c = 
+loop-again c =
     let z = c .before .before .before .before .before .before .before .before .before .before .before in
     let h = c .before .before .before .before .before .before .loop .inv in
     let n = c .next .ensures in
     let t = sym (c .before .before .contains .ensures) in (
       omega (arith, h .0, n .count),
       ⊎-elim
-      (λ w. rw (w .5, w .6) (sweeping-next (z .args .a .now) (z .args .set .now) (z .pre .0) (h .1) (omega (arith, h .0)) n (t ∙ w .0 .taken) (w .2 .ensures)))
-      (λ w. rw (w .1, w .2) (sweeping-skip (z .args .a .now) (z .args .set .now) (z .pre .0) (h .1) (omega (arith, h .0)) n (t ∙ w .0 .left)))
-      (c .before .if1 .came),
+          (λ w. rw (w .5, w .6) (sweeping-next (z .args .a .now) (z .args .set .now) (z .pre .0) (h .1) (omega (arith, h .0)) n (t ∙ w .0 .taken) (w .2 .ensures)))
+          (λ w. rw (w .1, w .2) (sweeping-skip (z .args .a .now) (z .args .set .now) (z .pre .0) (h .1) (omega (arith, h .0)) n (t ∙ w .0 .left)))
+          (c .before .if1 .came),
     )
 
 same-length : tie.Need-same-length Inv-loop μ-loop

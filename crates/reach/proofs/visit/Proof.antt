@@ -29,7 +29,7 @@ same-length-2 : tie.Need-same-length-2
 same-length-2 c = search needs
 
 returns : tie.Need-returns
-returns c = 
+returns c =
     let z = c .before .before .before .before .before .before .before .before .before .before .before .before .before .before .before .before .before .before in
     visited (z .args .a .now) (z .pre .0) (z .args .c) (cleared-zeros 8) (c .before .before .before .before .before .before .before .before .before .before .before .before .before .insert-named .ensures) (z .args .waiting .now) (c .before .before .before .before .before .before .before .before .before .before .remove .last .0) (c .before .before .before .before .before .before .before .before .before .before .remove .ensures) (c .before .before .before .before .absorb .ensures)
 
