@@ -1,21 +1,19 @@
 -- Sets of conditions as bits: one bit set or cleared, a whole set put into others, the lowest of a set, and one of it. Assumes nothing.
-use mathlib.Core.Path.{_≡_, refl, sym, _∙_, ap, ap₂}
-use mathlib.Core.Logic.{_≢_, _⊎_, inl, inr, ⊎-elim}
-use mathlib.Core.Bool.{Bool, true, false, cond, not, _&&_, _||_, and-true, and-false, or-true, or-false, true≢false}
+use mathlib.Core.Path.{_≡_, refl, sym, _∙_, ap}
+use mathlib.Core.Logic.{_≢_}
+use mathlib.Core.Bool.{Bool, true, false, cond, not, _&&_, _||_}
 use mathlib.Core.List.{List}
 use Prim.Native.Nat.{ℕ, zero, suc, _+_, _-_, _*_, _/_, _%_, _^_, _≤_, _<_}
 use native.Mathlib.Decide.{ℕ-discrete}
 use native.Mathlib.Omega.{arith}
-use native.Mathlib.Nat.{lt-of-not-le}
 use lib.Bits.{bitAnd, bitOr}
 use lib.Count.{leadingZeros, trailingZeros}
-use lib.Dec.{eqb, ltb}
+use lib.Dec.{eqb}
 use lib.ListN.{length, getD, set, length-set}
-use lib.Pow.{shr-le}
 use lib.Seq.{getD-set-same, getD-set-other}
-use borrow.Author.Tests.{eq-eqb, ne-eqb, lt-ltb, le-ltb, ltb-true, ltb-false, eqb-true}
+use borrow.Author.Tests.{eq-eqb, ne-eqb}
 use Rattle.bits.specs.Words.{has, Inserted, Removed, Absorbed, LowestIn, AnyIn}
-use Rattle.bits.proofs.Bits.{bit, bit-lt, bit-or, bit-and, bit-not, bit-zero, bit-past, bit-down, set-same, set-other, clear-same, clear-other, trailing-found, trailing-below, trailing-in, highest-lt, highest-found, bit-masked, masked-fits}
+use Rattle.bits.proofs.Bits.{bit, bit-lt, bit-or, bit-and, bit-not, bit-zero, set-same, set-other, clear-same, clear-other, trailing-found, trailing-below, trailing-in, highest-lt, highest-found, bit-masked, masked-fits}
 
 or-as-cond : (b t : Bool) → cond t true b ≡ (b || t)
 or-as-cond true true = refl

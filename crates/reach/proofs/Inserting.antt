@@ -11,7 +11,7 @@ use lib.ListN.{length}
 use borrow.Author.Tests.{eq-eqb, ne-eqb}
 use Rattle.fixpoint.specs.Sum.{sum, bit, count}
 use Rattle.fixpoint.proofs.Sum.{sum-eq, sum-le, sum-const}
-use Rattle.bits.specs.Words.{has, Inserted, InsertedNew}
+use Rattle.bits.specs.Words.{has, Inserted}
 use Rattle.reach.specs.Sets.{Joins, Inserts}
 
 -- one entry grows by d, and the others stay

@@ -7,7 +7,7 @@ use Prim.Native.Nat.{ℕ, zero, suc, _+_, _≤_, _<_}
 use native.Mathlib.Decide.{decLe, ℕ-discrete}
 use native.Mathlib.Omega.{arith}
 use lib.Dec.{ltb}
-use lib.ListN.{length, set, length-set, replicate, List·getD-eq-default}
+use lib.ListN.{set, length-set, replicate, List·getD-eq-default}
 use lib.Seq.{getD-set-same, getD-set-other}
 use borrow.Author.Tests.{lt-ltb, le-ltb}
 use Rattle.semantics.specs.Page.{Page}
@@ -16,7 +16,7 @@ use Rattle.semantics.specs.Table.{member}
 use Rattle.semantics.proofs.Closure.{closure-length}
 use Rattle.bits.specs.Words.{has}
 use Rattle.reach.specs.Marks.{ClosureMarks}
-use Rattle.reach.specs.Sets.{Followed, MarksBelow}
+use Rattle.reach.specs.Sets.{MarksBelow}
 
 none-marked : (n c : ℕ) → member (replicate n false) c ≡ false
 none-marked zero c = refl

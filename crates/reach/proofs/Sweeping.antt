@@ -1,5 +1,5 @@
 -- A pass over the lines that puts what they name into the set that their heads are asked from. Assumes nothing.
-use mathlib.Core.Path.{_≡_, refl, sym, _∙_, ap, subst}
+use mathlib.Core.Path.{_≡_, refl, sym, _∙_, ap}
 use mathlib.Core.Logic.{_⊎_, inl, inr, ⊎-elim}
 use mathlib.Core.Bool.{Bool, true, false, _&&_, _||_, or-true, true≢false, false≢true}
 use mathlib.Core.List.{List}
@@ -11,7 +11,7 @@ use borrow.Author.Tests.{eqb-true, eq-eqb}
 use Rattle.fixpoint.specs.ChaoticIteration.{DependencyClosed}
 use Rattle.fixpoint.specs.Sum.{bit, count}
 use Rattle.fixpoint.proofs.Sum.{sum-tight}
-use Rattle.semantics.specs.Area.{sound, firstLine, pageOf, lineAt, topOf, conditionsOf, countOf, usedOf}
+use Rattle.semantics.specs.Area.{sound, firstLine, pageOf, lineAt, topOf, conditionsOf, countOf}
 use Rattle.semantics.specs.Page.{Line, names, linesName}
 use Rattle.semantics.proofs.Readings.{names-inside}
 use Rattle.semantics.proofs.Soundness.{both-true, sound-proper}

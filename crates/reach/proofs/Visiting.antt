@@ -73,7 +73,7 @@ module _ (a : List ℕ) (c : ℕ) (words₀ : List ℕ) where
 pub blank-none : (words : List ℕ) → Cleared words → (k : ℕ) → has words k ≡ false
 blank-none words e k = word-none words k (e (k / 64))
 
-pub not-so : (t : Bool) → (t ≡ true → ⊥) → t ≡ false
+not-so : (t : Bool) → (t ≡ true → ⊥) → t ≡ false
 not-so true h = absurd (h refl)
 not-so false h = refl
 

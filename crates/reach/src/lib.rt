@@ -2,7 +2,7 @@ ghost use mathlib.Core.Path.{_≡_};
 ghost use mathlib.Core.Bool.{true, _&&_};
 ghost use mathlib.Core.List.{map};
 ghost use Prim.Native.Nat.{_≤_, _+_, _-_, _<_, _*_};
-ghost use lib.Dec.{eqb, leb};
+ghost use lib.Dec.{leb};
 ghost use lib.ListN.{length, getD, take, drop};
 ghost use Rattle.semantics.specs.Area.{sound, lineAt, allUnder, literalOf, pageOf, topOf, conditionsOf, usedOf};
 ghost use Rattle.semantics.specs.Operation.{openOf};

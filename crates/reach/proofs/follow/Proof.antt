@@ -1,5 +1,5 @@
 -- `reach::follow` meets its contract: each visit makes one condition more that is done, and there are at most 512. Assumes nothing.
-use mathlib.Core.Path.{refl, sym, _∙_}
+use mathlib.Core.Path.{refl, sym}
 use Prim.Native.Nat.{_-_}
 use native.Mathlib.Omega.{arith}
 use Rattle.semantics.specs.Area.{pageOf, conditionsOf}
