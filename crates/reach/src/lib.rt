@@ -116,18 +116,16 @@ fn follow(a: &[u16], queries: &[u16]) -> Closure
     }
 }
 
-// The set as marks: "all 512 possible conditions begin as not reached".
-fn marks_of(words: &[u64], n: u16) -> [bool; 512]
-    requires { ⌜ (length (now words) ≡ 8) × (n ≤ 512) ⌝ }
-    ensures { λ r. ⌜ MarksBelow n (now (words .entry)) r ⌝ }
+// Marks the conditions of the set that are below n, where none is marked yet.
+fn mark_set(words: &[u64], n: u16, marks: &mut [bool])
+    requires { ⌜ (length (now words) ≡ 8) × (n ≤ 512) × MarksBelow 0 (now words) (now marks) ⌝ }
+    ensures { λ _. ⌜ MarksBelow n (now (words .entry)) (now (marks .exit)) ⌝ }
 {
-    let mut marks = [false; 512];
     let mut c: u16 = 0;
     while c < n {
         marks[c as usize] = bits::contains(words, c);
         c += 1;
     }
-    marks
 }
 
 // One pass over the lines: what a line of a condition of the set names is put into the set; answers how many are new.
@@ -158,7 +156,9 @@ pub fn closure_of(a: &[u16], queries: &[u16]) -> [bool; 512]
     insert_queries(queries, &mut set);
     loop {
         if sweep(a, &mut set) == 0 {
-            return marks_of(&set, a[1]);
+            let mut marks = [false; 512];
+            mark_set(&set, a[1], &mut marks);
+            return marks;
         }
     }
 }
@@ -227,7 +227,7 @@ pub enum OpenAnswer {
     },
 }
 
-// The work of an opening that no cause refuses.
+// The work of an opening that no cause refuses: "all 512 possible conditions begin as not reached", and the closure is then marked.
 fn open_accepted(page: &[u16], queries: &[u16], run: &mut [u16]) -> OpenAnswer
     requires { ⌜ (sound (now page) ≡ true) × (allUnder (conditionsOf (now page)) (now queries) ≡ true) × (3 * conditionsOf (now page) ≤ length (now run)) ⌝ }
     ensures answer { λ r. ⌜ openingOf r ≡ accepted (now (page .entry)) (now (queries .entry)) (now (run .entry)) .answer ⌝ }
@@ -239,7 +239,8 @@ fn open_accepted(page: &[u16], queries: &[u16], run: &mut [u16]) -> OpenAnswer
     let set = closure.set;
     let reached = closure.reached;
     let edges = closure.edges;
-    let marks = marks_of(&set, n);
+    let mut marks = [false; 512];
+    mark_set(&set, n, &mut marks);
     write_run(run, n, top, &marks);
     OpenAnswer::Opened {
         reached,

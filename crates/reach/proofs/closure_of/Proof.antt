@@ -10,7 +10,7 @@ use Rattle.index.proofs.Parts.{cleared-zeros}
 use Rattle.page.proofs.Head.{head-of}
 use Rattle.reach.proofs.Closing.{following-first, Spreading, spreading-first, spreading-next, spreading-last}
 use Rattle.reach.proofs.Inserting.{size-most}
-use Rattle.reach.proofs.Marking.{closure-marks}
+use Rattle.reach.proofs.Marking.{marks-first, closure-marks}
 use Rattle.reach.proofs.Naming.{queries-few}
 use Rattle.reach.proofs.closure_of.Statement.{statement}
 use Rattle.reach.proofs.closure_of.Tie as tie
@@ -37,21 +37,24 @@ slice-aggregate-sweep c = sym (c .before .loop .inv .size)
 sweep-requires : tie.Need-sweep-requires Inv-loop μ-loop
 sweep-requires c κs = (c .before .before .before .before .before .before .before .pre .0, c .before .loop .inv .size)
 
-slice-aggregate-marks-of : tie.Need-slice-aggregate-marks-of Inv-loop μ-loop
-slice-aggregate-marks-of c = sym (c .before .before .before .sweep .ensures .size)
+slice-aggregate-mark-set : tie.Need-slice-aggregate-mark-set Inv-loop μ-loop
+slice-aggregate-mark-set c = sym (c .before .before .before .sweep .ensures .size)
 
-shared-slice-read-marks-of : tie.Need-shared-slice-read-marks-of Inv-loop μ-loop
-shared-slice-read-marks-of c = let z = c .before .before .before .before .before .before .before .before .before .before .before .before in omega (arith, head-of (z .args .a .now) (z .pre .0))
+shared-slice-read-mark-set : tie.Need-shared-slice-read-mark-set Inv-loop μ-loop
+shared-slice-read-mark-set c = let z = c .before .before .before .before .before .before .before .before .before .before .before .before in omega (arith, head-of (z .args .a .now) (z .pre .0))
 
-marks-of-requires : tie.Need-marks-of-requires Inv-loop μ-loop
-marks-of-requires c κs = let z = c .before .before .before .before .before .before .before .before .before .before .before .before in (c .before .before .before .before .sweep .ensures .size, head-of (z .args .a .now) (z .pre .0) .few)
+slice-aggregate-mark-set-2 : tie.Need-slice-aggregate-mark-set-2 Inv-loop μ-loop
+slice-aggregate-mark-set-2 c = refl
+
+mark-set-requires : tie.Need-mark-set-requires Inv-loop μ-loop
+mark-set-requires c κs = let z = c .before .before .before .before .before .before .before .before .before .before .before .before .before in (c .before .before .before .before .before .sweep .ensures .size, head-of (z .args .a .now) (z .pre .0) .few, marks-first _)
 
 returns : tie.Need-returns Inv-loop μ-loop
 unfolding pageOf
 returns c =
-    let z = c .before .before .before .before .before .before .before .before .before .before .before .before .before in
+    let z = c .before .before .before .before .before .before .before .before .before .before .before .before .before .before .before in
     closure-marks (pageOf (z .args .a .now)) (z .args .queries .now) (head-of (z .args .a .now) (z .pre .0) .few)
-    (spreading-last (pageOf (z .args .a .now)) (z .args .queries .now) (sound-proper (z .args .a .now) (z .pre .0)) (z .pre .1) (c .before .before .before .before .before .before .before .loop .inv) (c .before .before .before .before .before .sweep .ensures) (c .before .before .before .if1 .taken)) (c .marks-of .ensures)
+    (spreading-last (pageOf (z .args .a .now)) (z .args .queries .now) (sound-proper (z .args .a .now) (z .pre .0)) (z .pre .1) (c .before .before .before .before .before .before .before .before .before .loop .inv) (c .before .before .before .before .before .before .before .sweep .ensures) (c .before .before .before .before .before .if1 .taken)) (c .before .mark-set .ensures)
 
 loop-less : tie.Need-loop-less Inv-loop μ-loop
 loop-less c = omega (arith, c .before .before .sweep .ensures .counted, size-most 512 (has (c .before .before .sweep .last .1 .0)))
@@ -71,9 +74,10 @@ closure-of-spec =
     loop-holds
     slice-aggregate-sweep
     sweep-requires
-    slice-aggregate-marks-of
-    shared-slice-read-marks-of
-    marks-of-requires
+    slice-aggregate-mark-set
+    shared-slice-read-mark-set
+    slice-aggregate-mark-set-2
+    mark-set-requires
     returns
     loop-less
     loop-again)

@@ -5,7 +5,7 @@ use Rattle.semantics.specs.Area.{pageOf}
 use Rattle.page.proofs.Head.{head-of}
 use Rattle.page.proofs.Scan.{sound-head}
 use Rattle.reach.proofs.Closing.{followed-few}
-use Rattle.reach.proofs.Marking.{closure-marks}
+use Rattle.reach.proofs.Marking.{marks-first, closure-marks}
 use Rattle.reach.proofs.Writing.{accepted-answer, accepted-run}
 use Rattle.reach.proofs.open_accepted.Statement.{statement}
 use Rattle.reach.proofs.open_accepted.Tie as tie
@@ -19,24 +19,27 @@ shared-slice-read-n c = let z = c .before .before .before .before .before in ome
 follow-requires : tie.Need-follow-requires
 follow-requires c κs = search needs
 
-slice-aggregate-marks-of : tie.Need-slice-aggregate-marks-of
-slice-aggregate-marks-of c = search needs
+slice-aggregate-mark-set : tie.Need-slice-aggregate-mark-set
+slice-aggregate-mark-set c = search needs
 
-marks-of-requires : tie.Need-marks-of-requires
-marks-of-requires c κs = let z = c .before .before .before .before .before .before .before .before in (c .before .before .follow .ensures .size, head-of (z .args .page .now) (z .pre .0) .few)
+slice-aggregate-mark-set-2 : tie.Need-slice-aggregate-mark-set-2
+slice-aggregate-mark-set-2 c = search needs
+
+mark-set-requires : tie.Need-mark-set-requires
+mark-set-requires c κs = let z = c .before .before .before .before .before .before .before .before .before in (c .before .before .before .follow .ensures .size, head-of (z .args .page .now) (z .pre .0) .few, marks-first _)
 
 slice-aggregate-write-run : tie.Need-slice-aggregate-write-run
 slice-aggregate-write-run c = search needs
 
 write-run-requires : tie.Need-write-run-requires
-write-run-requires c κs = let z = c .before .before .before .before .before .before .before .before .before .before .before in (z .pre .2, omega (arith, head-of (z .args .page .now) (z .pre .0) .few, c .before .before .marks-of .ensures .size))
+write-run-requires c κs = let z = c .before .before .before .before .before .before .before .before .before .before .before .before .before in (z .pre .2, omega (arith, head-of (z .args .page .now) (z .pre .0) .few, c .before .before .before .mark-set .ensures .size))
 
 bound-of-requires : tie.Need-bound-of-requires
 unfolding pageOf
 bound-of-requires c κs =
-    let z = c .before .before .before .before .before .before .before .before .before .before .before .before .before .before in
+    let z = c .before .before .before .before .before .before .before .before .before .before .before .before .before .before .before .before in
     let h = head-of (z .args .page .now) (z .pre .0) in
-    let f = followed-few (pageOf (z .args .page .now)) (z .args .queries .now) (h .few) (c .before .before .before .before .before .before .before .before .follow .ensures) in
+    let f = followed-few (pageOf (z .args .page .now)) (z .args .queries .now) (h .few) (c .before .before .before .before .before .before .before .before .before .before .follow .ensures) in
     (f .0, h .top-most, f .1)
 
 same-length : tie.Need-same-length
@@ -45,11 +48,11 @@ same-length c = search needs
 returns : tie.Need-returns
 unfolding pageOf
 returns c =
-    let z = c .before .before .before .before .before .before .before .before .before .before .before .before .before .before .before in
+    let z = c .before .before .before .before .before .before .before .before .before .before .before .before .before .before .before .before .before in
     let a = z .args .page .now in
-    let f = c .before .before .before .before .before .before .before .before .before .follow .ensures in (
+    let f = c .before .before .before .before .before .before .before .before .before .before .before .follow .ensures in (
       accepted-answer a (z .args .queries .now) (z .args .run .now) f (c .bound-of .ensures),
-      accepted-run a (z .args .queries .now) (z .args .run .now) (closure-marks (pageOf a) (z .args .queries .now) (head-of a (z .pre .0) .few) (f .same) (c .before .before .before .before .before .before .marks-of .ensures)) (z .pre .2) (c .before .before .before .write-run .ensures),
+      accepted-run a (z .args .queries .now) (z .args .run .now) (closure-marks (pageOf a) (z .args .queries .now) (head-of a (z .pre .0) .few) (f .same) (c .before .before .before .before .before .before .before .mark-set .ensures)) (z .pre .2) (c .before .before .before .write-run .ensures),
     )
 
 pub open-accepted-spec : {M : Type 1} → statement M
@@ -59,8 +62,9 @@ open-accepted-spec =
     shared-slice-read-top
     shared-slice-read-n
     follow-requires
-    slice-aggregate-marks-of
-    marks-of-requires
+    slice-aggregate-mark-set
+    slice-aggregate-mark-set-2
+    mark-set-requires
     slice-aggregate-write-run
     write-run-requires
     bound-of-requires
