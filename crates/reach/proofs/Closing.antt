@@ -23,7 +23,7 @@ use Rattle.semantics.proofs.Soundness.{both-true}
 use Rattle.semantics.proofs.Table.{or-cases}
 use Rattle.bits.specs.Words.{has}
 use Rattle.index.specs.Groups.{Cleared}
-use Rattle.reach.specs.Sets.{Joins, Visited, Followed, Swept}
+use Rattle.reach.specs.Sets.{Joins, Visited, ClosureSet, Followed, Swept}
 use Rattle.reach.proofs.Inserting.{sum-grown, size-most}
 use Rattle.reach.proofs.Naming.{iff-eq}
 use Rattle.reach.proofs.Visiting.{blank-none}
@@ -233,8 +233,7 @@ module _ (page : Page) (qs : List ℕ) where
         unfolding countR countE
         following-last =
             record {
-              size = f .reached-size;
-              same = same;
+              set = record { size = f .reached-size; same = same };
               reached-is = f .reached-is ∙ sum-eq n _ _ (λ c l. ap bit (all-done c l));
               edges-is = f .edges-is ∙ sum-eq n _ _ (λ c l. ap (λ (t : Bool). cond t (degree c) 0) (all-done c l) ∙ row c l (member (closure page qs) c) refl);
             }
@@ -258,8 +257,8 @@ module _ (page : Page) (qs : List ℕ) where
           in-closure = s .inside (reached page qs) (reached-closed page qs) (p .in-closure);
         }
 
-    pub spreading-last : new ≡ 0 → (c : ℕ) → c < 512 → has words′ c ≡ member (closure page qs) c
-    spreading-last e = closed-same page qs w asked words′ (spreading-next .has-asked) (spreading-next .in-closure) (s .settled e)
+    pub spreading-last : new ≡ 0 → ClosureSet page qs words′
+    spreading-last e = record { size = s .size; same = closed-same page qs w asked words′ (spreading-next .has-asked) (spreading-next .in-closure) (s .settled e) }
 
 -- a visit finds at most 512 conditions named
 pub visit-few : (page : Page) → page .conditions ≤ 512 → {c d : ℕ} {words waiting words′ waiting′ : List ℕ} → Visited page c words waiting words′ waiting′ d → d ≤ 512

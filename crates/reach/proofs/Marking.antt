@@ -16,7 +16,7 @@ use Rattle.semantics.specs.Table.{member}
 use Rattle.semantics.proofs.Closure.{closure-length}
 use Rattle.bits.specs.Words.{has}
 use Rattle.reach.specs.Marks.{ClosureMarks}
-use Rattle.reach.specs.Sets.{MarksBelow}
+use Rattle.reach.specs.Sets.{ClosureSet, MarksBelow}
 
 none-marked : (n c : ℕ) → member (replicate n false) c ≡ false
 none-marked zero c = refl
@@ -45,7 +45,7 @@ module _ (words : List ℕ) where
           ]
 
 -- the marks of the set that is the closure are those of the closure
-pub closure-marks : (page : Page) (qs : List ℕ) {words : List ℕ} {marks : List Bool} → page .conditions ≤ 512 → ((c : ℕ) → c < 512 → has words c ≡ member (closure page qs) c) → MarksBelow (page .conditions) words marks
+pub closure-marks : (page : Page) (qs : List ℕ) {words : List ℕ} {marks : List Bool} → page .conditions ≤ 512 → ClosureSet page qs words → MarksBelow (page .conditions) words marks
     → ClosureMarks page qs marks
 closure-marks page qs {words} {marks} l h m = record { size = m .size; same = same }
   where
@@ -53,5 +53,5 @@ closure-marks page qs {words} {marks} l h m = record { size = m .size; same = sa
     same c =
         elim (decLe (page .conditions) c) [
           | yes k ↦ m .is c ∙ ap (λ (t : Bool). t && has words c) (le-ltb c (page .conditions) k) ∙ sym (List·getD-eq-default (closure page qs) false (omega (arith, closure-length page qs)))
-          | no k ↦ m .is c ∙ ap (λ (t : Bool). t && has words c) (lt-ltb c (page .conditions) (omega arith)) ∙ h c (omega arith)
+          | no k ↦ m .is c ∙ ap (λ (t : Bool). t && has words c) (lt-ltb c (page .conditions) (omega arith)) ∙ h .same c (omega arith)
         ]

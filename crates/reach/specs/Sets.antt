@@ -30,10 +30,14 @@ pub record Visited (page : Page) (c : ℕ) (reached waiting reached′ waiting�
   pub waiting-is : (k : ℕ) → k < 512 → has waiting′ k ≡ ((has waiting k && not (eqb k c)) || (names page c k && not (has reached k)))
   pub edges-is : edges ≡ count (page .conditions) (names page c)
 
--- the set is the closure of the queries, with R and E
-pub record Followed (page : Page) (qs : List ℕ) (words : List ℕ) (reached edges : ℕ) : Type 0 where
+-- the set is the closure of the queries
+pub record ClosureSet (page : Page) (qs words : List ℕ) : Type 0 where
   pub size : length words ≡ 8
   pub same : (c : ℕ) → c < 512 → has words c ≡ member (closure page qs) c
+
+-- the same, with R and E
+pub record Followed (page : Page) (qs words : List ℕ) (reached edges : ℕ) : Type 0 where
+  pub set : ClosureSet page qs words
   pub reached-is : reached ≡ countR page (closure page qs)
   pub edges-is : edges ≡ countE page (closure page qs)
 

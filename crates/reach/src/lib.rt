@@ -13,7 +13,7 @@ ghost use Rattle.page.specs.Graded.{RuleAt, EntryAt};
 ghost use Rattle.page.specs.Lines.{lineNames};
 ghost use Rattle.reach.specs.Opening.{openingOf, accepted, Written};
 ghost use Rattle.reach.specs.Marks.{ClosureMarks};
-ghost use Rattle.reach.specs.Sets.{Joins, Inserts, Visited, Followed, Swept, MarksBelow};
+ghost use Rattle.reach.specs.Sets.{Joins, Inserts, Visited, ClosureSet, Followed, Swept, MarksBelow};
 
 // Puts the queries into the set.
 fn insert_queries(queries: &[u16], words: &mut [u64])
@@ -147,20 +147,29 @@ fn sweep(a: &[u16], set: &mut [u64]) -> u32
     new
 }
 
-// The marks of the closure of the queries, by passes until one adds nothing: fewer scans than visits, where E is not asked for.
-pub fn closure_of(a: &[u16], queries: &[u16]) -> [bool; 512]
+// The closure of the queries, by passes until one adds nothing: fewer scans than visits, where E is not asked for.
+fn spread(a: &[u16], queries: &[u16]) -> [u64; 8]
     requires { ⌜ (sound (now a) ≡ true) × (allUnder (conditionsOf (now a)) (now queries) ≡ true) ⌝ }
-    ensures { λ r. ⌜ ClosureMarks (pageOf (now (a .entry))) (now (queries .entry)) r ⌝ }
+    ensures { λ r. ⌜ ClosureSet (pageOf (now (a .entry))) (now (queries .entry)) r ⌝ }
 {
     let mut set = [0u64; 8];
     insert_queries(queries, &mut set);
     loop {
         if sweep(a, &mut set) == 0 {
-            let mut marks = [false; 512];
-            mark_set(&set, a[1], &mut marks);
-            return marks;
+            return set;
         }
     }
+}
+
+// The marks of the closure of the queries.
+pub fn closure_of(a: &[u16], queries: &[u16]) -> [bool; 512]
+    requires { ⌜ (sound (now a) ≡ true) × (allUnder (conditionsOf (now a)) (now queries) ≡ true) ⌝ }
+    ensures { λ r. ⌜ ClosureMarks (pageOf (now (a .entry))) (now (queries .entry)) r ⌝ }
+{
+    let mut marks = [false; 512];
+    let set = spread(a, queries);
+    mark_set(&set, a[1], &mut marks);
+    marks
 }
 
 // R + top × E.

@@ -1,83 +1,40 @@
--- `reach::closure_of` meets its contract: each pass but the last adds a condition, and there are 512. Assumes nothing.
-use mathlib.Core.Path.{refl, sym}
-use Prim.Native.Nat.{_-_}
+-- `reach::closure_of` meets its contract. Assumes nothing.
 use native.Mathlib.Omega.{arith}
-use Rattle.fixpoint.specs.Sum.{count}
+use borrow.Author.Needs.{needs}
 use Rattle.semantics.specs.Area.{pageOf}
-use Rattle.semantics.proofs.Soundness.{sound-proper}
-use Rattle.bits.specs.Words.{has}
-use Rattle.index.proofs.Parts.{cleared-zeros}
 use Rattle.page.proofs.Head.{head-of}
-use Rattle.reach.proofs.Closing.{following-first, Spreading, spreading-first, spreading-next, spreading-last}
-use Rattle.reach.proofs.Inserting.{size-most}
 use Rattle.reach.proofs.Marking.{marks-first, closure-marks}
-use Rattle.reach.proofs.Naming.{queries-few}
 use Rattle.reach.proofs.closure_of.Statement.{statement}
 use Rattle.reach.proofs.closure_of.Tie as tie
 
-abbrev Inv-loop : tie.InvT-loop
-Inv-loop a queries set₀ set = Spreading (pageOf a) queries set
+spread-requires : tie.Need-spread-requires
+spread-requires c κs = search needs
 
-abbrev μ-loop : tie.MeasureT-loop
-μ-loop a queries set₀ set = 512 - count 512 (has set)
+slice-aggregate-mark-set : tie.Need-slice-aggregate-mark-set
+slice-aggregate-mark-set c = search needs
 
-slice-aggregate-insert-queries : tie.Need-slice-aggregate-insert-queries Inv-loop μ-loop
-slice-aggregate-insert-queries c = refl
+shared-slice-read-mark-set : tie.Need-shared-slice-read-mark-set
+shared-slice-read-mark-set c = let z = c .before .before .before .before .before in omega (arith, head-of (z .args .a .now) (z .pre .0))
 
-insert-queries-requires : tie.Need-insert-queries-requires Inv-loop μ-loop
-insert-queries-requires c κs = let z = c .before .before .before in (queries-few (z .args .a .now) (z .pre .0) (z .args .queries .now) (z .pre .1), refl)
+slice-aggregate-mark-set-2 : tie.Need-slice-aggregate-mark-set-2
+slice-aggregate-mark-set-2 c = search needs
 
-loop-holds : tie.Need-loop-holds Inv-loop μ-loop
-unfolding pageOf
-loop-holds c = let z = c .before .before .before .before .before in spreading-first (pageOf (z .args .a .now)) (z .args .queries .now) (following-first (pageOf (z .args .a .now)) (z .args .queries .now) (sound-proper (z .args .a .now) (z .pre .0)) (z .pre .1) (cleared-zeros 8) (c .before .insert-queries .ensures))
+mark-set-requires : tie.Need-mark-set-requires
+mark-set-requires c κs = let z = c .before .before .before .before .before .before in (c .before .before .before .spread .ensures .size, head-of (z .args .a .now) (z .pre .0) .few, marks-first _)
 
-slice-aggregate-sweep : tie.Need-slice-aggregate-sweep Inv-loop μ-loop
-slice-aggregate-sweep c = sym (c .before .loop .inv .size)
-
-sweep-requires : tie.Need-sweep-requires Inv-loop μ-loop
-sweep-requires c κs = (c .before .before .before .before .before .before .before .pre .0, c .before .loop .inv .size)
-
-slice-aggregate-mark-set : tie.Need-slice-aggregate-mark-set Inv-loop μ-loop
-slice-aggregate-mark-set c = sym (c .before .before .before .sweep .ensures .size)
-
-shared-slice-read-mark-set : tie.Need-shared-slice-read-mark-set Inv-loop μ-loop
-shared-slice-read-mark-set c = let z = c .before .before .before .before .before .before .before .before .before .before .before .before in omega (arith, head-of (z .args .a .now) (z .pre .0))
-
-slice-aggregate-mark-set-2 : tie.Need-slice-aggregate-mark-set-2 Inv-loop μ-loop
-slice-aggregate-mark-set-2 c = refl
-
-mark-set-requires : tie.Need-mark-set-requires Inv-loop μ-loop
-mark-set-requires c κs = let z = c .before .before .before .before .before .before .before .before .before .before .before .before .before in (c .before .before .before .before .before .sweep .ensures .size, head-of (z .args .a .now) (z .pre .0) .few, marks-first _)
-
-returns : tie.Need-returns Inv-loop μ-loop
+returns : tie.Need-returns
 unfolding pageOf
 returns c =
-    let z = c .before .before .before .before .before .before .before .before .before .before .before .before .before .before .before in
-    closure-marks (pageOf (z .args .a .now)) (z .args .queries .now) (head-of (z .args .a .now) (z .pre .0) .few)
-    (spreading-last (pageOf (z .args .a .now)) (z .args .queries .now) (sound-proper (z .args .a .now) (z .pre .0)) (z .pre .1) (c .before .before .before .before .before .before .before .before .before .loop .inv) (c .before .before .before .before .before .before .before .sweep .ensures) (c .before .before .before .before .before .if1 .taken)) (c .before .mark-set .ensures)
-
-loop-less : tie.Need-loop-less Inv-loop μ-loop
-loop-less c = omega (arith, c .before .before .sweep .ensures .counted, size-most 512 (has (c .before .before .sweep .last .1 .0)))
-
-loop-again : tie.Need-loop-again Inv-loop μ-loop
-unfolding pageOf
-loop-again c = let z = c .before .before .before .before .before .before .before .before .before .before in spreading-next (pageOf (z .args .a .now)) (z .args .queries .now) (sound-proper (z .args .a .now) (z .pre .0)) (z .pre .1) (c .before .before .before .before .loop .inv) (c .before .before .sweep .ensures)
+    let z = c .before .before .before .before .before .before .before .before in
+    closure-marks (pageOf (z .args .a .now)) (z .args .queries .now) (head-of (z .args .a .now) (z .pre .0) .few) (c .before .before .before .before .before .spread .ensures) (c .before .mark-set .ensures)
 
 pub closure-of-spec : {M : Type 1} → statement M
 closure-of-spec =
     tie.close
     (tie.spec
-    Inv-loop
-    μ-loop
-    slice-aggregate-insert-queries
-    insert-queries-requires
-    loop-holds
-    slice-aggregate-sweep
-    sweep-requires
+    spread-requires
     slice-aggregate-mark-set
     shared-slice-read-mark-set
     slice-aggregate-mark-set-2
     mark-set-requires
-    returns
-    loop-less
-    loop-again)
+    returns)

@@ -26,7 +26,7 @@ slice-aggregate-mark-set-2 : tie.Need-slice-aggregate-mark-set-2
 slice-aggregate-mark-set-2 c = search needs
 
 mark-set-requires : tie.Need-mark-set-requires
-mark-set-requires c κs = let z = c .before .before .before .before .before .before .before .before .before in (c .before .before .before .follow .ensures .size, head-of (z .args .page .now) (z .pre .0) .few, marks-first _)
+mark-set-requires c κs = let z = c .before .before .before .before .before .before .before .before .before in (c .before .before .before .follow .ensures .set .size, head-of (z .args .page .now) (z .pre .0) .few, marks-first _)
 
 slice-aggregate-write-run : tie.Need-slice-aggregate-write-run
 slice-aggregate-write-run c = search needs
@@ -52,7 +52,7 @@ returns c =
     let a = z .args .page .now in
     let f = c .before .before .before .before .before .before .before .before .before .before .before .follow .ensures in (
       accepted-answer a (z .args .queries .now) (z .args .run .now) f (c .bound-of .ensures),
-      accepted-run a (z .args .queries .now) (z .args .run .now) (closure-marks (pageOf a) (z .args .queries .now) (head-of a (z .pre .0) .few) (f .same) (c .before .before .before .before .before .before .before .mark-set .ensures)) (z .pre .2) (c .before .before .before .write-run .ensures),
+      accepted-run a (z .args .queries .now) (z .args .run .now) (closure-marks (pageOf a) (z .args .queries .now) (head-of a (z .pre .0) .few) (f .set) (c .before .before .before .before .before .before .before .mark-set .ensures)) (z .pre .2) (c .before .before .before .write-run .ensures),
     )
 
 pub open-accepted-spec : {M : Type 1} → statement M
