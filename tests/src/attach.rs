@@ -1,21 +1,19 @@
 //! Tests of the program `attach`: a page on its standard input, its answer on its standard output.
 //! Section "The program `attach`".
 
-use std::io::Write;
 use std::path::PathBuf;
-use std::process::{Command, Stdio};
+use std::process::Command;
 use std::sync::OnceLock;
-use std::thread;
-use std::time::Duration;
 
 use crate::closed;
 use crate::gen::{self, Size};
 use crate::input::shown_text;
 use crate::page::{self, Line, Page, LINES_MAX};
 use crate::plain;
+use crate::programs;
 use crate::runner::Case;
 use crate::spoil;
-use crate::trial::{Check, Trial};
+use crate::trial::{figure, Check, Trial};
 
 /// The program under test.
 pub static PROGRAM: OnceLock<PathBuf> = OnceLock::new();
@@ -41,36 +39,26 @@ pub fn expected(text: &[u8]) -> String {
     out
 }
 
-/// Runs the program on these bytes, handed over in pieces of this length; its output.
-fn run(text: &[u8], piece: usize) -> Check<Vec<u8>> {
+/// Runs the program on these bytes, handed over in pieces of this length; its output. It must end with status 0 and leave
+/// standard error empty.
+pub fn run(text: &[u8], piece: usize) -> Check<Vec<u8>> {
     let program = PROGRAM.get().ok_or("no program is named")?;
-    let mut child = Command::new(program)
-        .stdin(Stdio::piped())
-        .stdout(Stdio::piped())
-        .stderr(Stdio::null())
-        .spawn()
-        .map_err(|error| format!("the program does not start: {error}"))?;
-    let mut input = child.stdin.take().ok_or("no standard input")?;
-    let bytes = text.to_vec();
-    // The program may stop reading early; a broken pipe is no fault.
-    let writer = thread::spawn(move || {
-        for part in bytes.chunks(piece) {
-            if input.write_all(part).is_err() {
-                break;
-            }
-            if piece < bytes.len() {
-                thread::sleep(Duration::from_millis(2));
-            }
-        }
-    });
-    let output = child
-        .wait_with_output()
-        .map_err(|error| format!("the program does not end: {error}"))?;
-    let _ = writer.join();
-    match output.status.code() {
-        Some(_) => Ok(output.stdout),
-        None => Err(format!("the program is killed; page {}", shown_text(text))),
+    let ended = programs::run(&mut Command::new(program), text, piece)?;
+    if ended.status != Some(0) {
+        return Err(format!(
+            "the program ends with status {:?}; page {}",
+            ended.status,
+            shown_text(text)
+        ));
     }
+    if !ended.err.is_empty() {
+        return Err(format!(
+            "the program writes {} to standard error; page {}",
+            shown_text(&ended.err),
+            shown_text(text)
+        ));
+    }
+    Ok(ended.out)
 }
 
 fn compare(trial: &mut Trial, text: &[u8]) -> Check {
@@ -104,6 +92,7 @@ pub fn cases() -> Vec<Case> {
     };
     vec![
         case("attach_prints_the_example", 1, example),
+        case("attach_answers_every_example_page", 1, example_pages),
         case("attach_agrees_on_good_pages", 500, good_pages),
         case("attach_agrees_on_structured_pages", 150, structured_pages),
         case("attach_agrees_on_spoilt_pages", 500, spoilt_pages),
@@ -128,6 +117,45 @@ fn example(trial: &mut Trial, _: u64) -> Check {
     compare(trial, b"G,1,1\n")?;
     compare(trial, b"")
 }
+
+/// Every page in examples/, whose output is also stated in full, so that neither solver decides alone.
+fn example_pages(trial: &mut Trial, _: u64) -> Check {
+    let mut found = Vec::new();
+    let folder = programs::root().join("examples");
+    for entry in std::fs::read_dir(&folder).map_err(|error| format!("examples: {error}"))? {
+        let path = entry.map_err(|error| format!("examples: {error}"))?.path();
+        if path
+            .extension()
+            .is_some_and(|extension| extension == "page")
+        {
+            let text = std::fs::read(&path).map_err(|error| format!("{path:?}: {error}"))?;
+            compare(trial, &text)?;
+            let name = path.file_stem().unwrap_or_default().to_string_lossy();
+            found.push((name.into_owned(), expected(&text)));
+        }
+    }
+    found.sort();
+    let stated = STATED.map(|(name, output)| (name.to_string(), output.to_string()));
+    figure("the outputs of the example pages", found, stated.to_vec())
+}
+
+/// The example pages and what `attach` prints for each.
+const STATED: [(&str, &str); 5] = [
+    (
+        "attach-cup",
+        "top,100\nK,0,0,90\nK,1,90,100\nK,4,0,95\nK,5,0,100\nW,0,70,90\nW,4,95,95\nW,5,0,0\nend,7\n",
+    ),
+    (
+        "divert-milk",
+        "top,200\nK,0,108,190\nK,5,120,190\nK,6,108,190\nK,8,10,92\nW,8,10,92\nend,5\n",
+    ),
+    (
+        "kick-sensor",
+        "top,100\nK,0,70,90\nK,1,90,100\nK,4,90,95\nW,0,70,90\nend,4\n",
+    ),
+    ("short-check", "top,100\nK,0,75,100\nK,1,90,100\nend,2\n"),
+    ("two-sensors", "top,10\nK,0,2,7\nW,1,3,8\nend,2\n"),
+];
 
 fn good_pages(trial: &mut Trial, _: u64) -> Check {
     let mut page = gen::any_page(&mut trial.rng);

@@ -8,6 +8,7 @@
 //!   `quick` for a tenth of the items.
 //! - `cargo run --release -- stack` measures the stack of each function and prints it beside the header's figure.
 //! - `cargo run --release -- attach PATH` tests the program `attach` at that path.
+//! - `cargo run --release -- documents` builds and runs the C examples and the C test (gcc).
 //! - With `--features selfcheck` the reference solver stands in for the library; `mutants` then plants one
 //!   fault after another and tells which cases notice.
 
@@ -20,12 +21,14 @@ pub mod cases;
 pub mod closed;
 pub mod engine;
 pub mod enumerate;
+pub mod examples;
 pub mod ffi;
 pub mod gen;
 pub mod guard;
 pub mod input;
 pub mod page;
 pub mod plain;
+pub mod programs;
 pub mod reach;
 pub mod rng;
 pub mod runner;

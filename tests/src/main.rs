@@ -3,9 +3,9 @@
 use std::path::PathBuf;
 use std::process::exit;
 
-use outside::{attach, cases, runner};
+use outside::{attach, cases, examples, runner};
 
-const USAGE: &str = "arguments: none | quick | only TEXT | stack | attach PATH";
+const USAGE: &str = "arguments: none | quick | only TEXT | stack | attach PATH | documents";
 
 fn main() {
     let arguments: Vec<String> = std::env::args().skip(1).collect();
@@ -24,6 +24,7 @@ fn main() {
             let _ = attach::PROGRAM.set(PathBuf::from(path));
             runner::run(&attach::cases(), 1, "")
         }
+        ["documents"] => runner::run(&examples::cases(), 1, ""),
         #[cfg(feature = "selfcheck")]
         ["mutants"] => outside::standin::mutants(),
         _ => {

@@ -1,0 +1,135 @@
+/*
+ * Calls every function of the library through the header, with figures worked out by hand, and checks the header's own figures.
+ * Prints a line for each fault and ends with `N passed, M failed`.
+ */
+#include <stdio.h>
+#include <string.h>
+#include "simjorad.h"
+
+static int passed, failed;
+
+#define CHECK(fact) ((fact) ? (void)passed++ : (void)(failed++, printf("line %d: %s\n", __LINE__, #fact)))
+
+/* 0 and 1 deny each other, each with a fact (docs/RULES.md, row 1). */
+static const char text[] = "G,10,2\nF,0,2,2\nF,1,3,3\nR,0,10,M,!1\nR,1,10,M,!0\nQ,K,0\nQ,W,1\n";
+enum { TEXT = sizeof text - 1, USED = 30, INDEX = SIMJORAD_WORKSPACE_LENGTH(2, 6, 2) };
+
+/* The page area of the text, in memory that is only read. */
+static const uint16_t area[USED] = {10, 2,  6, 30,                               /* top, C, lines, used length */
+                                    0,  0,  2, 2,  1, 0, 3, 3,                   /* two facts */
+                                    0,  1,  10, 1, 3, 1, 1, 10, 1, 1,            /* two rules of one literal: 2 * condition + 1 */
+                                    0,  6,  0, 0,  1, 6, 1, 0};                  /* a K and a W query */
+
+static int same(const uint16_t *numbers, const uint16_t *wanted, size_t count)
+{
+    return memcmp(numbers, wanted, count * sizeof *numbers) == 0;
+}
+
+static void reads(void)
+{
+    uint16_t page[USED + 1];
+    uint32_t line = 77;
+    size_t start = 77;
+
+    page[USED] = 4711;
+    CHECK(simjorad_read((const uint8_t *)text, TEXT, page, USED + 1, &line) == USED);
+    CHECK(line == 0 && same(page, area, USED) && page[USED] == 4711);
+    memset(page, 0, sizeof page);
+    CHECK(simjorad_read((const uint8_t *)text, TEXT, page, USED - 1, &line) == -SIMJORAD_AREA_SHORT && line == 0 && page[0] == 0);
+    line = 77;
+    CHECK(simjorad_read((const uint8_t *)text, TEXT - 1, page, USED, &line) == -SIMJORAD_TEXT_UNENDED && line == 0);
+    CHECK(simjorad_read(NULL, 0, NULL, 0, &line) == -SIMJORAD_TEXT_UNENDED && line == 0);
+    CHECK(simjorad_read((const uint8_t *)"G,10,2\nF,0,03,4\n", 16, page, USED, &line) == -SIMJORAD_LINE_FORM && line == 2);
+    CHECK(simjorad_read((const uint8_t *)"G,10,2\nF,0,4,3\n", 15, page, USED, &line) == -SIMJORAD_LINE_RANGE && line == 2);
+    CHECK(simjorad_show_line((const uint8_t *)text, TEXT, 4, &start) == 11 && start == 23);
+    CHECK(memcmp(text + start, "R,0,10,M,!1", 11) == 0);
+    CHECK(simjorad_show_line((const uint8_t *)text, TEXT, 8, &start) == 0);
+    CHECK(simjorad_show_line(NULL, 0, 1, &start) == 0);
+}
+
+static void long_texts(void)
+{
+    static uint8_t bytes[SIMJORAD_TEXT_MAX + 1];
+    static uint16_t page[SIMJORAD_PAGE_MAX];
+    uint32_t line = 77;
+    size_t at = 0;
+
+    memset(bytes, 10, sizeof bytes);
+    CHECK(simjorad_read(bytes, SIMJORAD_TEXT_MAX + 1, page, SIMJORAD_PAGE_MAX, &line) == -SIMJORAD_TEXT_TOO_LONG && line == 0);
+    CHECK(simjorad_read(bytes, SIMJORAD_TEXT_MAX, page, SIMJORAD_PAGE_MAX, &line) == -SIMJORAD_LINE_FORM && line == 1);
+    at = (size_t)sprintf((char *)bytes, "G,%d,%d\n", SIMJORAD_TOP_MAX, SIMJORAD_CONDITIONS_MAX);
+    for (int i = 0; i < SIMJORAD_LINES_MAX; i++)
+        at += (size_t)sprintf((char *)bytes + at, "R,511,200,P,0,1,2,3,4,5,6,!511\n");
+    CHECK(simjorad_read(bytes, at, page, SIMJORAD_PAGE_MAX, &line) == SIMJORAD_PAGE_MAX && line == 0);
+    CHECK(page[3] == SIMJORAD_PAGE_MAX && page[2] == SIMJORAD_LINES_MAX);
+    CHECK(SIMJORAD_WORKSPACE_LENGTH(page[1], page[2], page[3] - 4 - 4 * page[2]) == SIMJORAD_WORKSPACE_MAX);
+    CHECK(simjorad_read(bytes, at, page, SIMJORAD_PAGE_MAX - 1, &line) == -SIMJORAD_AREA_SHORT && line == 0);
+    bytes[at] = 'x';
+    bytes[at + 1] = 10;
+    CHECK(simjorad_read(bytes, at + 2, page, SIMJORAD_PAGE_MAX, &line) == -SIMJORAD_LINE_COUNT && line == SIMJORAD_LINES_MAX + 2);
+}
+
+/* A run of the page above: R 2, E 2, bound 22; spent after 3 evaluations, at rest after 4 (docs/RULES.md, row 2). */
+static void runs(void)
+{
+    static const uint16_t queries[] = {0}, opened[] = {0, 10, 2, 0, 10, 2}, spent[] = {2, 7, 1, 3, 8, 2}, rest[] = {2, 7, 1, 3, 8, 1};
+    uint16_t run[SIMJORAD_RUN_LENGTH(2)] = {0}, workspace[INDEX] = {0}, low = 77, high = 78;
+    uint32_t reached = 77, edges = 78, bound = 79, taken = 77;
+
+    CHECK(simjorad_open(area, USED - 1, queries, 1, run, 6, &reached, &edges, &bound) == -SIMJORAD_PAGE_UNSOUND);
+    CHECK(simjorad_open(area, USED, NULL, 0, run, 6, &reached, &edges, &bound) == -SIMJORAD_QUERY_COUNT);
+    CHECK(simjorad_open(area, USED, area + 1, 1, run, 6, &reached, &edges, &bound) == -SIMJORAD_QUERY_RANGE);
+    CHECK(simjorad_open(area, USED, queries, 1, run, 5, &reached, &edges, &bound) == -SIMJORAD_RUN_SHORT);
+    CHECK(reached == 77 && edges == 78 && bound == 79);
+    CHECK(simjorad_open(area, USED, queries, 1, run, 6, &reached, &edges, &bound) == 0);
+    CHECK(reached == 2 && edges == 2 && bound == 22 && same(run, opened, 6));
+
+    CHECK(simjorad_drive(area, USED, run, 5, 3, &taken) == -SIMJORAD_RUN_UNSOUND && taken == 77);
+    CHECK(simjorad_drive(area, USED, run, 6, 3, &taken) == 0 && taken == 3 && same(run, spent, 6));
+    CHECK(simjorad_value(area, USED, run, 6, 1, &low, &high) == 0 && low == 3 && high == 8);
+    CHECK(simjorad_evaluate(area, USED, run, 6, 0) == -SIMJORAD_NOT_WAITING);
+    CHECK(simjorad_evaluate(area, USED, run, 6, 2) == -SIMJORAD_CONDITION_RANGE);
+    CHECK(simjorad_evaluate(area, USED, run, 6, 1) == 0 && same(run, rest, 6));
+    CHECK(simjorad_value(area, USED, run, 6, 0, &low, &high) == 1 && low == 2 && high == 7);
+    CHECK(simjorad_value(area, USED, run, 6, 65536, &low, &high) == -SIMJORAD_CONDITION_RANGE && low == 2 && high == 7);
+
+    memcpy(run, opened, sizeof run);
+    memset(workspace, 0xff, sizeof workspace);
+    CHECK(simjorad_drive_indexed(area, USED, run, 6, workspace, INDEX - 1, 2, &taken) == 0 && taken == 2 && workspace[0] == 0xffff);
+    CHECK(simjorad_drive_indexed(area, USED, run, 6, workspace, INDEX, bound - 2, &taken) == 1 && taken == 2 && same(run, rest, 6));
+    CHECK(workspace[0] == 0 && workspace[INDEX - 1] == 0);
+    CHECK(simjorad_drive_indexed(area, 3, run, 6, NULL, 0, 1, &taken) == -SIMJORAD_PAGE_UNSOUND && taken == 2);
+    memcpy(run, opened, sizeof run);
+    CHECK(simjorad_evaluate(area, USED, run, 6, 0) == 1 && run[0] == 2 && run[1] == 10 && run[2] == 1);
+    run[2] = 0;
+    run[0] = 0;
+    CHECK(simjorad_value(area, USED, run, 6, 0, &low, &high) == -SIMJORAD_NOT_REACHED);
+}
+
+static void closed(void)
+{
+    static const uint16_t queries[] = {1, 0}, answer[] = {3, 8, 2, 7};
+    uint16_t scratch[SIMJORAD_SCRATCH_LENGTH(2)], answers[5] = {77, 77, 77, 77, 77}, workspace[INDEX];
+
+    memset(scratch, 0xff, sizeof scratch);
+    CHECK(simjorad_closed(area, USED, queries, 2, scratch, 11, answers, 5) == -SIMJORAD_SCRATCH_SHORT);
+    CHECK(simjorad_closed(area, USED, queries, 2, scratch, 12, answers, 3) == -SIMJORAD_ANSWERS_SHORT);
+    CHECK(answers[0] == 77 && scratch[0] == 0xffff);
+    CHECK(simjorad_closed(area, USED, queries, 2, scratch, 12, answers, 5) == 0);
+    CHECK(same(answers, answer, 4) && answers[4] == 77 && scratch[0] == 0 && scratch[11] == 0);
+    memset(answers, 0, sizeof answers);
+    memset(workspace, 0xff, sizeof workspace);
+    CHECK(simjorad_closed_indexed(area, USED, queries, 2, scratch, 12, answers, 5, workspace, INDEX) == 0);
+    CHECK(same(answers, answer, 4) && workspace[0] == 0 && workspace[INDEX - 1] == 0);
+    CHECK(simjorad_closed_indexed(area, USED, area + 1, 1, scratch, 12, answers, 5, NULL, 0) == -SIMJORAD_QUERY_RANGE);
+}
+
+int main(void)
+{
+    reads();
+    long_texts();
+    runs();
+    closed();
+    printf("%d passed, %d failed\n", passed, failed);
+    return failed != 0;
+}
