@@ -8,7 +8,8 @@
 //!   `quick` for a tenth of the items.
 //! - `cargo run --release -- stack` measures the stack of each function and prints it beside the header's figure.
 //! - `cargo run --release -- attach PATH` tests the program `attach` at that path.
-//! - `cargo run --release -- documents` builds and runs the C examples and the C test (gcc).
+//! - `cargo run --release -- documents PATH` builds and runs the C examples and the C test (gcc), and makes every figure of the
+//!   documents again, with the program `attach` at that path.
 //! - With `--features selfcheck` the reference solver stands in for the library; `mutants` then plants one
 //!   fault after another and tells which cases notice.
 
@@ -19,6 +20,8 @@ pub mod body;
 pub mod book;
 pub mod cases;
 pub mod closed;
+#[cfg(target_arch = "x86_64")]
+pub mod documents;
 pub mod engine;
 pub mod enumerate;
 pub mod examples;

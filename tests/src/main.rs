@@ -5,7 +5,7 @@ use std::process::exit;
 
 use outside::{attach, cases, examples, runner};
 
-const USAGE: &str = "arguments: none | quick | only TEXT | stack | attach PATH | documents";
+const USAGE: &str = "arguments: none | quick | only TEXT | stack | attach PATH | documents PATH";
 
 fn main() {
     let arguments: Vec<String> = std::env::args().skip(1).collect();
@@ -24,7 +24,13 @@ fn main() {
             let _ = attach::PROGRAM.set(PathBuf::from(path));
             runner::run(&attach::cases(), 1, "")
         }
-        ["documents"] => runner::run(&examples::cases(), 1, ""),
+        #[cfg(target_arch = "x86_64")]
+        ["documents", path] => {
+            let _ = attach::PROGRAM.set(PathBuf::from(path));
+            let mut cases = examples::cases();
+            cases.extend(outside::documents::cases());
+            runner::run(&cases, 1, "")
+        }
         #[cfg(feature = "selfcheck")]
         ["mutants"] => outside::standin::mutants(),
         _ => {

@@ -1,0 +1,540 @@
+//! The documents for people: every figure in them is made again by the program and compared.
+//!
+//! - A block marked `console` holds commands after `$ ` and what they print. They run in a folder with `examples` and `target`
+//!   of the repository, with each block marked `page NAME` of the same document as a file, and with the C examples on the path.
+//! - A comment `<!-- checked: HOW -->` stands before a table; HOW is one of the words of `check_table`.
+//! - An interval [a;b] in figures anywhere else must be shown by a checked table or a console block of the same document.
+//! - A number with a comma in it, as in 1,024, must be a limit that the header states, and so must a limit in words (`PHRASES`).
+
+use std::collections::BTreeSet;
+use std::path::PathBuf;
+use std::process::Command;
+
+use crate::attach;
+use crate::page::OPS;
+use crate::programs::{self, built, file, root};
+use crate::runner::Case;
+use crate::stack::header_figure;
+use crate::trial::{figure, Check, Trial};
+
+pub fn cases() -> Vec<Case> {
+    vec![Case {
+        name: "every_figure_of_the_documents_is_the_program_s",
+        items: DOCUMENTS.len() as u64,
+        each: |trial, item| check(trial, DOCUMENTS[item as usize]),
+        must_see: &[],
+    }]
+}
+
+const DOCUMENTS: &[&str] = &[
+    "README.md",
+    "docs/PAGES.md",
+    "examples/attach-cup.md",
+    "examples/divert-milk.md",
+    "examples/kick-sensor.md",
+    "examples/short-check.md",
+    "examples/two-sensors.md",
+];
+
+/// The limits by the words that a document uses for them.
+const LIMITS: &[(&str, &str)] = &[
+    ("the greatest top", "SIMJORAD_TOP_MAX"),
+    ("conditions of a page", "SIMJORAD_CONDITIONS_MAX"),
+    ("lines after the first", "SIMJORAD_LINES_MAX"),
+    ("literals of a rule", "SIMJORAD_LITERALS_MAX"),
+    ("bytes of the text", "SIMJORAD_TEXT_MAX"),
+    ("entries of a query list", "SIMJORAD_QUERIES_MAX"),
+    ("numbers of the longest page area", "SIMJORAD_PAGE_MAX"),
+];
+
+/// Where a document states a limit in words: what stands before and after the figure.
+const PHRASES: &[(&str, &str, &str)] = &[
+    ("top 1 to ", "", "SIMJORAD_TOP_MAX"),
+    ("top over ", "", "SIMJORAD_TOP_MAX"),
+    ("C 1 to ", "", "SIMJORAD_CONDITIONS_MAX"),
+    ("up to ", " conditions", "SIMJORAD_CONDITIONS_MAX"),
+    ("1 to ", " literals", "SIMJORAD_LITERALS_MAX"),
+    ("more than ", " queries", "SIMJORAD_QUERIES_MAX"),
+    ("more than ", " entries", "SIMJORAD_QUERIES_MAX"),
+];
+
+type Interval = (u32, u32);
+
+/// One document under check.
+struct Document {
+    path: &'static str,
+    /// The intervals that checked parts show.
+    shown: BTreeSet<Interval>,
+    /// The lines of no checked part, each with its number.
+    prose: Vec<(usize, String)>,
+}
+
+/// A table: the names of its columns, and its rows.
+struct Table {
+    columns: Vec<String>,
+    rows: Vec<Vec<String>>,
+}
+
+impl Table {
+    fn parse(lines: &[String]) -> Check<Table> {
+        let cells = |line: &String| -> Vec<String> {
+            let inner = line.trim().trim_matches('|');
+            inner
+                .split('|')
+                .map(|cell| cell.trim().to_string())
+                .collect()
+        };
+        let [columns, rule, rows @ ..] = lines else {
+            return Err("no table stands after the comment".to_string());
+        };
+        figure("the line under the head", rule.starts_with("|--"), true)?;
+        Ok(Table {
+            columns: cells(columns),
+            rows: rows.iter().map(cells).collect(),
+        })
+    }
+
+    fn column(&self, name: &str) -> Option<usize> {
+        self.columns.iter().position(|column| column == name)
+    }
+
+    /// The cell of a row in a column that must be there.
+    fn cell<'a>(&self, row: &'a [String], name: &str) -> Check<&'a str> {
+        let at = self.column(name).ok_or(format!("no column `{name}`"))?;
+        row.get(at)
+            .map(String::as_str)
+            .ok_or(format!("a row without `{name}`"))
+    }
+}
+
+/// The parts in backquotes.
+fn quoted(cell: &str) -> Vec<String> {
+    cell.split('`')
+        .skip(1)
+        .step_by(2)
+        .map(str::to_string)
+        .collect()
+}
+
+/// The parts that are not in backquotes.
+fn unquoted(line: &str) -> String {
+    line.split('`').step_by(2).collect::<Vec<_>>().join(" ")
+}
+
+/// The intervals [a;b] in figures.
+fn intervals(text: &str) -> Vec<Interval> {
+    text.split('[')
+        .skip(1)
+        .filter_map(|rest| {
+            let (inside, _) = rest.split_once(']')?;
+            let (low, high) = inside.split_once(';')?;
+            Some((low.parse().ok()?, high.parse().ok()?))
+        })
+        .collect()
+}
+
+/// The bytes of a text in backquotes, with \n, \r, \t and \xNN.
+fn unescaped(text: &str) -> Check<Vec<u8>> {
+    let mut out = Vec::new();
+    let mut rest = text.bytes();
+    while let Some(byte) = rest.next() {
+        if byte != b'\\' {
+            out.push(byte);
+            continue;
+        }
+        match rest.next() {
+            Some(b'n') => out.push(10),
+            Some(b'r') => out.push(13),
+            Some(b't') => out.push(9),
+            Some(b'x') => {
+                let digits = [rest.next().unwrap_or(0), rest.next().unwrap_or(0)];
+                let digits = String::from_utf8_lossy(&digits).into_owned();
+                let number = u8::from_str_radix(&digits, 16);
+                out.push(number.map_err(|_| format!("\\x{digits} is no byte"))?);
+            }
+            other => return Err(format!("{other:?} after a backslash")),
+        }
+    }
+    Ok(out)
+}
+
+/// What `attach` prints for these bytes.
+fn attached(text: &[u8]) -> Check<String> {
+    let out = attach::run(text, text.len().max(1))?;
+    Ok(String::from_utf8_lossy(&out).into_owned())
+}
+
+/// Both readings of a condition, by `attach`; the page's own Q lines are left out.
+fn readings(lines: &[String], cond: &str) -> Check<(String, String)> {
+    let mut text = String::new();
+    for line in lines.iter().filter(|line| !line.starts_with('Q')) {
+        text.push_str(line);
+        text.push('\n');
+    }
+    text.push_str(&format!("Q,K,{cond}\nQ,W,{cond}\n"));
+    let printed = attached(text.as_bytes())?;
+    let lines: Vec<Vec<&str>> = printed
+        .lines()
+        .map(|line| line.split(',').collect())
+        .collect();
+    match &lines[..] {
+        [_, plain, closed, _] if plain.len() == 4 && closed.len() == 4 => Ok((
+            format!("[{};{}]", plain[2], plain[3]),
+            format!("[{};{}]", closed[2], closed[3]),
+        )),
+        _ => Err(format!("{text:?} is answered {printed:?}")),
+    }
+}
+
+/// A page of some lines; without a G line it is given this top and the conditions that the lines and the question name.
+fn page_lines(lines: &[String], top: &str, asked: &str) -> Check<Vec<String>> {
+    if lines.first().is_some_and(|line| line.starts_with('G')) {
+        return Ok(lines.to_vec());
+    }
+    let mut most: u32 = asked.parse().map_err(|_| format!("condition {asked}"))?;
+    for line in lines {
+        let fields: Vec<&str> = line.split(',').collect();
+        let named = match fields[0] {
+            "F" => &fields[1..2],
+            "R" => &fields[4..],
+            _ => return Err(format!("{line:?} in a checked table")),
+        };
+        for field in named.iter().chain(&fields[1..2]) {
+            let number = field.trim_start_matches('!').parse();
+            most = most.max(number.map_err(|_| format!("{line:?} in a checked table"))?);
+        }
+    }
+    let mut out = vec![format!("G,{top},{}", most + 1)];
+    out.extend_from_slice(lines);
+    Ok(out)
+}
+
+impl Document {
+    fn run_block(&mut self, lines: &[String]) -> Check {
+        let mut wanted = String::new();
+        let mut command: Option<&str> = None;
+        for line in lines.iter().map(String::as_str).chain(["$ "]) {
+            if let Some(next) = line.strip_prefix("$ ") {
+                if let Some(command) = command {
+                    self.run_command(command, &wanted)?;
+                }
+                command = Some(next);
+                wanted.clear();
+            } else {
+                wanted.push_str(line);
+                wanted.push('\n');
+            }
+        }
+        Ok(())
+    }
+
+    fn run_command(&mut self, command: &str, wanted: &str) -> Check {
+        built("controller")?;
+        let path = std::env::var("PATH").unwrap_or_default();
+        let mut shell = Command::new("sh");
+        shell.args(["-c", &format!("exec 2>&1; {command}")]);
+        shell.current_dir(sandbox()?);
+        shell.env("PATH", format!("{}:{path}", programs::folder().display()));
+        let ended = programs::run(&mut shell, b"", 1)?;
+        let got = String::from_utf8_lossy(&ended.out).into_owned();
+        figure(&format!("the output of `{command}`"), &*got, wanted)?;
+        self.shown.extend(intervals(&got));
+        for line in got.lines() {
+            let fields: Vec<&str> = line.split(',').collect();
+            if let ["K" | "W", _, low, high] = fields[..] {
+                self.shown
+                    .insert((low.parse().unwrap_or(0), high.parse().unwrap_or(0)));
+            }
+        }
+        Ok(())
+    }
+
+    fn check_table(&mut self, how: &str, table: &Table) -> Check {
+        for row in &table.rows {
+            for cell in row {
+                self.shown.extend(intervals(cell));
+            }
+        }
+        let (first, rest) = how.split_once(' ').unwrap_or((how, ""));
+        match first {
+            "readings" => readings_of_a_file(rest, table),
+            "pages," => readings_of_pages(rest, table),
+            "ops," => ops(rest, table),
+            "texts" => texts(table),
+            "runs," => runs(rest, table),
+            "limits" => limits(table),
+            "refusals" => refusals(table),
+            _ => Err(format!("`{how}` is not known")),
+        }
+    }
+
+    /// What stands in no checked part.
+    fn check_prose(&self) -> Check {
+        let mut limits = BTreeSet::new();
+        for (_, name) in LIMITS {
+            let figure = header_figure(name)?;
+            limits.extend([figure, figure + 1, figure + 2]);
+        }
+        limits.insert(header_figure("SIMJORAD_WORKSPACE_MAX")?);
+        for (number, line) in &self.prose {
+            for interval in intervals(line) {
+                if !self.shown.contains(&interval) {
+                    return Err(format!(
+                        "line {number}: {interval:?} is shown by no checked part"
+                    ));
+                }
+            }
+            let plain = unquoted(line);
+            let words = plain.split(|c: char| !c.is_ascii_digit() && c != ',');
+            for word in words.map(|word| word.trim_matches(',')) {
+                let groups: Vec<&str> = word.split(',').collect();
+                if groups.len() < 2 || groups[1..].iter().any(|group| group.len() != 3) {
+                    continue;
+                }
+                let figure: usize = groups.concat().parse().unwrap_or(0);
+                if !limits.contains(&figure) {
+                    return Err(format!("line {number}: {word} is no limit of the header"));
+                }
+            }
+        }
+        Ok(())
+    }
+}
+
+/// The folder in which the commands run.
+fn sandbox() -> Check<PathBuf> {
+    let folder = programs::folder().join("folder");
+    std::fs::create_dir_all(&folder).map_err(|error| format!("{}: {error}", folder.display()))?;
+    let root = std::fs::canonicalize(root()).map_err(|error| error.to_string())?;
+    for name in ["examples", "target"] {
+        let link = folder.join(name);
+        if link.symlink_metadata().is_err() {
+            std::os::unix::fs::symlink(root.join(name), &link)
+                .or_else(|error| match error.kind() {
+                    std::io::ErrorKind::AlreadyExists => Ok(()),
+                    _ => Err(error),
+                })
+                .map_err(|error| format!("{}: {error}", link.display()))?;
+        }
+    }
+    Ok(folder)
+}
+
+/// `readings of FILE`, then `without LINE...` and `with LINE...`: columns condition, plain, closed.
+fn readings_of_a_file(how: &str, table: &Table) -> Check {
+    let mut lines = Vec::new();
+    let mut mode = "";
+    for word in how.split(' ') {
+        match (mode, word) {
+            (_, "of" | "without" | "with") => mode = word,
+            ("of", path) => lines = file(path)?.lines().map(str::to_string).collect(),
+            ("without", line) => {
+                let at = lines.iter().position(|other| other == line);
+                lines.remove(at.ok_or(format!("no line {line}"))?);
+            }
+            ("with", line) => lines.push(line.to_string()),
+            _ => return Err(format!("`{how}` is not known")),
+        }
+    }
+    for row in &table.rows {
+        compare_readings(table, row, &lines)?;
+    }
+    Ok(())
+}
+
+fn compare_readings(table: &Table, row: &[String], lines: &[String]) -> Check {
+    let cond = table.cell(row, "condition")?;
+    let (plain, closed) = readings(lines, cond)?;
+    let name = format!("condition {cond} of {lines:?}");
+    figure(&name, table.cell(row, "plain")?, plain.as_str())?;
+    figure(&name, table.cell(row, "closed")?, closed.as_str())
+}
+
+/// `pages, top N`: columns page, condition, plain, closed; an empty page cell is the page above.
+fn readings_of_pages(how: &str, table: &Table) -> Check {
+    let top = how.strip_prefix("top ").ok_or("no top")?;
+    let mut lines = Vec::new();
+    for row in &table.rows {
+        let written = quoted(table.cell(row, "page")?);
+        if !written.is_empty() {
+            lines = written;
+        }
+        let asked = table.cell(row, "condition")?;
+        compare_readings(table, row, &page_lines(&lines, top, asked)?)?;
+    }
+    Ok(())
+}
+
+/// `ops, top N`: columns op, literals, weight, value; every literal is a fact with one grade.
+fn ops(how: &str, table: &Table) -> Check {
+    let top = how.strip_prefix("top ").ok_or("no top")?;
+    let mut seen = BTreeSet::new();
+    for row in &table.rows {
+        let op = quoted(table.cell(row, "op")?).concat();
+        let weight = table.cell(row, "weight")?;
+        let mut lines = Vec::new();
+        let mut rule = format!("R,0,{weight},{op}");
+        for (grade, cond) in table.cell(row, "literals")?.split(", ").zip(1..) {
+            lines.push(format!("F,{cond},{grade},{grade}"));
+            rule.push_str(&format!(",{cond}"));
+        }
+        lines.push(rule);
+        let (plain, closed) = readings(&page_lines(&lines, top, "0")?, "0")?;
+        let value = table.cell(row, "value")?;
+        let wanted = format!("[{value};{value}]");
+        figure(
+            &format!("{lines:?}"),
+            (plain, closed),
+            (wanted.clone(), wanted),
+        )?;
+        seen.insert(op);
+    }
+    figure("the op letters", seen.len(), OPS.len())
+}
+
+/// `texts`: columns text and answer.
+fn texts(table: &Table) -> Check {
+    for row in &table.rows {
+        let text = quoted(table.cell(row, "text")?).concat();
+        let answer = quoted(table.cell(row, "answer")?).concat();
+        let printed = attached(&unescaped(&text)?)?;
+        figure(
+            &format!("the answer to `{text}`"),
+            printed,
+            format!("{answer}\n"),
+        )?;
+    }
+    Ok(())
+}
+
+/// `runs, top N`: columns page, query, R, E, bound, evaluations.
+fn runs(how: &str, table: &Table) -> Check {
+    let top = how.strip_prefix("top ").ok_or("no top")?;
+    let mut trial = Trial::new();
+    for row in &table.rows {
+        let query = table.cell(row, "query")?;
+        let lines = page_lines(&quoted(table.cell(row, "page")?), top, query)?;
+        let text = lines.join("\n") + "\n";
+        let mut area = vec![0; 200];
+        let used = trial.read(text.as_bytes(), &mut area)?;
+        let used = used.map_err(|refusal| format!("{text:?} is refused {refusal:?}"))?;
+        let mut run = vec![0; 3 * usize::from(area[1])];
+        let query = [query.parse().map_err(|_| "no query".to_string())?];
+        let opened = trial.open(&area[..used], &query, &mut run)?;
+        let opened = opened.map_err(|number| format!("open is refused {number}"))?;
+        let driven = trial.drive(&area[..used], &mut run, opened.bound)?;
+        let taken = driven.map_err(|number| format!("drive is refused {number}"))?;
+        figure("at rest", taken.rest, true)?;
+        for (column, got) in [
+            ("R", opened.reached),
+            ("E", opened.edges),
+            ("bound", opened.bound),
+            ("evaluations", taken.taken),
+        ] {
+            let stated = table.cell(row, column)?;
+            figure(&format!("{column} of {lines:?}"), stated, &got.to_string())?;
+        }
+    }
+    Ok(())
+}
+
+/// `limits`: columns limit and figure.
+fn limits(table: &Table) -> Check {
+    for row in &table.rows {
+        let what = table.cell(row, "limit")?;
+        let known = LIMITS.iter().find(|(words, _)| *words == what);
+        let (_, name) = known.ok_or(format!("`{what}` is no limit that is known"))?;
+        let stated: String = table.cell(row, "figure")?.replace(',', "");
+        figure(what, stated, header_figure(name)?.to_string())?;
+    }
+    Ok(())
+}
+
+/// `refusals`: the column number holds every refusal of the header, once and in order.
+fn refusals(table: &Table) -> Check {
+    let header = file("include/simjorad.h")?;
+    let (_, part) = header
+        .split_once("/* Refusals")
+        .ok_or("no refusals in the header")?;
+    let (part, _) = part.split_once("/*\n").ok_or("no end of the refusals")?;
+    let wanted: Vec<String> = part
+        .lines()
+        .filter_map(|line| line.strip_prefix("#define ")?.split_whitespace().nth(1))
+        .map(str::to_string)
+        .collect();
+    let stated: Check<Vec<&str>> = table
+        .rows
+        .iter()
+        .map(|row| table.cell(row, "number"))
+        .collect();
+    let stated: Vec<String> = stated?.iter().map(|number| number.to_string()).collect();
+    figure("the refusals", stated, wanted)
+}
+
+/// The limits that a text states in words.
+fn phrases(text: &str) -> Check {
+    for (before, after, name) in PHRASES {
+        for rest in text.split(before).skip(1) {
+            let digits = rest.bytes().take_while(u8::is_ascii_digit).count();
+            if digits > 0 && rest[digits..].starts_with(after) {
+                let what = format!("`{before}{}{after}`", &rest[..digits]);
+                figure(&what, &rest[..digits], &header_figure(name)?.to_string())?;
+            }
+        }
+    }
+    Ok(())
+}
+
+fn check(trial: &mut Trial, path: &'static str) -> Check {
+    trial.pages += 1;
+    let mut document = Document {
+        path,
+        shown: BTreeSet::new(),
+        prose: Vec::new(),
+    };
+    let text = file(path)?;
+    phrases(&text).map_err(|reason| format!("{path}: {reason}"))?;
+    let lines: Vec<String> = text.lines().map(str::to_string).collect();
+    let mut at = 0;
+    while at < lines.len() {
+        let number = at + 1;
+        let line = lines[at].clone();
+        let end_of = |stop: &dyn Fn(&String) -> bool, from: usize| {
+            (from..lines.len())
+                .find(|at| stop(&lines[*at]))
+                .unwrap_or(lines.len())
+        };
+        let place = |reason: String| format!("{path}, line {number}: {reason}");
+        if let Some(kind) = line.strip_prefix("```") {
+            let end = end_of(&|line| line == "```", at + 1);
+            let block = &lines[at + 1..end];
+            if kind == "console" {
+                trial.engine.calls += 1;
+                document.run_block(block).map_err(place)?;
+            } else if let Some(name) = kind.strip_prefix("page ") {
+                let text = block.join("\n") + "\n";
+                std::fs::write(sandbox()?.join(name), text).map_err(|e| place(e.to_string()))?;
+            } else {
+                document
+                    .prose
+                    .extend(block.iter().map(|line| (number, line.clone())));
+            }
+            at = end + 1;
+        } else if let Some(how) = line.strip_prefix("<!-- checked: ") {
+            let how = how
+                .strip_suffix(" -->")
+                .ok_or(place("no end".to_string()))?;
+            let end = end_of(&|line| !line.starts_with('|'), at + 1);
+            let table = Table::parse(&lines[at + 1..end]).map_err(place)?;
+            trial.engine.calls += table.rows.len() as u64;
+            document.check_table(how, &table).map_err(place)?;
+            at = end;
+        } else {
+            document.prose.push((number, line));
+            at += 1;
+        }
+    }
+    document
+        .check_prose()
+        .map_err(|reason| format!("{}, {reason}", document.path))
+}
