@@ -29,6 +29,7 @@ pub fn cases() -> Vec<Case> {
 const DOCUMENTS: &[&str] = &[
     "README.md",
     "docs/PAGES.md",
+    "docs/RULES.md",
     "examples/attach-cup.md",
     "examples/divert-milk.md",
     "examples/kick-sensor.md",
@@ -398,11 +399,10 @@ fn texts(table: &Table) -> Check {
         let text = quoted(table.cell(row, "text")?).concat();
         let answer = quoted(table.cell(row, "answer")?).concat();
         let printed = attached(&unescaped(&text)?)?;
-        figure(
-            &format!("the answer to `{text}`"),
-            printed,
-            format!("{answer}\n"),
-        )?;
+        let mut wanted = unescaped(&answer)?;
+        wanted.push(10);
+        let wanted = String::from_utf8_lossy(&wanted).into_owned();
+        figure(&format!("the answer to `{text}`"), printed, wanted)?;
     }
     Ok(())
 }
