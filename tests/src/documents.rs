@@ -28,6 +28,7 @@ pub fn cases() -> Vec<Case> {
 
 const DOCUMENTS: &[&str] = &[
     "README.md",
+    "include/simjorad.h",
     "docs/PAGES.md",
     "docs/RULES.md",
     "examples/attach-cup.md",

@@ -4,7 +4,9 @@ use std::collections::BTreeSet;
 use std::process::Command;
 
 use crate::programs::{self, built, file, root, Ended};
+use crate::rng::seed_of;
 use crate::runner::Case;
+use crate::stack::header_figure;
 use crate::trial::{figure, Check, Trial};
 
 pub fn cases() -> Vec<Case> {
@@ -30,6 +32,11 @@ pub fn cases() -> Vec<Case> {
             "the_header_declares_what_the_library_exports",
             1,
             exported_functions,
+        ),
+        case(
+            "the_header_s_version_is_raised_with_its_interface",
+            1,
+            version,
         ),
     ]
 }
@@ -165,4 +172,31 @@ fn exported_functions(_: &mut Trial, _: u64) -> Check {
         .map(str::to_string)
         .collect();
     figure("the exported functions", exported, declared()?)
+}
+
+/// The version of the header and a fingerprint of what it declares. A change of either asks for the other.
+const VERSION: (usize, u64) = (1, 5_936_916_236_464_936_633);
+
+/// What a program may depend on: the figures but those of stack, and the declarations.
+fn version(_: &mut Trial, _: u64) -> Check {
+    let header = file("include/simjorad.h")?;
+    let mut interface = String::new();
+    let mut comment = false;
+    for line in header.lines() {
+        comment = comment || line.starts_with("/*");
+        let kept =
+            !comment && !line.contains("SIMJORAD_STACK_") && !line.contains("SIMJORAD_VERSION");
+        if kept {
+            let code = line.split("/*").next().unwrap_or_default();
+            interface.push_str(&code.split_whitespace().collect::<Vec<_>>().join(" "));
+            interface.push(' ');
+        }
+        comment = comment && !line.trim_end().ends_with("*/");
+    }
+    let got = (header_figure("SIMJORAD_VERSION")?, seed_of(&interface, 0));
+    figure(
+        "SIMJORAD_VERSION and the fingerprint of the header (raise the version with the interface, then state both here)",
+        got,
+        VERSION,
+    )
 }

@@ -24,6 +24,7 @@ pub mod closed;
 pub mod documents;
 pub mod engine;
 pub mod enumerate;
+#[cfg(target_arch = "x86_64")]
 pub mod examples;
 pub mod ffi;
 pub mod gen;

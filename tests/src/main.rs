@@ -3,7 +3,7 @@
 use std::path::PathBuf;
 use std::process::exit;
 
-use outside::{attach, cases, examples, runner};
+use outside::{attach, cases, runner};
 
 const USAGE: &str = "arguments: none | quick | only TEXT | stack | attach PATH | documents PATH";
 
@@ -27,7 +27,7 @@ fn main() {
         #[cfg(target_arch = "x86_64")]
         ["documents", path] => {
             let _ = attach::PROGRAM.set(PathBuf::from(path));
-            let mut cases = examples::cases();
+            let mut cases = outside::examples::cases();
             cases.extend(outside::documents::cases());
             runner::run(&cases, 1, "")
         }
