@@ -1,4 +1,4 @@
-//! Links the static library `libcapi.a`, unless the feature `selfcheck` stands in for it.
+//! Links the static library `libcapi.a`.
 //! The folder comes from SIMJORAD_LIB_DIR, else it is `../target/staticlib` beside this package.
 
 use std::env;
@@ -7,9 +7,6 @@ use std::path::PathBuf;
 fn main() {
     println!("cargo:rerun-if-changed=build.rs");
     println!("cargo:rerun-if-env-changed=SIMJORAD_LIB_DIR");
-    if env::var_os("CARGO_FEATURE_SELFCHECK").is_some() {
-        return;
-    }
     let manifest =
         PathBuf::from(env::var_os("CARGO_MANIFEST_DIR").expect("cargo sets the manifest folder"));
     let folder = match env::var_os("SIMJORAD_LIB_DIR") {

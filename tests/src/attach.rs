@@ -1,7 +1,6 @@
 //! Tests of the program `attach`: a page on its standard input, its answer on its standard output.
 //! Section "The program `attach`".
 
-use std::path::PathBuf;
 use std::process::Command;
 use std::sync::OnceLock;
 
@@ -15,8 +14,8 @@ use crate::runner::Case;
 use crate::spoil;
 use crate::trial::{figure, Check, Trial};
 
-/// The program under test.
-pub static PROGRAM: OnceLock<PathBuf> = OnceLock::new();
+/// The program under test, and its arguments.
+pub static PROGRAM: OnceLock<Vec<String>> = OnceLock::new();
 
 /// What `attach` prints for these bytes.
 pub fn expected(text: &[u8]) -> String {
@@ -43,7 +42,9 @@ pub fn expected(text: &[u8]) -> String {
 /// standard error empty.
 pub fn run(text: &[u8], piece: usize) -> Check<Vec<u8>> {
     let program = PROGRAM.get().ok_or("no program is named")?;
-    let ended = programs::run(&mut Command::new(program), text, piece)?;
+    let mut command = Command::new(&program[0]);
+    command.args(&program[1..]);
+    let ended = programs::run(&mut command, text, piece)?;
     if ended.status != Some(0) {
         return Err(format!(
             "the program ends with status {:?}; page {}",

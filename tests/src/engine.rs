@@ -5,12 +5,17 @@
 //! changed by a refused call, or a return code that the header does not list.
 
 use std::fmt::Debug;
+use std::time::{Duration, Instant};
 
 use crate::answer::*;
-use crate::ffi::*;
+use crate::ffi::Call;
 use crate::guard::{Loan, Pool, Side};
 use crate::rng::Rng;
 use crate::slot;
+use crate::stack::Stack;
+
+/// A call that takes longer has failed.
+pub const LIMIT: Duration = Duration::from_secs(20);
 
 /// An out-parameter between two guard numbers.
 struct Out<T> {
@@ -61,6 +66,11 @@ pub struct Engine {
     /// Areas are announced this many numbers longer than the memory behind them, which then ends at an
     /// inaccessible page of 2,048 numbers. 0 announces the true length.
     pub overstate: usize,
+    /// Where in the page area the query list lies, if it lies there; its numbers are then those of the page area.
+    pub queries_at: Option<usize>,
+    stack: Stack,
+    /// The longest call so far.
+    pub longest: Duration,
 }
 
 impl Default for Engine {
@@ -76,6 +86,9 @@ impl Engine {
             rng: Rng::new(0),
             calls: 0,
             overstate: 0,
+            queries_at: None,
+            stack: Stack::new(),
+            longest: Duration::ZERO,
         }
     }
 
@@ -83,6 +96,46 @@ impl Engine {
     pub fn reseed(&mut self, seed: u64) {
         self.rng = Rng::new(seed);
         self.overstate = 0;
+        self.queries_at = None;
+    }
+
+    /// Makes a call on a stack of the stated size and within the time limit; what it returns. The slices are noted for a report.
+    fn call(
+        &mut self,
+        call: Call,
+        number: u64,
+        slices: &[(usize, usize, usize)],
+        arguments: &[usize],
+    ) -> Result<usize, String> {
+        slot::mine().enter(call, number, slices);
+        let start = Instant::now();
+        // SAFETY: the slices and the out-parameters are valid, and what is written is apart from the rest.
+        let result = unsafe { self.stack.limited(call, arguments) };
+        let time = start.elapsed();
+        slot::mine().leave();
+        self.calls += 1;
+        self.longest = self.longest.max(time);
+        if time > LIMIT {
+            return Err(format!("the call takes {} s", time.as_secs()));
+        }
+        Ok(result)
+    }
+
+    /// Where the query list lies: in a slice of its own, or inside the page area.
+    fn queries_start(
+        &self,
+        page_loan: &Loan<u16>,
+        page: &[u16],
+        queries: &[u16],
+        own: &Loan<u16>,
+    ) -> usize {
+        match self.queries_at {
+            Some(at) => {
+                assert!(page[at..at + queries.len()] == *queries, "other queries");
+                page_loan.ptr() as usize + 2 * at
+            }
+            None => own.ptr() as usize,
+        }
     }
 
     /// Lends a slice whose announced length is its own.
@@ -141,26 +194,18 @@ impl Engine {
         let text_loan = self.lend(0, text);
         let (area_loan, area_length) = self.lend_area(1, area);
         let mut line = self.out(|number| number as u32);
-        slot::mine().enter(
-            "read",
-            area_length as u64,
-            &[
-                Self::note(text, text_loan.ptr() as usize),
-                Self::note(area, area_loan.ptr() as usize),
-            ],
-        );
-        // SAFETY: the slices and the out-parameter are valid and apart.
-        let code = unsafe {
-            simjorad_read(
-                text_loan.ptr(),
-                text.len(),
-                area_loan.ptr_mut(),
-                area_length,
-                line.ptr(),
-            )
-        };
-        slot::mine().leave();
-        self.calls += 1;
+        let slices = [
+            Self::note(text, text_loan.ptr() as usize),
+            Self::note(area, area_loan.ptr() as usize),
+        ];
+        let arguments = [
+            text_loan.ptr() as usize,
+            text.len(),
+            area_loan.ptr_mut() as usize,
+            area_length,
+            line.ptr() as usize,
+        ];
+        let code = self.call(Call::Read, area_length as u64, &slices, &arguments)? as i32;
         text_loan.end_const("text", text)?;
         area_loan.end_mut("area", area)?;
         let line = line.set("line")?;
@@ -179,16 +224,14 @@ impl Engine {
     pub fn show_line(&mut self, text: &[u8], number: usize) -> Result<(usize, usize), String> {
         let text_loan = self.lend(0, text);
         let mut start = self.out(|number| number as usize);
-        slot::mine().enter(
-            "show_line",
-            number as u64,
-            &[Self::note(text, text_loan.ptr() as usize)],
-        );
-        // SAFETY: the slice and the out-parameter are valid and apart.
-        let length =
-            unsafe { simjorad_show_line(text_loan.ptr(), text.len(), number, start.ptr()) };
-        slot::mine().leave();
-        self.calls += 1;
+        let slices = [Self::note(text, text_loan.ptr() as usize)];
+        let arguments = [
+            text_loan.ptr() as usize,
+            text.len(),
+            number,
+            start.ptr() as usize,
+        ];
+        let length = self.call(Call::ShowLine, number as u64, &slices, &arguments)?;
         text_loan.end_const("text", text)?;
         Ok((start.set("start")?, length))
     }
@@ -201,35 +244,28 @@ impl Engine {
     ) -> Result<Result<Opened, Refusal>, String> {
         let (page_loan, page_length) = self.lend_area(0, page);
         let queries_loan = self.lend(1, queries);
+        let queries_start = self.queries_start(&page_loan, page, queries, &queries_loan);
         let (run_loan, run_length) = self.lend_area(2, run);
         let mut reached = self.out(|number| number as u32);
         let mut edges = self.out(|number| number as u32);
         let mut bound = self.out(|number| number as u32);
-        slot::mine().enter(
-            "open",
-            0,
-            &[
-                Self::note(page, page_loan.ptr() as usize),
-                Self::note(queries, queries_loan.ptr() as usize),
-                Self::note(run, run_loan.ptr() as usize),
-            ],
-        );
-        // SAFETY: the slices and the out-parameters are valid and apart.
-        let code = unsafe {
-            simjorad_open(
-                page_loan.ptr(),
-                page_length,
-                queries_loan.ptr(),
-                queries.len(),
-                run_loan.ptr_mut(),
-                run_length,
-                reached.ptr(),
-                edges.ptr(),
-                bound.ptr(),
-            )
-        };
-        slot::mine().leave();
-        self.calls += 1;
+        let slices = [
+            Self::note(page, page_loan.ptr() as usize),
+            Self::note(queries, queries_start),
+            Self::note(run, run_loan.ptr() as usize),
+        ];
+        let arguments = [
+            page_loan.ptr() as usize,
+            page_length,
+            queries_start,
+            queries.len(),
+            run_loan.ptr_mut() as usize,
+            run_length,
+            reached.ptr() as usize,
+            edges.ptr() as usize,
+            bound.ptr() as usize,
+        ];
+        let code = self.call(Call::Open, 0, &slices, &arguments)? as i32;
         page_loan.end_const("page", page)?;
         queries_loan.end_const("queries", queries)?;
         run_loan.end_mut("run", run)?;
@@ -257,26 +293,18 @@ impl Engine {
     ) -> Result<Result<bool, Refusal>, String> {
         let (page_loan, page_length) = self.lend_area(0, page);
         let (run_loan, run_length) = self.lend_area(1, run);
-        slot::mine().enter(
-            "evaluate",
-            u64::from(cond),
-            &[
-                Self::note(page, page_loan.ptr() as usize),
-                Self::note(run, run_loan.ptr() as usize),
-            ],
-        );
-        // SAFETY: the slices are valid and apart.
-        let code = unsafe {
-            simjorad_evaluate(
-                page_loan.ptr(),
-                page_length,
-                run_loan.ptr_mut(),
-                run_length,
-                cond,
-            )
-        };
-        slot::mine().leave();
-        self.calls += 1;
+        let slices = [
+            Self::note(page, page_loan.ptr() as usize),
+            Self::note(run, run_loan.ptr() as usize),
+        ];
+        let arguments = [
+            page_loan.ptr() as usize,
+            page_length,
+            run_loan.ptr_mut() as usize,
+            run_length,
+            cond as usize,
+        ];
+        let code = self.call(Call::Evaluate, u64::from(cond), &slices, &arguments)? as i32;
         page_loan.end_const("page", page)?;
         run_loan.end_mut("run", run)?;
         match code {
@@ -318,44 +346,24 @@ impl Engine {
             .as_deref()
             .map(|numbers| self.lend_area(2, numbers));
         let mut taken = self.out(|number| number as u32);
-        slot::mine().enter(
-            if room.is_some() {
-                "drive_indexed"
-            } else {
-                "drive"
-            },
-            u64::from(allowance),
-            &[
-                Self::note(page, page_loan.ptr() as usize),
-                Self::note(run, run_loan.ptr() as usize),
-                Self::note_room(workspace.as_deref(), &room),
-            ],
-        );
-        // SAFETY: the slices and the out-parameter are valid and apart.
-        let code = unsafe {
-            match &room {
-                None => simjorad_drive(
-                    page_loan.ptr(),
-                    page_length,
-                    run_loan.ptr_mut(),
-                    run_length,
-                    allowance,
-                    taken.ptr(),
-                ),
-                Some((loan, length)) => simjorad_drive_indexed(
-                    page_loan.ptr(),
-                    page_length,
-                    run_loan.ptr_mut(),
-                    run_length,
-                    loan.ptr_mut(),
-                    *length,
-                    allowance,
-                    taken.ptr(),
-                ),
-            }
-        };
-        slot::mine().leave();
-        self.calls += 1;
+        let slices = [
+            Self::note(page, page_loan.ptr() as usize),
+            Self::note(run, run_loan.ptr() as usize),
+            Self::note_room(workspace.as_deref(), &room),
+        ];
+        let mut arguments = vec![
+            page_loan.ptr() as usize,
+            page_length,
+            run_loan.ptr_mut() as usize,
+            run_length,
+        ];
+        let mut call = Call::Drive;
+        if let Some((loan, length)) = &room {
+            arguments.extend([loan.ptr_mut() as usize, *length]);
+            call = Call::DriveIndexed;
+        }
+        arguments.extend([allowance as usize, taken.ptr() as usize]);
+        let code = self.call(call, u64::from(allowance), &slices, &arguments)? as i32;
         page_loan.end_const("page", page)?;
         run_loan.end_mut("run", run)?;
         if let (Some((loan, _)), Some(numbers)) = (room, workspace) {
@@ -374,28 +382,20 @@ impl Engine {
         let (run_loan, run_length) = self.lend_area(1, run);
         let mut low = self.out(|number| number as u16);
         let mut high = self.out(|number| number as u16);
-        slot::mine().enter(
-            "value",
-            u64::from(cond),
-            &[
-                Self::note(page, page_loan.ptr() as usize),
-                Self::note(run, run_loan.ptr() as usize),
-            ],
-        );
-        // SAFETY: the slices and the out-parameters are valid and apart.
-        let code = unsafe {
-            simjorad_value(
-                page_loan.ptr(),
-                page_length,
-                run_loan.ptr(),
-                run_length,
-                cond,
-                low.ptr(),
-                high.ptr(),
-            )
-        };
-        slot::mine().leave();
-        self.calls += 1;
+        let slices = [
+            Self::note(page, page_loan.ptr() as usize),
+            Self::note(run, run_loan.ptr() as usize),
+        ];
+        let arguments = [
+            page_loan.ptr() as usize,
+            page_length,
+            run_loan.ptr() as usize,
+            run_length,
+            cond as usize,
+            low.ptr() as usize,
+            high.ptr() as usize,
+        ];
+        let code = self.call(Call::Value, u64::from(cond), &slices, &arguments)? as i32;
         page_loan.end_const("page", page)?;
         run_loan.end_const("run", run)?;
         match code {
@@ -444,55 +444,35 @@ impl Engine {
     ) -> Result<Result<(), Refusal>, String> {
         let (page_loan, page_length) = self.lend_area(0, page);
         let queries_loan = self.lend(1, queries);
+        let queries_start = self.queries_start(&page_loan, page, queries, &queries_loan);
         let (scratch_loan, scratch_length) = self.lend_area(2, scratch);
         let (answers_loan, answers_length) = self.lend_area(3, answers);
         let room = workspace
             .as_deref()
             .map(|numbers| self.lend_area(4, numbers));
-        slot::mine().enter(
-            if room.is_some() {
-                "closed_indexed"
-            } else {
-                "closed"
-            },
-            0,
-            &[
-                Self::note(page, page_loan.ptr() as usize),
-                Self::note(queries, queries_loan.ptr() as usize),
-                Self::note(scratch, scratch_loan.ptr() as usize),
-                Self::note(answers, answers_loan.ptr() as usize),
-                Self::note_room(workspace.as_deref(), &room),
-            ],
-        );
-        // SAFETY: the slices are valid and apart.
-        let code = unsafe {
-            match &room {
-                None => simjorad_closed(
-                    page_loan.ptr(),
-                    page_length,
-                    queries_loan.ptr(),
-                    queries.len(),
-                    scratch_loan.ptr_mut(),
-                    scratch_length,
-                    answers_loan.ptr_mut(),
-                    answers_length,
-                ),
-                Some((loan, length)) => simjorad_closed_indexed(
-                    page_loan.ptr(),
-                    page_length,
-                    queries_loan.ptr(),
-                    queries.len(),
-                    scratch_loan.ptr_mut(),
-                    scratch_length,
-                    answers_loan.ptr_mut(),
-                    answers_length,
-                    loan.ptr_mut(),
-                    *length,
-                ),
-            }
-        };
-        slot::mine().leave();
-        self.calls += 1;
+        let slices = [
+            Self::note(page, page_loan.ptr() as usize),
+            Self::note(queries, queries_start),
+            Self::note(scratch, scratch_loan.ptr() as usize),
+            Self::note(answers, answers_loan.ptr() as usize),
+            Self::note_room(workspace.as_deref(), &room),
+        ];
+        let mut arguments = vec![
+            page_loan.ptr() as usize,
+            page_length,
+            queries_start,
+            queries.len(),
+            scratch_loan.ptr_mut() as usize,
+            scratch_length,
+            answers_loan.ptr_mut() as usize,
+            answers_length,
+        ];
+        let mut call = Call::Closed;
+        if let Some((loan, length)) = &room {
+            arguments.extend([loan.ptr_mut() as usize, *length]);
+            call = Call::ClosedIndexed;
+        }
+        let code = self.call(call, 0, &slices, &arguments)? as i32;
         page_loan.end_const("page", page)?;
         queries_loan.end_const("queries", queries)?;
         scratch_loan.end_mut("scratch", scratch)?;

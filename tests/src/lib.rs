@@ -10,8 +10,8 @@
 //! - `cargo run --release -- attach PATH` tests the program `attach` at that path.
 //! - `cargo run --release -- documents PATH` builds and runs the C examples and the C test (gcc), and makes every figure of the
 //!   documents again, with the program `attach` at that path.
-//! - With `--features selfcheck` the reference solver stands in for the library; `mutants` then plants one
-//!   fault after another and tells which cases notice.
+//! - `cargo run --release -- mutants` tries the tests themselves: the reference solver stands in for the library and for `attach`,
+//!   one fault after another is planted in it, and each must be noticed by the case that is named beside it (`standin::FAULTS`).
 
 pub mod answer;
 pub mod area;
@@ -20,11 +20,9 @@ pub mod body;
 pub mod book;
 pub mod cases;
 pub mod closed;
-#[cfg(target_arch = "x86_64")]
 pub mod documents;
 pub mod engine;
 pub mod enumerate;
-#[cfg(target_arch = "x86_64")]
 pub mod examples;
 pub mod ffi;
 pub mod gen;
@@ -38,9 +36,7 @@ pub mod rng;
 pub mod runner;
 pub mod slot;
 pub mod spoil;
-#[cfg(target_arch = "x86_64")]
 pub mod stack;
-#[cfg(feature = "selfcheck")]
 pub mod standin;
 pub mod trial;
 pub mod workspace;

@@ -1,11 +1,11 @@
 //! The test program; see the library's notes for its arguments.
 
-use std::path::PathBuf;
 use std::process::exit;
 
 use outside::{attach, cases, runner};
 
-const USAGE: &str = "arguments: none | quick | only TEXT | stack | attach PATH | documents PATH";
+const USAGE: &str =
+    "arguments: none | quick | only TEXT | stack | attach PATH | documents PATH | mutants [all]";
 
 fn main() {
     let arguments: Vec<String> = std::env::args().skip(1).collect();
@@ -14,25 +14,31 @@ fn main() {
         [] => runner::run(&cases::all(), 1, ""),
         ["quick"] => runner::run(&cases::all(), 10, ""),
         ["only", text] => runner::run(&cases::all(), 1, text),
-        #[cfg(target_arch = "x86_64")]
+        ["quick", "only", text] => runner::run(&cases::all(), 10, text),
         ["stack"] => {
             let good = runner::run(&cases::stack::cases(), 1, "");
             cases::stack::print();
             good
         }
         ["attach", path] => {
-            let _ = attach::PROGRAM.set(PathBuf::from(path));
+            let _ = attach::PROGRAM.set(vec![path.to_string()]);
             runner::run(&attach::cases(), 1, "")
         }
-        #[cfg(target_arch = "x86_64")]
+        ["attach", "standin", "only", text] => {
+            let program = std::env::current_exe().expect("the program knows its own place");
+            let program = program.to_string_lossy().into_owned();
+            let _ = attach::PROGRAM.set(vec![program, "standin-attach".to_string()]);
+            runner::run(&attach::cases(), 10, text)
+        }
         ["documents", path] => {
-            let _ = attach::PROGRAM.set(PathBuf::from(path));
+            let _ = attach::PROGRAM.set(vec![path.to_string()]);
             let mut cases = outside::examples::cases();
             cases.extend(outside::documents::cases());
             runner::run(&cases, 1, "")
         }
-        #[cfg(feature = "selfcheck")]
-        ["mutants"] => outside::standin::mutants(),
+        ["mutants"] => outside::standin::mutants(false),
+        ["mutants", "all"] => outside::standin::mutants(true),
+        ["standin-attach"] => exit(outside::standin::attach()),
         _ => {
             eprintln!("{USAGE}");
             exit(2);

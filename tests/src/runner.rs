@@ -2,20 +2,28 @@
 
 use std::cell::RefCell;
 use std::collections::BTreeMap;
+use std::ffi::c_void;
 use std::io::Write;
 use std::panic::{self, AssertUnwindSafe};
 use std::sync::atomic::{AtomicBool, AtomicPtr, AtomicU64, AtomicUsize, Ordering::SeqCst};
 use std::sync::{mpsc, Mutex};
 use std::thread;
-use std::time::Duration;
+use std::time::{Duration, Instant};
 
 use crate::answer::Refusal;
+use crate::guard::{self, Region};
 use crate::rng::seed_of;
 use crate::slot::{self, WORKERS};
 use crate::trial::{Check, Trial};
 
-/// An item that takes longer counts as a stall and ends the run.
-const STALL_SECONDS: u64 = 100;
+/// A call, or the work between two calls, that takes longer counts as a stall and ends the run.
+const STALL_SECONDS: u64 = 60;
+
+/// The stack of a worker.
+const WORKER_STACK: usize = 1 << 20;
+
+/// The stack on which a fault is reported.
+const REPORT_STACK: usize = 1 << 18;
 
 /// A named case.
 pub struct Case {
@@ -38,8 +46,28 @@ thread_local! {
     static PANIC: RefCell<String> = const { RefCell::new(String::new()) };
 }
 
+/// As the C library has it on x86-64.
+#[repr(C)]
+struct Action {
+    handler: usize,
+    mask: [u64; 16],
+    flags: i32,
+    restorer: usize,
+}
+
+#[repr(C)]
+struct AlternateStack {
+    start: *mut c_void,
+    flags: i32,
+    size: usize,
+}
+
+const ON_ALTERNATE_STACK: i32 = 0x0800_0000;
+const WITH_INFORMATION: i32 = 4;
+
 extern "C" {
-    fn signal(number: i32, handler: usize) -> usize;
+    fn sigaction(number: i32, action: *const Action, old: *mut Action) -> i32;
+    fn sigaltstack(stack: *const AlternateStack, old: *mut AlternateStack) -> i32;
     fn _exit(code: i32) -> !;
     fn write(fd: i32, bytes: *const u8, length: usize) -> isize;
 }
@@ -86,9 +114,15 @@ fn die(text: String) -> ! {
 }
 
 /// Reports a fault inside a call; the calls allocate nothing, so the report may.
-extern "C" fn on_signal(number: i32) {
+extern "C" fn on_signal(number: i32, information: *const usize, _: *const c_void) {
+    // SAFETY: the third word of the information is the address of a memory fault.
+    let address = unsafe { *information.add(2) };
     let what = match number {
-        11 | 7 => "memory outside the lent slices is touched",
+        11 | 7 => match guard::region(address) {
+            Some(Region::ReadOnly) => "a slice that is only read is written",
+            Some(Region::Stack) => "the call takes more stack than the header says",
+            None => "memory outside the lent slices is touched",
+        },
         6 => "the call aborts",
         4 => "the call traps",
         _ => "the call raises an arithmetic fault",
@@ -104,27 +138,47 @@ extern "C" fn on_signal(number: i32) {
 }
 
 fn install_handlers() {
+    let action = Action {
+        handler: on_signal as *const () as usize,
+        mask: [0; 16],
+        flags: ON_ALTERNATE_STACK | WITH_INFORMATION,
+        restorer: 0,
+    };
     for number in [4, 6, 7, 8, 11] {
         // SAFETY: the handler has the type that the C library calls.
-        unsafe {
-            signal(number, on_signal as *const () as usize);
-        }
+        unsafe { sigaction(number, &action, std::ptr::null_mut()) };
     }
     panic::set_hook(Box::new(|info| {
         PANIC.with(|text| *text.borrow_mut() = info.to_string().replace('\n', " "));
     }));
 }
 
+/// Gives this thread a stack on which a fault of its own stack can be reported.
+fn report_stack() {
+    let memory = Box::leak(vec![0u8; REPORT_STACK].into_boxed_slice());
+    let stack = AlternateStack {
+        start: memory.as_mut_ptr() as *mut c_void,
+        flags: 0,
+        size: REPORT_STACK,
+    };
+    // SAFETY: the memory is never freed.
+    unsafe { sigaltstack(&stack, std::ptr::null_mut()) };
+}
+
 /// The outcome of one case.
 struct Outcome {
     pages: u64,
     calls: u64,
+    /// The time of the case and of its longest call.
+    time: Duration,
+    longest: Duration,
     /// The lowest failing item and why it fails.
     failure: Option<(u64, String)>,
 }
 
 fn run_case(case: &Case, items: u64, trials: &mut [Trial]) -> Outcome {
     set_name(case.name);
+    let start = Instant::now();
     let next = AtomicU64::new(0);
     let first_failure = AtomicU64::new(u64::MAX);
     let failures: Mutex<BTreeMap<u64, String>> = Mutex::new(BTreeMap::new());
@@ -133,8 +187,10 @@ fn run_case(case: &Case, items: u64, trials: &mut [Trial]) -> Outcome {
         for (worker, trial) in trials.iter_mut().enumerate() {
             let (next, first_failure, failures) = (&next, &first_failure, &failures);
             let done = done.clone();
-            scope.spawn(move || {
+            let builder = thread::Builder::new().stack_size(WORKER_STACK);
+            let work = move || {
                 slot::take(worker);
+                report_stack();
                 loop {
                     let item = next.fetch_add(1, SeqCst);
                     if item >= items || item > first_failure.load(SeqCst) {
@@ -156,7 +212,8 @@ fn run_case(case: &Case, items: u64, trials: &mut [Trial]) -> Outcome {
                         .insert(item, reason);
                 }
                 let _ = done.send(());
-            });
+            };
+            builder.spawn_scoped(scope, work).expect("a thread starts");
         }
         let mut left = WORKERS;
         while left > 0 {
@@ -167,7 +224,7 @@ fn run_case(case: &Case, items: u64, trials: &mut [Trial]) -> Outcome {
             for slot in slot::all() {
                 if slot.seconds() > STALL_SECONDS {
                     die(format!(
-                        "FAILED {}: no end after {STALL_SECONDS} s in call {}; item {}, seed {:#018x}",
+                        "FAILED {}: no end after {STALL_SECONDS} s, in call {}; item {}, seed {:#018x}",
                         case.name,
                         slot.call(),
                         slot.item(),
@@ -180,12 +237,15 @@ fn run_case(case: &Case, items: u64, trials: &mut [Trial]) -> Outcome {
     let mut outcome = Outcome {
         pages: 0,
         calls: 0,
+        time: start.elapsed(),
+        longest: Duration::ZERO,
         failure: failures.into_inner().expect("no worker dies").pop_first(),
     };
     let mut seen = BTreeMap::new();
     for trial in trials.iter_mut() {
         outcome.pages += trial.pages;
         outcome.calls += trial.engine.calls;
+        outcome.longest = outcome.longest.max(trial.engine.longest);
         for (what, count) in &trial.seen {
             *seen.entry(*what).or_insert(0) += count;
         }
@@ -215,8 +275,12 @@ pub fn run(cases: &[Case], share: u64, only: &str) -> bool {
             None => {
                 PASSED.fetch_add(1, SeqCst);
                 println!(
-                    "ok {} ({} pages, {} calls)",
-                    case.name, outcome.pages, outcome.calls
+                    "ok {} ({} pages, {} calls; {:.1} s, longest call {:.1} s)",
+                    case.name,
+                    outcome.pages,
+                    outcome.calls,
+                    outcome.time.as_secs_f64(),
+                    outcome.longest.as_secs_f64()
                 );
             }
             Some((item, reason)) => {

@@ -6,24 +6,11 @@ use std::sync::atomic::{AtomicU64, AtomicUsize, Ordering::SeqCst};
 use std::sync::OnceLock;
 use std::time::Instant;
 
+use crate::ffi::{Call, CALLS};
 use crate::guard::SLICES;
 use crate::input::{shown_numbers, shown_text};
 
 pub const WORKERS: usize = 2;
-
-/// The calls by number; 0 is none.
-pub const CALLS: [&str; 10] = [
-    "none",
-    "read",
-    "show_line",
-    "open",
-    "evaluate",
-    "drive",
-    "drive_indexed",
-    "value",
-    "closed",
-    "closed_indexed",
-];
 
 /// One slice of the call under way: start, length and bytes per number.
 #[derive(Default)]
@@ -35,9 +22,10 @@ struct Seen {
 
 #[derive(Default)]
 pub struct Slot {
+    /// The call under way, from 1; 0 is none.
     call: AtomicUsize,
     item: AtomicU64,
-    /// Milliseconds since the program's start; 0 while idle.
+    /// Milliseconds from the program's start to that of the item or of the call; 0 while idle.
     since: AtomicU64,
     numbers: [AtomicU64; 1],
     slices: [Seen; SLICES],
@@ -84,10 +72,13 @@ impl Slot {
     }
 
     pub fn call(&self) -> &'static str {
-        CALLS[self.call.load(SeqCst)]
+        match self.call.load(SeqCst) {
+            0 => "none",
+            number => CALLS[number - 1].name(),
+        }
     }
 
-    /// Seconds since the item under way began.
+    /// Seconds since the item or the call under way began.
     pub fn seconds(&self) -> u64 {
         match self.since.load(SeqCst) {
             0 => 0,
@@ -95,9 +86,8 @@ impl Slot {
         }
     }
 
-    /// Notes the call that begins: its name, its number argument and its slices.
-    pub fn enter(&self, call: &str, number: u64, slices: &[(usize, usize, usize)]) {
-        let index = CALLS.iter().position(|name| *name == call).unwrap_or(0);
+    /// Notes the call that begins: its number argument and its slices.
+    pub fn enter(&self, call: Call, number: u64, slices: &[(usize, usize, usize)]) {
         self.numbers[0].store(number, SeqCst);
         for (place, seen) in self.slices.iter().enumerate() {
             let (start, length, width) = slices.get(place).copied().unwrap_or((0, 0, 0));
@@ -105,7 +95,8 @@ impl Slot {
             seen.length.store(length, SeqCst);
             seen.width.store(width, SeqCst);
         }
-        self.call.store(index, SeqCst);
+        self.since.store(now(), SeqCst);
+        self.call.store(call as usize + 1, SeqCst);
     }
 
     pub fn leave(&self) {

@@ -1,14 +1,20 @@
 //! The stack that a call takes (x86-64).
 //!
-//! A call is made on a stack of its own, painted with one byte. The deepest byte that is no longer the painted one tells how
+//! Every call is made on a stack of its own that ends where the header says, with nothing accessible below: a call that takes
+//! more faults. To measure, the stack is painted with one byte; the deepest byte that is no longer the painted one tells how
 //! far the call went. Two paints, since a call may write a byte that is the same as the paint.
 
 use std::arch::global_asm;
+use std::sync::OnceLock;
 
+use crate::ffi::{stands_in, Call, CALLS};
 use crate::guard::Mapping;
 
 /// Bytes of the painted stack.
 const ROOM: usize = 256 * 1024;
+
+/// The stack of the stand-in, which is the reference solver and does not keep to the header's figures.
+pub const STANDIN_STACK: usize = 128 * 1024;
 
 /// Arguments that go in registers.
 const IN_REGISTERS: usize = 6;
@@ -74,8 +80,20 @@ impl Default for Stack {
 impl Stack {
     pub fn new() -> Stack {
         Stack {
-            memory: Mapping::new(ROOM),
+            memory: Mapping::for_stack(ROOM),
         }
+    }
+
+    /// Makes a call that has no more stack than the header says.
+    ///
+    /// # Safety
+    /// The arguments are good for the function.
+    pub unsafe fn limited(&mut self, call: Call, arguments: &[usize]) -> usize {
+        let mut padded = [0; 10];
+        padded[..arguments.len()].copy_from_slice(arguments);
+        let more = arguments.len().saturating_sub(IN_REGISTERS);
+        let top = self.memory.first().add(stated_stack(call));
+        outside_call_on(top, call.function(), padded.as_ptr(), more)
     }
 
     /// What the function returns, and the bytes of stack that it takes, its return address and its arguments
@@ -113,6 +131,26 @@ impl Stack {
         let kept = painted.iter().take_while(|byte| **byte == paint).count();
         (answer, self.memory.usable - kept)
     }
+}
+
+/// The name of a function's figure in the header.
+pub fn stack_figure(call: Call) -> String {
+    format!("SIMJORAD_STACK_{}", call.name().to_uppercase())
+}
+
+/// The stack that a call may take: the header's figure, in whole units of the stack's alignment.
+fn stated_stack(call: Call) -> usize {
+    static STATED: OnceLock<[usize; CALLS.len()]> = OnceLock::new();
+    STATED.get_or_init(|| {
+        CALLS.map(|call| {
+            let stated = if stands_in() {
+                STANDIN_STACK
+            } else {
+                header_figure(&stack_figure(call)).unwrap_or(0)
+            };
+            stated.next_multiple_of(16)
+        })
+    })[call as usize]
 }
 
 /// The header, whose figures bind.

@@ -1,115 +1,119 @@
-//! The C interface made from the reference solver (feature `selfcheck`), to try the tests on.
+//! The C interface and the program `attach` made from the reference solver, to try the tests on.
 //!
-//! The variable STANDIN_FAULT plants one of the faults below; a good test run then fails.
+//! They are under test where the variable STANDIN_FAULT is set. Its value plants one of the faults below, or none if it is empty.
+//! With a fault planted, a good test run fails.
 
+use std::io::{Read, Write};
 use std::process::Command;
 use std::sync::{Mutex, OnceLock};
 
 use crate::answer::*;
 use crate::area::{self, held_pairs, NOT_REACHED_MARK, REACHED_MARK, WAITING_MARK};
+use crate::attach;
 use crate::body::{combine, Pair};
 use crate::closed;
+use crate::ffi::Call;
 use crate::page::{self, Line, Op, Page};
 use crate::plain::{self, check_queries};
 use crate::reach;
 use crate::workspace;
 
-/// The faults that can be planted.
-pub const FAULTS: &[&str] = &[
+/// The faults that can be planted, each with the words of the run that notices it and the case that does.
+pub const FAULTS: &[(&str, &str, &str)] = &[
     // Read a page and show a line.
-    "line_number_from_zero",
-    "line_not_set_to_zero_on_success",
-    "area_written_past_used_length",
-    "refused_read_writes_area",
-    "leading_zero_accepted",
-    "carriage_return_accepted",
-    "unended_page_accepted",
-    "second_head_line_accepted",
-    "range_before_form",
-    "line_1026_judged_by_its_form",
-    "short_area_before_bad_line",
-    "text_of_65535_bytes_too_long",
-    "last_unended_line_not_shown",
-    "show_number_cut_to_32_bits",
+    ("line_number_from_zero", "", ""),
+    ("line_not_set_to_zero_on_success", "", ""),
+    ("area_written_past_used_length", "", ""),
+    ("refused_read_writes_area", "", ""),
+    ("leading_zero_accepted", "", ""),
+    ("carriage_return_accepted", "", ""),
+    ("unended_page_accepted", "", ""),
+    ("second_head_line_accepted", "", ""),
+    ("range_before_form", "", ""),
+    ("line_1026_judged_by_its_form", "", ""),
+    ("short_area_before_bad_line", "", ""),
+    ("text_of_65535_bytes_too_long", "", ""),
+    ("last_unended_line_not_shown", "", ""),
+    ("show_number_cut_to_32_bits", "", ""),
     // Soundness.
-    "literal_range_unchecked",
-    "query_tail_unchecked",
-    "kind_cut_to_a_byte",
-    "lines_may_fall_short_of_used_length",
-    "used_length_trusted_past_the_slice",
-    "mark_0_interval_unchecked",
-    "mark_3_accepted",
-    "high_above_top_accepted",
+    ("literal_range_unchecked", "", ""),
+    ("query_tail_unchecked", "", ""),
+    ("kind_cut_to_a_byte", "", ""),
+    ("lines_may_fall_short_of_used_length", "", ""),
+    ("used_length_trusted_past_the_slice", "", ""),
+    ("mark_0_interval_unchecked", "", ""),
+    ("mark_3_accepted", "", ""),
+    ("high_above_top_accepted", "", ""),
     // Open a run.
-    "edges_counted_per_literal",
-    "reach_only_direct",
-    "reach_ignores_negated_literals",
-    "refused_open_writes",
-    "query_range_before_count",
-    "list_of_17_accepted",
-    "open_clears_past_3c",
-    "open_solves_at_once",
+    ("edges_counted_per_literal", "", ""),
+    ("reach_only_direct", "", ""),
+    ("reach_ignores_negated_literals", "", ""),
+    ("refused_open_writes", "", ""),
+    ("query_range_before_count", "", ""),
+    ("list_of_17_accepted", "", ""),
+    ("open_clears_past_3c", "", ""),
+    ("open_solves_at_once", "", ""),
     // Evaluate.
-    "wake_only_when_low_rises",
-    "wake_nobody",
-    "wake_unreached",
-    "wake_self_always",
-    "wake_unless_unchanged_ignored",
-    "mark_kept_waiting",
-    "refused_evaluate_writes",
-    "evaluate_changes_nothing",
-    "condition_cut_to_16_bits",
-    "queries_wake_too",
+    ("wake_only_when_low_rises", "", ""),
+    ("wake_nobody", "", ""),
+    ("wake_unreached", "", ""),
+    ("wake_self_always", "", ""),
+    ("wake_unless_unchanged_ignored", "", ""),
+    ("mark_kept_waiting", "", ""),
+    ("refused_evaluate_writes", "", ""),
+    ("evaluate_changes_nothing", "", ""),
+    ("condition_cut_to_16_bits", "", ""),
+    ("queries_wake_too", "", ""),
     // Body values.
-    "negate_without_exchange",
-    "round_up_high_end",
-    "product_divided_once",
-    "fold_right_to_left",
-    "no_lines_unknown",
-    "smallest_over_lines",
-    "facts_hide_rules",
+    ("negate_without_exchange", "", ""),
+    ("round_up_high_end", "", ""),
+    ("product_divided_once", "", ""),
+    ("fold_right_to_left", "", ""),
+    ("no_lines_unknown", "", ""),
+    ("smallest_over_lines", "", ""),
+    ("facts_hide_rules", "", ""),
     // Drive and value.
-    "drive_highest_first",
-    "drive_in_rounds",
-    "drive_count_one_more",
-    "drive_count_is_allowance",
-    "drive_spent_when_just_enough",
-    "drive_allowance_cut_to_16_bits",
-    "drive_sets_taken_on_refusal",
-    "value_rest_of_one_condition",
-    "value_of_unreached",
+    ("drive_highest_first", "", ""),
+    ("drive_in_rounds", "", ""),
+    ("drive_count_one_more", "", ""),
+    ("drive_count_is_allowance", "", ""),
+    ("drive_spent_when_just_enough", "", ""),
+    ("drive_allowance_cut_to_16_bits", "", ""),
+    ("drive_sets_taken_on_refusal", "", ""),
+    ("value_rest_of_one_condition", "", ""),
+    ("value_of_unreached", "", ""),
     // Closed reading.
-    "closed_is_plain",
-    "support_from_top",
-    "loops_read_zero",
-    "closed_stops_after_two_rounds",
-    "answers_in_sorted_order",
-    "scratch_half_zeroed",
-    "scratch_zeroed_past_6c",
-    "short_answers_written",
+    ("closed_is_plain", "", ""),
+    ("support_from_top", "", ""),
+    ("loops_read_zero", "", ""),
+    ("closed_stops_after_two_rounds", "", ""),
+    ("answers_in_sorted_order", "", ""),
+    ("scratch_half_zeroed", "", ""),
+    ("scratch_zeroed_past_6c", "", ""),
+    ("short_answers_written", "", ""),
     // Workspaces.
-    "workspace_left_filled",
-    "workspace_half_zeroed",
-    "workspace_zeroed_past_the_index",
-    "workspace_index_one_short",
-    "workspace_index_one_longer",
-    "workspace_index_without_literals",
-    "workspace_touched_when_too_short",
-    "workspace_too_short_is_refused",
-    "workspace_touched_on_refusal",
-    "workspace_content_trusted",
-    "workspace_written_past_the_end",
-    "indexed_drive_ignores_negated_literals",
-    "indexed_closed_is_plain",
+    ("workspace_left_filled", "", ""),
+    ("workspace_half_zeroed", "", ""),
+    ("workspace_zeroed_past_the_index", "", ""),
+    ("workspace_index_one_short", "", ""),
+    ("workspace_index_one_longer", "", ""),
+    ("workspace_index_without_literals", "", ""),
+    ("workspace_touched_when_too_short", "", ""),
+    ("workspace_too_short_is_refused", "", ""),
+    ("workspace_touched_on_refusal", "", ""),
+    ("workspace_content_trusted", "", ""),
+    ("workspace_written_past_the_end", "", ""),
+    ("indexed_drive_ignores_negated_literals", "", ""),
+    ("indexed_closed_is_plain", "", ""),
     // Stack.
-    "drive_takes_much_stack",
+    ("drive_takes_much_stack", "", ""),
     // Memory.
-    "page_read_past_the_end",
-    "page_read_before_the_start",
-    "run_written_past_the_end",
-    "run_read_past_3c",
-    "page_written",
-    "last_page_remembered",
+    ("page_read_past_the_end", "", ""),
+    ("page_read_before_the_start", "", ""),
+    ("run_written_past_the_end", "", ""),
+    ("run_read_past_3c", "", ""),
+    ("page_written", "", ""),
+    ("last_page_remembered", "", ""),
 ];
 
 fn planted() -> &'static str {
@@ -118,8 +122,46 @@ fn planted() -> &'static str {
 }
 
 fn fault(name: &str) -> bool {
-    debug_assert!(FAULTS.contains(&name), "{name} is not listed");
+    debug_assert!(
+        FAULTS.iter().any(|(listed, _, _)| *listed == name),
+        "{name} is not listed"
+    );
     planted() == name
+}
+
+/// The function that stands in for a call.
+pub fn function(call: Call) -> *const () {
+    match call {
+        Call::Read => simjorad_read as *const (),
+        Call::ShowLine => simjorad_show_line as *const (),
+        Call::Open => simjorad_open as *const (),
+        Call::Evaluate => simjorad_evaluate as *const (),
+        Call::Drive => simjorad_drive as *const (),
+        Call::DriveIndexed => simjorad_drive_indexed as *const (),
+        Call::Value => simjorad_value as *const (),
+        Call::Closed => simjorad_closed as *const (),
+        Call::ClosedIndexed => simjorad_closed_indexed as *const (),
+    }
+}
+
+/// The program `attach`; its exit status.
+pub fn attach() -> i32 {
+    let mut text = Vec::new();
+    let read = std::io::stdin().read_to_end(&mut text);
+    let mut output = attach::expected(&text);
+    if fault("attach_skips_the_last_query") && output.contains("\nend,2\n") {
+        let lines: Vec<&str> = output.lines().collect();
+        output = [&lines[..lines.len() - 2], &["end,1", ""]]
+            .concat()
+            .join("\n");
+    }
+    if fault("attach_writes_to_standard_error") {
+        eprintln!("page read");
+    }
+    if read.is_err() || std::io::stdout().write_all(output.as_bytes()).is_err() {
+        return 2;
+    }
+    i32::from(fault("attach_ends_with_1_for_a_refused_page") && output.starts_with("refused"))
 }
 
 unsafe fn lent<'a, T>(start: *const T, length: usize) -> &'a [T] {
@@ -553,10 +595,7 @@ fn read_text(text: &[u8], area: &mut [u16]) -> Result<usize, ReadRefusal> {
     Err(refusal)
 }
 
-/// # Safety
-/// The slices and the out-parameter are valid and apart.
-#[no_mangle]
-pub unsafe extern "C" fn simjorad_read(
+unsafe extern "C" fn simjorad_read(
     text: *const u8,
     text_length: usize,
     area: *mut u16,
@@ -577,10 +616,7 @@ pub unsafe extern "C" fn simjorad_read(
     }
 }
 
-/// # Safety
-/// The slice and the out-parameter are valid and apart.
-#[no_mangle]
-pub unsafe extern "C" fn simjorad_show_line(
+unsafe extern "C" fn simjorad_show_line(
     text: *const u8,
     text_length: usize,
     number: usize,
@@ -667,10 +703,7 @@ fn open(page_area: &[u16], queries: &[u16], run: &mut [u16]) -> Result<Opened, R
     Ok(opened)
 }
 
-/// # Safety
-/// The slices and the out-parameters are valid and apart.
-#[no_mangle]
-pub unsafe extern "C" fn simjorad_open(
+unsafe extern "C" fn simjorad_open(
     page: *const u16,
     page_length: usize,
     queries: *const u16,
@@ -722,10 +755,7 @@ fn evaluate(page_area: &[u16], run: &mut [u16], cond: u32) -> Result<bool, Refus
     Ok(step(&page, run, cond))
 }
 
-/// # Safety
-/// The slices are valid and apart.
-#[no_mangle]
-pub unsafe extern "C" fn simjorad_evaluate(
+unsafe extern "C" fn simjorad_evaluate(
     page: *const u16,
     page_length: usize,
     run: *mut u16,
@@ -791,10 +821,7 @@ fn take_stack() {
     }
 }
 
-/// # Safety
-/// The slices and the out-parameter are valid and apart.
-#[no_mangle]
-pub unsafe extern "C" fn simjorad_drive(
+unsafe extern "C" fn simjorad_drive(
     page: *const u16,
     page_length: usize,
     run: *mut u16,
@@ -877,10 +904,7 @@ fn without_negations(page_area: &[u16]) -> Vec<u16> {
     area::encode(&page)
 }
 
-/// # Safety
-/// The slices and the out-parameter are valid and apart.
-#[no_mangle]
-pub unsafe extern "C" fn simjorad_drive_indexed(
+unsafe extern "C" fn simjorad_drive_indexed(
     page: *const u16,
     page_length: usize,
     run: *mut u16,
@@ -928,10 +952,7 @@ fn value(page_area: &[u16], run: &[u16], cond: u32) -> Result<Valued, Refusal> {
     })
 }
 
-/// # Safety
-/// The slices and the out-parameters are valid and apart.
-#[no_mangle]
-pub unsafe extern "C" fn simjorad_value(
+unsafe extern "C" fn simjorad_value(
     page: *const u16,
     page_length: usize,
     run: *const u16,
@@ -988,10 +1009,7 @@ fn closed_call(
     Ok(())
 }
 
-/// # Safety
-/// The slices are valid and apart.
-#[no_mangle]
-pub unsafe extern "C" fn simjorad_closed(
+unsafe extern "C" fn simjorad_closed(
     page: *const u16,
     page_length: usize,
     queries: *const u16,
@@ -1013,10 +1031,7 @@ pub unsafe extern "C" fn simjorad_closed(
     }
 }
 
-/// # Safety
-/// The slices are valid and apart.
-#[no_mangle]
-pub unsafe extern "C" fn simjorad_closed_indexed(
+unsafe extern "C" fn simjorad_closed_indexed(
     page: *const u16,
     page_length: usize,
     queries: *const u16,
@@ -1050,30 +1065,52 @@ pub unsafe extern "C" fn simjorad_closed_indexed(
     }
 }
 
-/// Runs a tenth of the tests once per planted fault and tells which cases notice it; true if all are noticed.
-pub fn mutants() -> bool {
-    let program = std::env::current_exe().expect("the program knows its own place");
+/// Plants one fault after another and runs the case that is named beside it, or all cases; true if every fault is noticed.
+pub fn mutants(every_case: bool) -> bool {
     let (mut noticed, mut missed) = (0, 0);
-    for name in FAULTS {
-        let output = Command::new(&program)
-            .arg("quick")
-            .env("STANDIN_FAULT", name)
-            .output()
-            .expect("the program starts");
-        let text = String::from_utf8_lossy(&output.stdout).into_owned();
-        let failing: Vec<&str> = text
-            .lines()
-            .filter_map(|line| line.strip_prefix("FAILED "))
-            .filter_map(|line| line.split(':').next())
-            .collect();
-        if output.status.success() || failing.is_empty() {
-            missed += 1;
-            println!("FAILED {name}: no case notices the fault");
-        } else {
+    for (name, words, case) in FAULTS {
+        let words = match every_case && !words.starts_with("attach") {
+            true => "quick",
+            false => words,
+        };
+        let failing = failing_cases(name, &words.replace("CASE", case));
+        if failing.iter().any(|failed| failed == case || every_case) {
             noticed += 1;
-            println!("ok {name} ({} cases, first {})", failing.len(), failing[0]);
+            println!("ok {name} ({})", failing.join(", "));
+        } else {
+            missed += 1;
+            println!("FAILED {name}: not noticed by {case}, only by {failing:?}");
         }
+    }
+    let clean = failing_cases("", "quick");
+    if clean.is_empty() {
+        noticed += 1;
+        println!("ok without a fault");
+    } else {
+        missed += 1;
+        println!("FAILED without a fault: {clean:?}");
     }
     println!("{noticed} passed, {missed} failed");
     missed == 0
+}
+
+/// The cases that fail with a fault planted.
+fn failing_cases(fault: &str, words: &str) -> Vec<String> {
+    let program = std::env::current_exe().expect("the program knows its own place");
+    let output = Command::new(&program)
+        .args(words.split(' '))
+        .env("STANDIN_FAULT", fault)
+        .output()
+        .expect("the program starts");
+    let text = String::from_utf8_lossy(&output.stdout).into_owned();
+    let failing: Vec<String> = text
+        .lines()
+        .filter_map(|line| line.strip_prefix("FAILED "))
+        .filter_map(|line| line.split(':').next())
+        .map(str::to_string)
+        .collect();
+    if failing.is_empty() && !output.status.success() {
+        return vec!["it ends without a report".to_string()];
+    }
+    failing
 }

@@ -3,6 +3,7 @@
 
 use std::collections::BTreeMap;
 use std::fmt::Debug;
+use std::time::Duration;
 
 use crate::answer::*;
 use crate::area::{self, decode};
@@ -96,6 +97,7 @@ impl Trial {
     pub fn clear(&mut self) {
         self.pages = 0;
         self.engine.calls = 0;
+        self.engine.longest = Duration::ZERO;
         self.seen.clear();
     }
 

@@ -8,7 +8,6 @@ mod reader;
 mod refusals;
 mod rows;
 mod runs;
-#[cfg(target_arch = "x86_64")]
 pub mod stack;
 
 use crate::runner::Case;
@@ -22,7 +21,6 @@ pub fn all() -> Vec<Case> {
     cases.extend(runs::cases());
     cases.extend(closed::cases());
     cases.extend(lists::cases());
-    #[cfg(target_arch = "x86_64")]
     cases.extend(stack::cases());
     cases
 }

@@ -4,12 +4,12 @@ use std::sync::atomic::{AtomicUsize, Ordering::SeqCst};
 
 use crate::answer::*;
 use crate::area::encode;
-use crate::ffi::*;
+use crate::ffi::{stands_in, Call};
 use crate::gen;
 use crate::page::Page;
 use crate::plain;
 use crate::runner::Case;
-use crate::stack::{header_figure, Stack};
+use crate::stack::{header_figure, Stack, STANDIN_STACK};
 use crate::trial::{figure, Check, Trial};
 use crate::workspace;
 
@@ -67,9 +67,6 @@ static FUNCTIONS: [&Function; 9] = [
     &CLOSED,
     &CLOSED_INDEXED,
 ];
-
-/// The reference solver does not keep to the figures; a planted fault goes far past this.
-const STANDIN_STACK: usize = 65_536;
 
 /// Evaluations of a drive.
 const ALLOWANCE: usize = 3000;
@@ -169,7 +166,7 @@ impl Bench<'_> {
         };
         self.trial.engine.calls += 2;
         function.deepest.fetch_max(depth, SeqCst);
-        let stated = if cfg!(feature = "selfcheck") {
+        let stated = if stands_in() {
             STANDIN_STACK
         } else {
             header_figure(function.figure)?
@@ -184,38 +181,38 @@ impl Bench<'_> {
     }
 
     fn read(&mut self, lent: &Lent) -> Check<i32> {
-        self.call(&READ, simjorad_read as *const (), lent, |lent| {
+        self.call(&READ, Call::Read.function(), lent, |lent| {
             [lent.text(), lent.area(), lent.out(0)].concat()
         })
     }
 
     fn show_line(&mut self, lent: &Lent, number: usize) -> Check<i32> {
-        self.call(&SHOW_LINE, simjorad_show_line as *const (), lent, |lent| {
+        self.call(&SHOW_LINE, Call::ShowLine.function(), lent, |lent| {
             [lent.text(), vec![number], lent.out(0)].concat()
         })
     }
 
     fn open(&mut self, lent: &Lent) -> Check<i32> {
-        self.call(&OPEN, simjorad_open as *const (), lent, |lent| {
+        self.call(&OPEN, Call::Open.function(), lent, |lent| {
             let slices = [lent.page(), lent.queries(), lent.area()].concat();
             [slices, lent.out(0), lent.out(1), lent.out(2)].concat()
         })
     }
 
     fn evaluate(&mut self, lent: &Lent, cond: usize) -> Check<i32> {
-        self.call(&EVALUATE, simjorad_evaluate as *const (), lent, |lent| {
+        self.call(&EVALUATE, Call::Evaluate.function(), lent, |lent| {
             [lent.page(), lent.area(), vec![cond]].concat()
         })
     }
 
     fn drive(&mut self, lent: &Lent) -> Check<i32> {
-        self.call(&DRIVE, simjorad_drive as *const (), lent, |lent| {
+        self.call(&DRIVE, Call::Drive.function(), lent, |lent| {
             [lent.page(), lent.area(), vec![ALLOWANCE], lent.out(0)].concat()
         })
     }
 
     fn drive_indexed(&mut self, lent: &Lent) -> Check<i32> {
-        let pointer = simjorad_drive_indexed as *const ();
+        let pointer = Call::DriveIndexed.function();
         self.call(&DRIVE_INDEXED, pointer, lent, |lent| {
             let slices = [lent.page(), lent.area(), lent.workspace()].concat();
             [slices, vec![ALLOWANCE], lent.out(0)].concat()
@@ -223,20 +220,20 @@ impl Bench<'_> {
     }
 
     fn value(&mut self, lent: &Lent, cond: usize) -> Check<i32> {
-        self.call(&VALUE, simjorad_value as *const (), lent, |lent| {
+        self.call(&VALUE, Call::Value.function(), lent, |lent| {
             let slices = [lent.page(), lent.area()].concat();
             [slices, vec![cond], lent.out(0), lent.out(1)].concat()
         })
     }
 
     fn closed(&mut self, lent: &Lent) -> Check<i32> {
-        self.call(&CLOSED, simjorad_closed as *const (), lent, |lent| {
+        self.call(&CLOSED, Call::Closed.function(), lent, |lent| {
             [lent.page(), lent.queries(), lent.area(), lent.answers()].concat()
         })
     }
 
     fn closed_indexed(&mut self, lent: &Lent) -> Check<i32> {
-        let pointer = simjorad_closed_indexed as *const ();
+        let pointer = Call::ClosedIndexed.function();
         self.call(&CLOSED_INDEXED, pointer, lent, |lent| {
             let slices = [lent.page(), lent.queries(), lent.area()].concat();
             [slices, lent.answers(), lent.workspace()].concat()
