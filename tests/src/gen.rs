@@ -159,6 +159,104 @@ pub fn page(rng: &mut Rng, size: Size) -> Page {
     }
 }
 
+/// A page of exactly this many conditions and lines, mostly rules.
+pub fn exact(rng: &mut Rng, count: u16, lines: usize) -> Page {
+    let mut plan = plan(rng, Size::Medium);
+    plan.count = count;
+    plan.heads = count;
+    plan.facts = 15;
+    plan.queries = 3;
+    plan.literals = rng.pick(&[(1, 2), (1, 3), (1, 8)]);
+    Page {
+        top: plan.top,
+        count,
+        lines: (0..lines).map(|_| line(rng, &plan)).collect(),
+    }
+}
+
+/// The page with its conditions numbered from the other end.
+pub fn reversed(page: &Page) -> Page {
+    let other = |cond: u16| page.count - 1 - cond;
+    let mut out = page.clone();
+    for line in &mut out.lines {
+        match line {
+            Line::Fact { cond, .. } | Line::Query { cond, .. } => *cond = other(*cond),
+            Line::Rule { head, body, .. } => {
+                *head = other(*head);
+                for literal in body {
+                    literal.cond = other(literal.cond);
+                }
+            }
+        }
+    }
+    out
+}
+
+/// A ring in which every turn adds 1, from a fact of 1 at the last condition: slow for whoever takes it the wrong way round.
+pub fn adding_ring(count: u16, top: u16) -> Page {
+    let last = count - 1;
+    let mut lines = vec![rule(0, top, Op::B, &[(1 % last, false), (last, false)])];
+    for cond in 1..last {
+        let next = if cond + 1 < last { cond + 1 } else { 0 };
+        lines.push(rule(cond, top, Op::M, &[(next, false)]));
+    }
+    lines.push(Line::Fact {
+        cond: last,
+        low: 1,
+        high: 1,
+    });
+    Page { top, count, lines }
+}
+
+/// Counters that add 1 for ever, each from when the one before it is at top.
+pub fn gated_counters(count: u16, top: u16) -> Page {
+    let step = count - 1;
+    let mut lines = vec![
+        Line::Fact {
+            cond: step,
+            low: 1,
+            high: 1,
+        },
+        rule(0, top, Op::B, &[(0, false), (step, false)]),
+    ];
+    for counter in 1..step / 2 {
+        let (gate, own) = (2 * counter - 1, 2 * counter);
+        lines.push(rule(gate, top, Op::L, &[(own - 2, false), (step, false)]));
+        lines.push(rule(own, top, Op::B, &[(own, false), (gate, false)]));
+    }
+    Page { top, count, lines }
+}
+
+/// A slow fall at the last condition, which each of the others follows through the (at most) four conditions above it.
+pub fn falling(count: u16, top: u16) -> Page {
+    let last = count - 1;
+    let mut lines = vec![rule(last, (top - 1).max(1), Op::M, &[(last, false)])];
+    for cond in 0..last {
+        let above: Vec<(u16, bool)> = (cond + 1..=(cond + 4).min(last))
+            .map(|other| (other, false))
+            .collect();
+        lines.push(rule(cond, top, Op::M, &above));
+    }
+    Page { top, count, lines }
+}
+
+/// Smallest and largest of eight under weights near top: slow to settle.
+pub fn slow_random(rng: &mut Rng, count: u16) -> Page {
+    let lines = (0..2 * count - 1)
+        .map(|number| Line::Rule {
+            head: number % count,
+            weight: rng.range(198, 200),
+            op: rng.pick(&[Op::M, Op::X, Op::X]),
+            body: (0..8).map(|_| literal(rng, count, 33)).collect(),
+        })
+        .collect();
+    Page {
+        top: TOP_MAX,
+        count,
+        lines,
+    }
+}
+
 /// Mostly small pages, some medium, a few large.
 pub fn any_page(rng: &mut Rng) -> Page {
     let size = match rng.below(100) {

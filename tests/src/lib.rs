@@ -1,7 +1,7 @@
 //! Outside tests of the rule-page engine, through its C interface.
 //!
 //! The reference solver is `page`, `area`, `body`, `reach`, `plain`, `book`, `closed` and `enumerate`; each
-//! names the section of document 01 that it implements. `workspace` says what an indexed form leaves there. The callee is reached through `ffi`, `guard` and
+//! names the section of document 01 that it implements. `fast` is a second one for large pages. `workspace` says what an indexed form leaves there. The callee is reached through `ffi`, `guard` and
 //! `engine`. `trial` compares the two, `gen` and `spoil` make the inputs, `cases` are the tests.
 //!
 //! - `cargo run --release` runs every case; add `only TEXT` for the cases whose name contains the text,
@@ -24,6 +24,7 @@ pub mod documents;
 pub mod engine;
 pub mod enumerate;
 pub mod examples;
+pub mod fast;
 pub mod ffi;
 pub mod gen;
 pub mod guard;

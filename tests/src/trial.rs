@@ -242,6 +242,56 @@ impl Trial {
         Ok(got)
     }
 
+    /// Drives a copy of the run in the form without a workspace; answer and run must be the wanted ones.
+    pub fn drive_scanning(
+        &mut self,
+        page: &[u16],
+        before: &[u16],
+        allowance: u32,
+        wanted: Driven,
+        expected: &[u16],
+    ) -> Check {
+        let mut run = before.to_vec();
+        let got = self.engine.drive(page, &mut run, allowance);
+        let input = drive_input("drive", page, before, allowance);
+        let got = got.map_err(|reason| breach(&input, reason))?;
+        same(&input, &got, &Ok(wanted))?;
+        same_numbers(&input, "run", &run, expected)?;
+        self.saw("drive", i32::from(wanted.rest));
+        Ok(())
+    }
+
+    /// Reads closed in the form with a workspace, and in the other too if asked; the answers must be the wanted ones.
+    pub fn closed_answers(
+        &mut self,
+        page: &[u16],
+        queries: &[u16],
+        wanted: &[u16],
+        scanning: bool,
+    ) -> Check {
+        let before = ClosedAreas {
+            scratch: self.rubbish(6 * usize::from(page[1])),
+            answers: self.rubbish(wanted.len()),
+        };
+        let expected = ClosedAreas {
+            scratch: vec![0; before.scratch.len()],
+            answers: wanted.to_vec(),
+        };
+        if scanning {
+            let mut areas = before.clone();
+            let got = self
+                .engine
+                .closed(page, queries, &mut areas.scratch, &mut areas.answers);
+            let input = closed_input("closed", page, queries, &before);
+            let got = got.map_err(|reason| breach(&input, reason))?;
+            same(&input, &got, &Ok(()))?;
+            areas.same(&input, &expected)?;
+            self.saw("closed", 0);
+        }
+        let needed = workspace::needed(page);
+        self.closed_in(page, queries, &before, (Ok(()), &expected), needed)
+    }
+
     /// Drives a copy of the run with workspaces of several lengths; answer, run and workspace must be the
     /// wanted ones.
     pub fn drive_indexed(
@@ -252,22 +302,35 @@ impl Trial {
         wanted: Result<Driven, Refusal>,
         expected: &[u16],
     ) -> Check {
-        let code = wanted.map_or_else(|number| number, |driven| i32::from(driven.rest));
         for length in self.workspace_lengths(page) {
-            let mut run = before.to_vec();
-            let mut lent = self.rubbish(length);
-            let left = workspace::after(page, wanted.is_ok(), &lent);
-            let got = self
-                .engine
-                .drive_indexed(page, &mut run, &mut lent, allowance);
-            let mut input = drive_input("drive_indexed", page, before, allowance);
-            input.numbers.push(("workspace_length", length as u64));
-            let got = got.map_err(|reason| breach(&input, reason))?;
-            same(&input, &got, &wanted)?;
-            same_numbers(&input, "run", &run, expected)?;
-            same_numbers(&input, "workspace", &lent, &left)?;
-            self.saw(with_room("drive_indexed", page, length), code);
+            self.drive_in(page, before, allowance, (wanted, expected), length)?;
         }
+        Ok(())
+    }
+
+    /// Drives a copy of the run with a workspace of this length; answer, run and workspace must be the wanted ones.
+    pub fn drive_in(
+        &mut self,
+        page: &[u16],
+        before: &[u16],
+        allowance: u32,
+        (wanted, expected): (Result<Driven, Refusal>, &[u16]),
+        length: usize,
+    ) -> Check {
+        let mut run = before.to_vec();
+        let mut lent = self.rubbish(length);
+        let left = workspace::after(page, wanted.is_ok(), &lent);
+        let got = self
+            .engine
+            .drive_indexed(page, &mut run, &mut lent, allowance);
+        let mut input = drive_input("drive_indexed", page, before, allowance);
+        input.numbers.push(("workspace_length", length as u64));
+        let got = got.map_err(|reason| breach(&input, reason))?;
+        same(&input, &got, &wanted)?;
+        same_numbers(&input, "run", &run, expected)?;
+        same_numbers(&input, "workspace", &lent, &left)?;
+        let code = wanted.map_or_else(|number| number, |driven| i32::from(driven.rest));
+        self.saw(with_room("drive_indexed", page, length), code);
         Ok(())
     }
 
@@ -338,25 +401,38 @@ impl Trial {
         expected: &ClosedAreas,
     ) -> Check {
         for length in self.workspace_lengths(page) {
-            let mut areas = before.clone();
-            let mut lent = self.rubbish(length);
-            let left = workspace::after(page, wanted.is_ok(), &lent);
-            let got = self.engine.closed_indexed(
-                page,
-                queries,
-                &mut areas.scratch,
-                &mut areas.answers,
-                &mut lent,
-            );
-            let mut input = closed_input("closed_indexed", page, queries, before);
-            input.numbers.push(("workspace_length", length as u64));
-            let got = got.map_err(|reason| breach(&input, reason))?;
-            same(&input, &got, &wanted)?;
-            areas.same(&input, expected)?;
-            same_numbers(&input, "workspace", &lent, &left)?;
-            let name = with_room("closed_indexed", page, length);
-            self.saw(name, wanted.err().unwrap_or(0));
+            self.closed_in(page, queries, before, (wanted, expected), length)?;
         }
+        Ok(())
+    }
+
+    /// Reads closed with a workspace of this length; answer, areas and workspace must be the wanted ones.
+    fn closed_in(
+        &mut self,
+        page: &[u16],
+        queries: &[u16],
+        before: &ClosedAreas,
+        (wanted, expected): (Result<(), Refusal>, &ClosedAreas),
+        length: usize,
+    ) -> Check {
+        let mut areas = before.clone();
+        let mut lent = self.rubbish(length);
+        let left = workspace::after(page, wanted.is_ok(), &lent);
+        let got = self.engine.closed_indexed(
+            page,
+            queries,
+            &mut areas.scratch,
+            &mut areas.answers,
+            &mut lent,
+        );
+        let mut input = closed_input("closed_indexed", page, queries, before);
+        input.numbers.push(("workspace_length", length as u64));
+        let got = got.map_err(|reason| breach(&input, reason))?;
+        same(&input, &got, &wanted)?;
+        areas.same(&input, expected)?;
+        same_numbers(&input, "workspace", &lent, &left)?;
+        let name = with_room("closed_indexed", page, length);
+        self.saw(name, wanted.err().unwrap_or(0));
         Ok(())
     }
 }

@@ -3,24 +3,30 @@
 mod areas;
 mod closed;
 mod figures;
+mod grades;
+mod large;
 mod lists;
 mod reader;
 mod refusals;
 mod rows;
 mod runs;
 pub mod stack;
+mod thresholds;
 
 use crate::runner::Case;
 
 pub fn all() -> Vec<Case> {
     let mut cases = figures::cases();
     cases.extend(rows::cases());
+    cases.extend(grades::cases());
     cases.extend(reader::cases());
     cases.extend(areas::cases());
     cases.extend(refusals::cases());
     cases.extend(runs::cases());
     cases.extend(closed::cases());
+    cases.extend(thresholds::cases());
     cases.extend(lists::cases());
+    cases.extend(large::cases());
     cases.extend(stack::cases());
     cases
 }

@@ -1,0 +1,251 @@
+//! A second reference for large pages: the same rules as `book` and `closed`, by worklists over indexes. It is itself compared with
+//! them on small pages.
+
+use crate::answer::Driven;
+use crate::area::{NOT_REACHED_MARK, REACHED_MARK, WAITING_MARK};
+use crate::body::{combine, Pair};
+use crate::page::{Line, Op, Page};
+
+/// A rule: its head is known from where it stands. A literal is 2 * condition, plus 1 if negated.
+struct Rule {
+    weight: u32,
+    op: Op,
+    literals: Vec<usize>,
+}
+
+/// A page by its heads.
+pub struct Index {
+    top: u16,
+    /// The facts of a condition put together: [largest low; largest high], [0;0] if it has none.
+    facts: Vec<Pair>,
+    rules: Vec<Vec<Rule>>,
+    /// The conditions with a rule that names a condition.
+    namers: Vec<Vec<usize>>,
+    /// Those with a rule that names it plain.
+    plain_namers: Vec<Vec<usize>>,
+}
+
+impl Index {
+    pub fn new(page: &Page) -> Index {
+        let count = usize::from(page.count);
+        let lists = || vec![Vec::new(); count];
+        let mut index = Index {
+            top: page.top,
+            facts: vec![Pair::new(0, 0); count],
+            rules: (0..count).map(|_| Vec::new()).collect(),
+            namers: lists(),
+            plain_namers: lists(),
+        };
+        for line in &page.lines {
+            match line {
+                Line::Fact { cond, low, high } => {
+                    let fact = &mut index.facts[usize::from(*cond)];
+                    *fact = Pair::new(fact.low.max(*low), fact.high.max(*high));
+                }
+                Line::Rule {
+                    head,
+                    weight,
+                    op,
+                    body,
+                } => {
+                    let head = usize::from(*head);
+                    for literal in body {
+                        let cond = usize::from(literal.cond);
+                        index.namers[cond].push(head);
+                        if !literal.negated {
+                            index.plain_namers[cond].push(head);
+                        }
+                    }
+                    index.rules[head].push(Rule {
+                        weight: u32::from(*weight),
+                        op: *op,
+                        literals: body
+                            .iter()
+                            .map(|literal| {
+                                2 * usize::from(literal.cond) + usize::from(literal.negated)
+                            })
+                            .collect(),
+                    });
+                }
+                Line::Query { .. } => {}
+            }
+        }
+        for lists in [&mut index.namers, &mut index.plain_namers] {
+            for list in lists.iter_mut() {
+                list.sort_unstable();
+                list.dedup();
+            }
+        }
+        index
+    }
+
+    fn count(&self) -> usize {
+        self.facts.len()
+    }
+
+    /// One end of T: the largest of the fact's and the rules', over that end of every literal.
+    fn end(&self, cond: usize, fact: u16, literal: impl Fn(usize) -> u16) -> u16 {
+        let mut best = fact;
+        for rule in &self.rules[cond] {
+            let mut value = literal(rule.literals[0]);
+            for other in &rule.literals[1..] {
+                value = combine(rule.op, self.top, value, literal(*other));
+            }
+            best = best.max((u32::from(value) * rule.weight / u32::from(self.top)) as u16);
+        }
+        best
+    }
+
+    /// T of a condition at the pairs held.
+    fn body(&self, cond: usize, held: &[Pair]) -> Pair {
+        let fact = self.facts[cond];
+        let low = self.end(cond, fact.low, |literal| match literal % 2 {
+            0 => held[literal / 2].low,
+            _ => self.top - held[literal / 2].high,
+        });
+        let high = self.end(cond, fact.high, |literal| match literal % 2 {
+            0 => held[literal / 2].high,
+            _ => self.top - held[literal / 2].low,
+        });
+        Pair::new(low, high)
+    }
+
+    /// Raises low or high ends from where they are to the least ones that no line raises further. `given` holds the other ends,
+    /// which decide the negations.
+    fn raise(&self, ends: &mut [u16], given: &[u16], fact: impl Fn(Pair) -> u16) {
+        let mut waits = vec![true; self.count()];
+        let mut stack: Vec<usize> = (0..self.count()).rev().collect();
+        while let Some(cond) = stack.pop() {
+            waits[cond] = false;
+            let value = self.end(cond, fact(self.facts[cond]), |literal| match literal % 2 {
+                0 => ends[literal / 2],
+                _ => self.top - given[literal / 2],
+            });
+            if value <= ends[cond] {
+                continue;
+            }
+            ends[cond] = value;
+            for namer in &self.plain_namers[cond] {
+                if !waits[*namer] {
+                    waits[*namer] = true;
+                    stack.push(*namer);
+                }
+            }
+        }
+    }
+
+    /// The closed reading. The least high ends over the low ends held are the support's; the least low ends over those high
+    /// ends are the next low ends; they rise from 0 until they stay.
+    pub fn closed(&self) -> Vec<Pair> {
+        let mut lows = vec![0; self.count()];
+        loop {
+            let mut highs = vec![0; self.count()];
+            self.raise(&mut highs, &lows, |pair| pair.high);
+            let before = lows.clone();
+            self.raise(&mut lows, &highs, |pair| pair.low);
+            if lows == before {
+                let ends = lows.iter().zip(&highs);
+                return ends.map(|(low, high)| Pair::new(*low, *high)).collect();
+            }
+        }
+    }
+}
+
+/// A run: the book over an index.
+#[derive(Clone)]
+pub struct Run<'a> {
+    index: &'a Index,
+    pub pairs: Vec<Pair>,
+    reached: Vec<bool>,
+    /// The waiting conditions, 64 to a word.
+    waiting: Vec<u64>,
+}
+
+impl<'a> Run<'a> {
+    pub fn open(index: &'a Index, queries: &[u16]) -> Run<'a> {
+        let count = index.count();
+        let mut reached = vec![false; count];
+        let mut stack: Vec<usize> = queries.iter().map(|query| usize::from(*query)).collect();
+        while let Some(cond) = stack.pop() {
+            if !reached[cond] {
+                reached[cond] = true;
+                let literals = index.rules[cond].iter().flat_map(|rule| &rule.literals);
+                stack.extend(literals.map(|literal| literal / 2));
+            }
+        }
+        let mut run = Run {
+            index,
+            pairs: vec![Pair::unknown(index.top); count],
+            waiting: vec![0; count.div_ceil(64)],
+            reached,
+        };
+        for cond in 0..count {
+            if run.reached[cond] {
+                run.wake(cond);
+            }
+        }
+        run
+    }
+
+    /// R, E and the bound.
+    pub fn measure(&self) -> (u32, u32, u32) {
+        let reached = self.reached.iter().filter(|reached| **reached).count() as u32;
+        let edges: usize = (0..self.pairs.len())
+            .filter(|cond| self.reached[*cond])
+            .map(|cond| {
+                let namers = self.index.namers[cond].iter();
+                namers.filter(|namer| self.reached[**namer]).count()
+            })
+            .sum();
+        let edges = edges as u32;
+        (reached, edges, reached + u32::from(self.index.top) * edges)
+    }
+
+    fn wake(&mut self, cond: usize) {
+        self.waiting[cond / 64] |= 1 << (cond % 64);
+    }
+
+    fn lowest(&self) -> Option<usize> {
+        let word = self.waiting.iter().position(|word| *word != 0)?;
+        Some(64 * word + self.waiting[word].trailing_zeros() as usize)
+    }
+
+    fn take(&mut self, cond: usize) {
+        self.waiting[cond / 64] &= !(1 << (cond % 64));
+        let value = self.index.body(cond, &self.pairs);
+        if value != self.pairs[cond] {
+            self.pairs[cond] = value;
+            for namer in &self.index.namers[cond] {
+                if self.reached[*namer] {
+                    self.wake(*namer);
+                }
+            }
+        }
+    }
+
+    pub fn drive(&mut self, allowance: u32) -> Driven {
+        let mut taken = 0;
+        while let Some(cond) = self.lowest() {
+            if taken == allowance {
+                return Driven { taken, rest: false };
+            }
+            self.take(cond);
+            taken += 1;
+        }
+        Driven { taken, rest: true }
+    }
+
+    /// The run area that this run stands for.
+    pub fn area(&self) -> Vec<u16> {
+        let mut area = Vec::with_capacity(3 * self.pairs.len());
+        for (cond, pair) in self.pairs.iter().enumerate() {
+            let mark = match self.reached[cond] {
+                false => NOT_REACHED_MARK,
+                true if self.waiting[cond / 64] >> (cond % 64) & 1 == 1 => WAITING_MARK,
+                true => REACHED_MARK,
+            };
+            area.extend([pair.low, pair.high, mark]);
+        }
+        area
+    }
+}
