@@ -8,14 +8,16 @@ use std::fmt::Debug;
 use std::time::{Duration, Instant};
 
 use crate::answer::*;
-use crate::ffi::Call;
+use crate::ffi::{stands_in, Call};
 use crate::guard::{Loan, Pool, Side};
 use crate::rng::Rng;
 use crate::slot;
 use crate::stack::Stack;
 
 /// A call that takes longer has failed.
-pub const LIMIT: Duration = Duration::from_secs(20);
+fn limit() -> Duration {
+    Duration::from_secs(if stands_in() { 3 } else { 20 })
+}
 
 /// An out-parameter between two guard numbers.
 struct Out<T> {
@@ -115,7 +117,7 @@ impl Engine {
         slot::mine().leave();
         self.calls += 1;
         self.longest = self.longest.max(time);
-        if time > LIMIT {
+        if time > limit() {
             return Err(format!("the call takes {} s", time.as_secs()));
         }
         Ok(result)

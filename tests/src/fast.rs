@@ -187,6 +187,23 @@ impl<'a> Run<'a> {
         run
     }
 
+    /// The run that a sound run area stands for.
+    pub fn of_area(index: &'a Index, area: &[u16]) -> Run<'a> {
+        let cells = || area[..3 * index.count()].chunks_exact(3);
+        let mut run = Run {
+            index,
+            pairs: cells().map(|cell| Pair::new(cell[0], cell[1])).collect(),
+            waiting: vec![0; index.count().div_ceil(64)],
+            reached: cells().map(|cell| cell[2] != NOT_REACHED_MARK).collect(),
+        };
+        for (cond, cell) in cells().enumerate() {
+            if cell[2] == WAITING_MARK {
+                run.wake(cond);
+            }
+        }
+        run
+    }
+
     /// R, E and the bound.
     pub fn measure(&self) -> (u32, u32, u32) {
         let reached = self.reached.iter().filter(|reached| **reached).count() as u32;

@@ -5,7 +5,7 @@ use std::process::exit;
 use outside::{attach, cases, runner};
 
 const USAGE: &str =
-    "arguments: none | quick | only TEXT | stack | attach PATH | documents PATH | mutants [all]";
+    "arguments: none | quick | only TEXT | item NUMBER only TEXT | stack | attach PATH | documents PATH | mutants [all]";
 
 fn main() {
     let arguments: Vec<String> = std::env::args().skip(1).collect();
@@ -14,6 +14,11 @@ fn main() {
         [] => runner::run(&cases::all(), 1, ""),
         ["quick"] => runner::run(&cases::all(), 10, ""),
         ["only", text] => runner::run(&cases::all(), 1, text),
+        ["item", number, "only", text] => {
+            let item = number.parse().expect("an item is a number");
+            runner::run_item(&cases::all(), item, text)
+        }
+        ["until", "failure"] => runner::run_until_failure(&cases::all()),
         ["quick", "only", text] => runner::run(&cases::all(), 10, text),
         ["stack"] => {
             let good = runner::run(&cases::stack::cases(), 1, "");

@@ -4,6 +4,7 @@ use std::cell::RefCell;
 use std::collections::BTreeMap;
 use std::ffi::c_void;
 use std::io::Write;
+use std::ops::Range;
 use std::panic::{self, AssertUnwindSafe};
 use std::sync::atomic::{AtomicBool, AtomicPtr, AtomicU64, AtomicUsize, Ordering::SeqCst};
 use std::sync::{mpsc, Mutex};
@@ -176,10 +177,10 @@ struct Outcome {
     failure: Option<(u64, String)>,
 }
 
-fn run_case(case: &Case, items: u64, trials: &mut [Trial]) -> Outcome {
+fn run_case(case: &Case, items: Range<u64>, trials: &mut [Trial]) -> Outcome {
     set_name(case.name);
     let start = Instant::now();
-    let next = AtomicU64::new(0);
+    let next = AtomicU64::new(items.start);
     let first_failure = AtomicU64::new(u64::MAX);
     let failures: Mutex<BTreeMap<u64, String>> = Mutex::new(BTreeMap::new());
     let (done, finished) = mpsc::channel();
@@ -193,7 +194,7 @@ fn run_case(case: &Case, items: u64, trials: &mut [Trial]) -> Outcome {
                 report_stack();
                 loop {
                     let item = next.fetch_add(1, SeqCst);
-                    if item >= items || item > first_failure.load(SeqCst) {
+                    if item >= items.end || item > first_failure.load(SeqCst) {
                         break;
                     }
                     slot::mine().begin_item(item);
@@ -251,7 +252,9 @@ fn run_case(case: &Case, items: u64, trials: &mut [Trial]) -> Outcome {
         }
         trial.clear();
     }
-    if outcome.failure.is_none() {
+    // One item alone need not see everything.
+    let alone = items.end - items.start == 1 && case.items > 1;
+    if outcome.failure.is_none() && !alone {
         let missing = case.must_see.iter().find(|what| !seen.contains_key(*what));
         if let Some((call, code)) = missing {
             outcome.failure = Some((0, format!("no {call} call came to outcome {code}")));
@@ -263,12 +266,35 @@ fn run_case(case: &Case, items: u64, trials: &mut [Trial]) -> Outcome {
 /// Runs the cases and prints a line for each, then the totals; true if some run and all pass.
 /// `share` divides the number of items; `only` keeps the cases whose name contains it.
 pub fn run(cases: &[Case], share: u64, only: &str) -> bool {
+    let all = |case: &Case| 0..case.items.div_ceil(share);
+    run_items(cases, all, only, false)
+}
+
+/// Runs one item of the cases whose name contains the text.
+pub fn run_item(cases: &[Case], item: u64, only: &str) -> bool {
+    run_items(cases, |_| item..item + 1, only, false)
+}
+
+/// Runs a tenth of the items until a case fails.
+pub fn run_until_failure(cases: &[Case]) -> bool {
+    let some = |case: &Case| 0..case.items.div_ceil(10);
+    run_items(cases, some, "", true)
+}
+
+fn run_items(
+    cases: &[Case],
+    items: impl Fn(&Case) -> Range<u64>,
+    only: &str,
+    until_failure: bool,
+) -> bool {
     install_handlers();
     let mut trials: Vec<Trial> = (0..WORKERS).map(|_| Trial::new()).collect();
     let (mut pages, mut calls) = (0, 0);
     for case in cases.iter().filter(|case| case.name.contains(only)) {
-        let items = case.items.div_ceil(share);
-        let outcome = run_case(case, items, &mut trials);
+        if until_failure && FAILED.load(SeqCst) > 0 {
+            break;
+        }
+        let outcome = run_case(case, items(case), &mut trials);
         pages += outcome.pages;
         calls += outcome.calls;
         match outcome.failure {

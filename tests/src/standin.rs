@@ -6,12 +6,13 @@
 use std::io::{Read, Write};
 use std::process::Command;
 use std::sync::{Mutex, OnceLock};
+use std::time::Duration;
 
 use crate::answer::*;
 use crate::area::{self, held_pairs, NOT_REACHED_MARK, REACHED_MARK, WAITING_MARK};
 use crate::attach;
 use crate::body::{combine, Pair};
-use crate::closed;
+use crate::fast::{Index, Run};
 use crate::ffi::Call;
 use crate::page::{self, Line, Op, Page};
 use crate::plain::{self, check_queries};
@@ -21,99 +22,512 @@ use crate::workspace;
 /// The faults that can be planted, each with the words of the run that notices it and the case that does.
 pub const FAULTS: &[(&str, &str, &str)] = &[
     // Read a page and show a line.
-    ("line_number_from_zero", "", ""),
-    ("line_not_set_to_zero_on_success", "", ""),
-    ("area_written_past_used_length", "", ""),
-    ("refused_read_writes_area", "", ""),
-    ("leading_zero_accepted", "", ""),
-    ("carriage_return_accepted", "", ""),
-    ("unended_page_accepted", "", ""),
-    ("second_head_line_accepted", "", ""),
-    ("range_before_form", "", ""),
-    ("line_1026_judged_by_its_form", "", ""),
-    ("short_area_before_bad_line", "", ""),
-    ("text_of_65535_bytes_too_long", "", ""),
-    ("last_unended_line_not_shown", "", ""),
-    ("show_number_cut_to_32_bits", "", ""),
+    (
+        "line_number_from_zero",
+        "quick only CASE",
+        "row_09_condition_511_is_read_and_512_refused",
+    ),
+    (
+        "line_not_set_to_zero_on_success",
+        "quick only CASE",
+        "row_01_two_rivals_plain_and_closed",
+    ),
+    (
+        "area_written_past_used_length",
+        "quick only CASE",
+        "row_01_two_rivals_plain_and_closed",
+    ),
+    (
+        "refused_read_writes_area",
+        "quick only CASE",
+        "row_09_condition_511_is_read_and_512_refused",
+    ),
+    (
+        "leading_zero_accepted",
+        "quick only CASE",
+        "row_12_leading_zero_is_form_and_low_above_high_is_range",
+    ),
+    (
+        "carriage_return_accepted",
+        "quick only CASE",
+        "texts_have_their_stated_outcome",
+    ),
+    (
+        "unended_page_accepted",
+        "quick only CASE",
+        "texts_have_their_stated_outcome",
+    ),
+    (
+        "second_head_line_accepted",
+        "quick only CASE",
+        "row_11_line_1025_is_read_and_1026_refused_however_it_looks",
+    ),
+    (
+        "range_before_form",
+        "quick only CASE",
+        "texts_have_their_stated_outcome",
+    ),
+    (
+        "line_1026_judged_by_its_form",
+        "quick only CASE",
+        "row_11_line_1025_is_read_and_1026_refused_however_it_looks",
+    ),
+    (
+        "short_area_before_bad_line",
+        "quick only CASE",
+        "reader_agrees_on_spoilt_pages",
+    ),
+    (
+        "text_of_65535_bytes_too_long",
+        "quick only CASE",
+        "long_texts_have_their_stated_outcome",
+    ),
+    (
+        "last_unended_line_not_shown",
+        "quick only CASE",
+        "lines_are_shown_as_stated",
+    ),
+    (
+        "show_number_cut_to_32_bits",
+        "quick only CASE",
+        "show_line_agrees_on_any_bytes",
+    ),
     // Soundness.
-    ("literal_range_unchecked", "", ""),
-    ("query_tail_unchecked", "", ""),
-    ("kind_cut_to_a_byte", "", ""),
-    ("lines_may_fall_short_of_used_length", "", ""),
-    ("used_length_trusted_past_the_slice", "", ""),
-    ("mark_0_interval_unchecked", "", ""),
-    ("mark_3_accepted", "", ""),
-    ("high_above_top_accepted", "", ""),
+    (
+        "literal_range_unchecked",
+        "quick only CASE",
+        "every_wrong_page_area_is_refused_10_by_each_operation",
+    ),
+    (
+        "query_tail_unchecked",
+        "quick only CASE",
+        "every_wrong_page_area_is_refused_10_by_each_operation",
+    ),
+    (
+        "kind_cut_to_a_byte",
+        "quick only CASE",
+        "every_wrong_page_area_is_refused_10_by_each_operation",
+    ),
+    (
+        "lines_may_fall_short_of_used_length",
+        "quick only CASE",
+        "every_wrong_page_area_is_refused_10_by_each_operation",
+    ),
+    (
+        "used_length_trusted_past_the_slice",
+        "quick only CASE",
+        "closed_refuses_as_stated",
+    ),
+    (
+        "mark_0_interval_unchecked",
+        "quick only CASE",
+        "every_wrong_run_area_is_refused_14_by_each_operation",
+    ),
+    (
+        "mark_3_accepted",
+        "quick only CASE",
+        "every_wrong_run_area_is_refused_14_by_each_operation",
+    ),
+    (
+        "high_above_top_accepted",
+        "quick only CASE",
+        "every_wrong_run_area_is_refused_14_by_each_operation",
+    ),
     // Open a run.
-    ("edges_counted_per_literal", "", ""),
-    ("reach_only_direct", "", ""),
-    ("reach_ignores_negated_literals", "", ""),
-    ("refused_open_writes", "", ""),
-    ("query_range_before_count", "", ""),
-    ("list_of_17_accepted", "", ""),
-    ("open_clears_past_3c", "", ""),
-    ("open_solves_at_once", "", ""),
+    (
+        "edges_counted_per_literal",
+        "quick only CASE",
+        "open_agrees_on_random_pages",
+    ),
+    (
+        "reach_only_direct",
+        "quick only CASE",
+        "open_agrees_on_random_pages",
+    ),
+    (
+        "reach_ignores_negated_literals",
+        "quick only CASE",
+        "row_01_two_rivals_plain_and_closed",
+    ),
+    (
+        "refused_open_writes",
+        "quick only CASE",
+        "open_agrees_on_random_pages",
+    ),
+    (
+        "query_range_before_count",
+        "quick only CASE",
+        "refusal_order_of_open",
+    ),
+    (
+        "list_of_17_accepted",
+        "quick only CASE",
+        "refusal_order_of_open",
+    ),
+    (
+        "open_clears_past_3c",
+        "quick only CASE",
+        "open_agrees_on_random_pages",
+    ),
+    (
+        "open_solves_at_once",
+        "quick only CASE",
+        "row_01_two_rivals_plain_and_closed",
+    ),
     // Evaluate.
-    ("wake_only_when_low_rises", "", ""),
-    ("wake_nobody", "", ""),
-    ("wake_unreached", "", ""),
-    ("wake_self_always", "", ""),
-    ("wake_unless_unchanged_ignored", "", ""),
-    ("mark_kept_waiting", "", ""),
-    ("refused_evaluate_writes", "", ""),
-    ("evaluate_changes_nothing", "", ""),
-    ("condition_cut_to_16_bits", "", ""),
-    ("queries_wake_too", "", ""),
+    (
+        "wake_only_when_low_rises",
+        "quick only CASE",
+        "row_07_fading_self_rule_takes_11_evaluations",
+    ),
+    (
+        "wake_nobody",
+        "quick only CASE",
+        "row_01_two_rivals_plain_and_closed",
+    ),
+    (
+        "wake_unreached",
+        "quick only CASE",
+        "row_08_ops_product_lukasiewicz_bounded_and_weight",
+    ),
+    (
+        "wake_self_always",
+        "quick only CASE",
+        "row_01_two_rivals_plain_and_closed",
+    ),
+    (
+        "wake_unless_unchanged_ignored",
+        "quick only CASE",
+        "row_01_two_rivals_plain_and_closed",
+    ),
+    (
+        "mark_kept_waiting",
+        "quick only CASE",
+        "row_01_two_rivals_plain_and_closed",
+    ),
+    (
+        "refused_evaluate_writes",
+        "quick only CASE",
+        "evaluate_agrees_on_arbitrary_sound_areas",
+    ),
+    (
+        "evaluate_changes_nothing",
+        "quick only CASE",
+        "row_01_two_rivals_plain_and_closed",
+    ),
+    (
+        "condition_cut_to_16_bits",
+        "quick only CASE",
+        "value_agrees_on_arbitrary_sound_areas",
+    ),
+    (
+        "queries_wake_too",
+        "quick only CASE",
+        "attach_example_figures",
+    ),
     // Body values.
-    ("negate_without_exchange", "", ""),
-    ("round_up_high_end", "", ""),
-    ("product_divided_once", "", ""),
-    ("fold_right_to_left", "", ""),
-    ("no_lines_unknown", "", ""),
-    ("smallest_over_lines", "", ""),
-    ("facts_hide_rules", "", ""),
+    (
+        "negate_without_exchange",
+        "quick only CASE",
+        "row_01_two_rivals_plain_and_closed",
+    ),
+    (
+        "round_up_high_end",
+        "quick only CASE",
+        "row_07_fading_self_rule_takes_11_evaluations",
+    ),
+    (
+        "product_divided_once",
+        "quick only CASE",
+        "rules_have_their_stated_value",
+    ),
+    (
+        "product_wrong_at_top_173",
+        "item 172 only CASE",
+        "evaluate_every_pair_of_grades_at_every_top_under_every_op",
+    ),
+    (
+        "product_wrong_at_top_173",
+        "item 172 only CASE",
+        "closed_every_product_at_every_top",
+    ),
+    (
+        "product_wrong_at_top_173",
+        "item 172 only CASE",
+        "drive_every_product_at_every_top",
+    ),
+    (
+        "product_wrong_at_top_173",
+        "quick only CASE",
+        "rules_have_their_stated_value",
+    ),
+    (
+        "product_wrong_under_one_weight",
+        "item 172 only CASE",
+        "drive_every_product_under_every_weight_at_every_top",
+    ),
+    (
+        "fold_right_to_left",
+        "quick only CASE",
+        "rules_have_their_stated_value",
+    ),
+    (
+        "no_lines_unknown",
+        "quick only CASE",
+        "row_04_condition_without_lines_is_zero_after_one_evaluation",
+    ),
+    (
+        "smallest_over_lines",
+        "quick only CASE",
+        "row_01_two_rivals_plain_and_closed",
+    ),
+    (
+        "facts_hide_rules",
+        "quick only CASE",
+        "row_01_two_rivals_plain_and_closed",
+    ),
     // Drive and value.
-    ("drive_highest_first", "", ""),
-    ("drive_in_rounds", "", ""),
-    ("drive_count_one_more", "", ""),
-    ("drive_count_is_allowance", "", ""),
-    ("drive_spent_when_just_enough", "", ""),
-    ("drive_allowance_cut_to_16_bits", "", ""),
-    ("drive_sets_taken_on_refusal", "", ""),
-    ("value_rest_of_one_condition", "", ""),
-    ("value_of_unreached", "", ""),
+    (
+        "drive_highest_first",
+        "quick only CASE",
+        "row_02_bound_22_spent_after_3_rest_after_4",
+    ),
+    (
+        "drive_in_rounds",
+        "quick only CASE",
+        "rules_have_their_stated_value",
+    ),
+    (
+        "drive_misses_condition_64",
+        "quick only CASE",
+        "a_waiting_condition_is_found_and_woken_wherever_it_is",
+    ),
+    (
+        "drive_count_one_more",
+        "quick only CASE",
+        "row_01_two_rivals_plain_and_closed",
+    ),
+    (
+        "drive_count_is_allowance",
+        "quick only CASE",
+        "row_01_two_rivals_plain_and_closed",
+    ),
+    (
+        "drive_spent_when_just_enough",
+        "quick only CASE",
+        "row_02_bound_22_spent_after_3_rest_after_4",
+    ),
+    (
+        "drive_allowance_cut_to_16_bits",
+        "quick only CASE",
+        "drive_agrees_on_arbitrary_sound_areas",
+    ),
+    (
+        "drive_sets_taken_on_refusal",
+        "quick only CASE",
+        "every_wrong_page_area_is_refused_10_by_each_operation",
+    ),
+    (
+        "value_rest_of_one_condition",
+        "quick only CASE",
+        "row_02_goes_on_after_it_is_spent",
+    ),
+    (
+        "value_of_unreached",
+        "quick only CASE",
+        "value_agrees_on_arbitrary_sound_areas",
+    ),
     // Closed reading.
-    ("closed_is_plain", "", ""),
-    ("support_from_top", "", ""),
-    ("loops_read_zero", "", ""),
-    ("closed_stops_after_two_rounds", "", ""),
-    ("answers_in_sorted_order", "", ""),
-    ("scratch_half_zeroed", "", ""),
-    ("scratch_zeroed_past_6c", "", ""),
-    ("short_answers_written", "", ""),
+    (
+        "closed_is_plain",
+        "quick only CASE",
+        "row_03_closed_cuts_an_unsupported_rule",
+    ),
+    (
+        "support_from_top",
+        "quick only CASE",
+        "row_03_closed_cuts_an_unsupported_rule",
+    ),
+    (
+        "loops_read_zero",
+        "quick only CASE",
+        "row_05_self_denial_stays_unknown_in_both_readings",
+    ),
+    (
+        "closed_stops_after_two_rounds",
+        "quick only CASE",
+        "closed_running_example_of_source_000",
+    ),
+    (
+        "closed_wrong_at_129_lines",
+        "only CASE",
+        "drive_and_closed_agree_on_every_count_of_lines",
+    ),
+    (
+        "closed_wrong_at_129_conditions",
+        "only CASE",
+        "drive_and_closed_agree_on_every_count_of_conditions",
+    ),
+    (
+        "answers_in_sorted_order",
+        "quick only CASE",
+        "closed_running_example_of_source_000",
+    ),
+    (
+        "scratch_half_zeroed",
+        "quick only CASE",
+        "row_01_two_rivals_plain_and_closed",
+    ),
+    (
+        "scratch_zeroed_past_6c",
+        "quick only CASE",
+        "closed_rows_answer_whole_lists",
+    ),
+    (
+        "short_answers_written",
+        "quick only CASE",
+        "refusal_order_of_closed",
+    ),
     // Workspaces.
-    ("workspace_left_filled", "", ""),
-    ("workspace_half_zeroed", "", ""),
-    ("workspace_zeroed_past_the_index", "", ""),
-    ("workspace_index_one_short", "", ""),
-    ("workspace_index_one_longer", "", ""),
-    ("workspace_index_without_literals", "", ""),
-    ("workspace_touched_when_too_short", "", ""),
-    ("workspace_too_short_is_refused", "", ""),
-    ("workspace_touched_on_refusal", "", ""),
-    ("workspace_content_trusted", "", ""),
-    ("workspace_written_past_the_end", "", ""),
-    ("indexed_drive_ignores_negated_literals", "", ""),
-    ("indexed_closed_is_plain", "", ""),
+    (
+        "workspace_left_filled",
+        "quick only CASE",
+        "row_01_two_rivals_plain_and_closed",
+    ),
+    (
+        "workspace_half_zeroed",
+        "quick only CASE",
+        "row_01_two_rivals_plain_and_closed",
+    ),
+    (
+        "workspace_zeroed_past_the_index",
+        "quick only CASE",
+        "row_01_two_rivals_plain_and_closed",
+    ),
+    (
+        "workspace_index_one_short",
+        "quick only CASE",
+        "row_01_two_rivals_plain_and_closed",
+    ),
+    (
+        "workspace_index_one_longer",
+        "quick only CASE",
+        "row_01_two_rivals_plain_and_closed",
+    ),
+    (
+        "workspace_index_without_literals",
+        "quick only CASE",
+        "row_01_two_rivals_plain_and_closed",
+    ),
+    (
+        "workspace_touched_when_too_short",
+        "quick only CASE",
+        "row_01_two_rivals_plain_and_closed",
+    ),
+    (
+        "workspace_too_short_is_refused",
+        "quick only CASE",
+        "row_01_two_rivals_plain_and_closed",
+    ),
+    (
+        "workspace_touched_on_refusal",
+        "quick only CASE",
+        "closed_refuses_as_stated",
+    ),
+    (
+        "workspace_content_trusted",
+        "quick only CASE",
+        "row_02_bound_22_spent_after_3_rest_after_4",
+    ),
+    (
+        "workspace_written_past_the_end",
+        "quick only CASE",
+        "row_01_two_rivals_plain_and_closed",
+    ),
+    (
+        "indexed_drive_ignores_negated_literals",
+        "quick only CASE",
+        "row_01_two_rivals_plain_and_closed",
+    ),
+    (
+        "indexed_closed_is_plain",
+        "quick only CASE",
+        "row_03_closed_cuts_an_unsupported_rule",
+    ),
     // Stack.
-    ("drive_takes_much_stack", "", ""),
+    (
+        "drive_takes_much_stack",
+        "quick only CASE",
+        "no_call_takes_more_stack_than_the_header_says",
+    ),
+    (
+        "closed_takes_1_5_mb_of_stack",
+        "quick only CASE",
+        "no_call_takes_more_stack_than_the_header_says",
+    ),
+    // Time.
+    (
+        "closed_is_slow_at_512_conditions",
+        "item 0 only CASE",
+        "drive_and_closed_agree_on_slow_pages_of_129_to_512_conditions",
+    ),
     // Memory.
-    ("page_read_past_the_end", "", ""),
-    ("page_read_before_the_start", "", ""),
-    ("run_written_past_the_end", "", ""),
-    ("run_read_past_3c", "", ""),
-    ("page_written", "", ""),
-    ("last_page_remembered", "", ""),
+    (
+        "page_read_past_the_end",
+        "quick only CASE",
+        "open_agrees_on_random_pages",
+    ),
+    (
+        "page_read_before_the_start",
+        "quick only CASE",
+        "open_agrees_on_random_pages",
+    ),
+    (
+        "run_written_past_the_end",
+        "quick only CASE",
+        "open_agrees_on_random_pages",
+    ),
+    (
+        "run_read_past_3c",
+        "quick only CASE",
+        "numbers_past_the_stated_parts_are_not_touched",
+    ),
+    (
+        "page_written",
+        "quick only CASE",
+        "open_agrees_on_random_pages",
+    ),
+    (
+        "page_written_and_put_back",
+        "quick only CASE",
+        "open_agrees_on_random_pages",
+    ),
+    (
+        "queries_written_and_put_back",
+        "quick only CASE",
+        "queries_may_lie_inside_the_page_area",
+    ),
+    (
+        "last_page_remembered",
+        "quick only CASE",
+        "rules_have_their_stated_value",
+    ),
+    // The program `attach`.
+    (
+        "attach_writes_to_standard_error",
+        "attach standin only CASE",
+        "attach_prints_the_example",
+    ),
+    (
+        "attach_ends_with_1_for_a_refused_page",
+        "attach standin only CASE",
+        "attach_prints_the_example",
+    ),
+    (
+        "attach_skips_the_last_query",
+        "attach standin only CASE",
+        "attach_prints_the_example",
+    ),
 ];
 
 fn planted() -> &'static str {
@@ -238,6 +652,15 @@ fn sound_page(area: &[u16]) -> Option<Page> {
         // SAFETY: none; this is the planted fault.
         unsafe { std::ptr::write_volatile(area.as_ptr().add(4) as *mut u16, area[4] ^ 1) };
     }
+    if fault("page_written_and_put_back") && area.len() > 4 {
+        // SAFETY: none; this is the planted fault.
+        unsafe {
+            let start = area.as_ptr() as *mut u16;
+            let number = std::ptr::read_volatile(start);
+            std::ptr::write_volatile(start, !number);
+            std::ptr::write_volatile(start, number);
+        }
+    }
     if fault("last_page_remembered") {
         static LAST: Mutex<Option<(usize, usize, Page)>> = Mutex::new(None);
         let mut last = LAST.lock().ok()?;
@@ -308,7 +731,13 @@ fn rule_end(op: Op, top: u16, weight: u16, mut ends: Vec<u16>, high: bool) -> u1
         result = (whole / u64::from(top).pow(ends.len() as u32 - 1)) as u32;
     } else {
         for end in &ends[1..] {
+            let hit = op == Op::P && top == 173 && (result, *end) == (121, 97);
             result = u32::from(combine(op, top, result as u16, *end));
+            if hit && fault("product_wrong_at_top_173")
+                || hit && fault("product_wrong_under_one_weight") && weight == 50
+            {
+                result += 4;
+            }
         }
     }
     if fault("round_up_high_end") && high {
@@ -427,8 +856,9 @@ fn step(page: &Page, run: &mut [u16], cond: u16) -> bool {
 }
 
 fn next_waiting(page: &Page, run: &[u16], from: u16) -> Option<u16> {
-    let mut waiting =
-        (0..page.count).filter(|cond| run[3 * usize::from(*cond) + 2] == WAITING_MARK);
+    let mut waiting = (0..page.count)
+        .filter(|cond| run[3 * usize::from(*cond) + 2] == WAITING_MARK)
+        .filter(|cond| *cond != 64 || !fault("drive_misses_condition_64"));
     if fault("drive_highest_first") {
         return waiting.next_back();
     }
@@ -440,7 +870,41 @@ fn next_waiting(page: &Page, run: &[u16], from: u16) -> Option<u16> {
     waiting.next()
 }
 
+/// The faults in an evaluation or in a body value; without them the fast reference does the work.
+const STEPWISE: &[&str] = &[
+    "wake_only_when_low_rises",
+    "wake_nobody",
+    "wake_unreached",
+    "wake_self_always",
+    "wake_unless_unchanged_ignored",
+    "mark_kept_waiting",
+    "evaluate_changes_nothing",
+    "queries_wake_too",
+    "negate_without_exchange",
+    "round_up_high_end",
+    "product_divided_once",
+    "product_wrong_at_top_173",
+    "product_wrong_under_one_weight",
+    "fold_right_to_left",
+    "no_lines_unknown",
+    "smallest_over_lines",
+    "facts_hide_rules",
+    "drive_highest_first",
+    "drive_in_rounds",
+    "drive_misses_condition_64",
+    "support_from_top",
+    "closed_stops_after_two_rounds",
+];
+
 fn drive(page: &Page, run: &mut [u16], allowance: u32) -> Driven {
+    if !STEPWISE.contains(&planted()) {
+        let index = Index::new(page);
+        let mut fast = Run::of_area(&index, run);
+        let driven = fast.drive(allowance);
+        let after = fast.area();
+        run[..after.len()].copy_from_slice(&after);
+        return driven;
+    }
     let mut taken = 0;
     let mut from = 0;
     loop {
@@ -459,11 +923,25 @@ fn drive(page: &Page, run: &mut [u16], allowance: u32) -> Driven {
 /// The closed reading, with the planted fault.
 fn closed_reading(page: &Page) -> Vec<Pair> {
     let count = usize::from(page.count);
-    if planted().is_empty() {
-        return closed::reading(page);
-    }
     if fault("closed_is_plain") {
         return plain::reading(page);
+    }
+    if fault("closed_is_slow_at_512_conditions") && count == 512 {
+        std::thread::sleep(Duration::from_secs(4));
+    }
+    if !STEPWISE.contains(&planted()) {
+        let mut reading = Index::new(page).closed();
+        let wrong = (fault("closed_wrong_at_129_lines") && page.lines.len() == 129)
+            || (fault("closed_wrong_at_129_conditions") && count == 129);
+        for pair in &mut reading {
+            if wrong {
+                pair.high = (pair.high + 1) % (page.top + 1);
+            }
+            if fault("loops_read_zero") && pair.low == 0 {
+                pair.high = 0;
+            }
+        }
+        return reading;
     }
     let join = |left: &[Pair], right: &[Pair]| -> Vec<Pair> {
         left.iter().zip(right).map(|(a, b)| a.join(*b)).collect()
@@ -491,13 +969,6 @@ fn closed_reading(page: &Page) -> Vec<Pair> {
             break;
         }
         assignment = next;
-    }
-    if fault("loops_read_zero") {
-        for pair in &mut assignment {
-            if pair.low == 0 {
-                pair.high = 0;
-            }
-        }
     }
     assignment
 }
@@ -811,10 +1282,10 @@ unsafe fn drive_code(result: Result<Driven, Refusal>, taken: *mut u32) -> i32 {
     }
 }
 
-/// Writes over 128 KiB of stack.
+/// Writes over this much stack.
 #[inline(never)]
-fn take_stack() {
-    let mut area = [0u8; 131_072];
+fn take_stack<const BYTES: usize>() {
+    let mut area = [0u8; BYTES];
     for byte in &mut area {
         // SAFETY: inside the array.
         unsafe { std::ptr::write_volatile(byte, 1) };
@@ -830,7 +1301,7 @@ unsafe extern "C" fn simjorad_drive(
     taken: *mut u32,
 ) -> i32 {
     if fault("drive_takes_much_stack") {
-        take_stack();
+        take_stack::<131_072>();
     }
     let run = lent_mut(run, run_length);
     let result = drive_call(lent(page, page_length), run, allowance);
@@ -979,6 +1450,13 @@ fn closed_call(
 ) -> Result<(), Refusal> {
     let page = sound_page(page_area).ok_or(PAGE_UNSOUND)?;
     check_queries(&page, queries)?;
+    if fault("closed_takes_1_5_mb_of_stack") {
+        take_stack::<1_500_000>();
+    }
+    if fault("queries_written_and_put_back") {
+        // SAFETY: none; this is the planted fault.
+        unsafe { std::ptr::write_volatile(queries.as_ptr() as *mut u16, queries[0]) };
+    }
     let needed = 6 * usize::from(page.count);
     if scratch.len() < needed {
         return Err(SCRATCH_SHORT);

@@ -22,16 +22,13 @@ pub fn cases() -> Vec<Case> {
             tops,
             evaluate_pairs,
         ),
+        case("drive_every_product_at_every_top", tops, drive_pairs),
         case(
             "drive_every_product_under_every_weight_at_every_top",
             tops,
             drive_products,
         ),
-        case(
-            "closed_every_pair_of_grades_at_every_top_under_every_op",
-            tops,
-            closed_pairs,
-        ),
+        case("closed_every_product_at_every_top", tops, closed_pairs),
         case(
             "closed_every_grade_under_every_weight_at_every_top",
             tops,
@@ -90,7 +87,7 @@ const STATED: &[(u16, char, u16, &[u16], u16)] = &[
     (200, 'P', 200, &[199; 8], 192),
     (200, 'P', 1, &[199; 8], 0),
     (200, 'P', 199, &[199; 8], 191),
-    // 9, 8, 7, 6, 5, 4, 3, 2 times 9 tenths, rounded down each time.
+    // 8, 7, 6, 5, 4, 3, 2.
     (10, 'P', 10, &[9; 8], 2),
     (1, 'P', 1, &[1; 8], 1),
     (1, 'L', 1, &[1, 1, 1, 0, 1, 1, 1, 1], 0),
@@ -162,6 +159,7 @@ fn evaluate_pairs(trial: &mut Trial, item: u64) -> Check {
     Ok(())
 }
 
+type Drive = unsafe extern "C" fn(*const u16, usize, *mut u16, usize, u32, *mut u32) -> i32;
 type DriveIndexed =
     unsafe extern "C" fn(*const u16, usize, *mut u16, usize, *mut u16, usize, u32, *mut u32) -> i32;
 
@@ -176,15 +174,27 @@ fn drive_products(trial: &mut Trial, item: u64) -> Check {
         .flat_map(|q| (1..=top).map(move |weight| (q, weight)))
         .collect();
     for some in all.chunks(AT_ONCE) {
-        trial.pages += 1;
-        drive_some(trial, top, some)?;
+        drive_some(trial, top, some, true)?;
     }
     Ok(())
 }
 
-fn drive_some(trial: &mut Trial, top: u16, some: &[(u16, u16)]) -> Check {
-    // SAFETY: the function has this type.
-    let drive: DriveIndexed = unsafe { std::mem::transmute(Call::DriveIndexed.function()) };
+/// Every p and q under top, without a workspace.
+fn drive_pairs(trial: &mut Trial, item: u64) -> Check {
+    let top = item as u16 + 1;
+    let all: Vec<(u16, u16)> = (0..=top).map(|q| (q, top)).collect();
+    drive_some(trial, top, &all, false)
+}
+
+fn drive_some(trial: &mut Trial, top: u16, some: &[(u16, u16)], indexed: bool) -> Check {
+    trial.pages += 1;
+    // SAFETY: the functions have these types.
+    let (drive, drive_indexed): (Drive, DriveIndexed) = unsafe {
+        (
+            std::mem::transmute::<*const (), Drive>(Call::Drive.function()),
+            std::mem::transmute::<*const (), DriveIndexed>(Call::DriveIndexed.function()),
+        )
+    };
     let rules = some.len() as u16;
     let first = some[0].0;
     let last = some[some.len() - 1].0;
@@ -207,16 +217,22 @@ fn drive_some(trial: &mut Trial, top: u16, some: &[(u16, u16)]) -> Check {
         let mut taken = 0;
         // SAFETY: the slices and the out-parameter are valid and apart.
         let code = unsafe {
-            drive(
-                area.as_ptr(),
-                area.len(),
-                run.as_mut_ptr(),
-                run.len(),
-                workspace.as_mut_ptr(),
-                workspace.len(),
-                rules.into(),
-                &mut taken,
-            )
+            let (page, length) = (area.as_ptr(), area.len());
+            let (cells, cells_length) = (run.as_mut_ptr(), run.len());
+            let allowance = rules.into();
+            match indexed {
+                true => drive_indexed(
+                    page,
+                    length,
+                    cells,
+                    cells_length,
+                    workspace.as_mut_ptr(),
+                    workspace.len(),
+                    allowance,
+                    &mut taken,
+                ),
+                false => drive(page, length, cells, cells_length, allowance, &mut taken),
+            }
         };
         trial.engine.calls += 1;
         for ((q, weight), cell) in some.iter().zip(wanted.chunks_exact_mut(3)) {
@@ -359,10 +375,15 @@ fn compare_rules(
     Ok(())
 }
 
-/// Every pair, once under top and, for P, once more under a weight that depends on the pair.
+/// Every pair under P, once under top and once under a weight that depends on the pair; at every tenth top, and at 1 and 199, under every
+/// op.
 fn closed_pairs(trial: &mut Trial, item: u64) -> Check {
     let top = item as u16 + 1;
+    let every_op = top.is_multiple_of(10) || top == 1 || top == 199;
     for kind in 1..=OPS.len() as u16 {
+        if kind < 5 && !every_op {
+            continue;
+        }
         for p in 0..=top {
             let mut rules: Vec<PointRule> = (0..=top).map(|q| (kind, top, p, Some(q))).collect();
             if kind == 5 {

@@ -135,9 +135,12 @@ fn every_count_of_conditions(trial: &mut Trial, item: u64) -> Check {
     let lines = (2 * usize::from(count)).min(LINES_MAX);
     let page = gen::exact(&mut trial.rng, count, lines);
     compare(trial, &page, BOTH_FORMS)?;
-    let top = gen::top(&mut trial.rng);
-    let page = gen::knots(&mut trial.rng, count, top);
-    compare(trial, &page, BOTH_FORMS)
+    if count % 2 == 1 {
+        let top = gen::top(&mut trial.rng);
+        let page = gen::knots(&mut trial.rng, count, top);
+        compare(trial, &page, BOTH_FORMS)?;
+    }
+    Ok(())
 }
 
 fn every_count_of_lines(trial: &mut Trial, item: u64) -> Check {
@@ -148,8 +151,8 @@ fn every_count_of_lines(trial: &mut Trial, item: u64) -> Check {
     compare(trial, &page, BOTH_FORMS)
 }
 
-/// Both sides of each word of a set of conditions, and sizes between.
-const SIZES: [u16; 10] = [512, 129, 192, 193, 255, 320, 385, 448, 511, 130];
+/// The least, the greatest, and both sides of a word of a set of conditions.
+const SIZES: [u16; 4] = [512, 129, 193, 320];
 
 /// A kind of slow page, and whether its drive and its closed reading are tried without a workspace at 512 conditions.
 type Kind = (fn(&mut Trial, u16) -> Page, bool, bool);

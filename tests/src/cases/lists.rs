@@ -27,7 +27,7 @@ pub fn cases() -> Vec<Case> {
         },
         Case {
             name: "lists_of_calls_agree_with_the_book_on_pages_at_the_limits",
-            items: 16,
+            items: 8,
             each: pages_at_the_limits,
             must_see: &[],
         },
