@@ -9,6 +9,7 @@
 use std::collections::BTreeSet;
 use std::path::PathBuf;
 use std::process::Command;
+use std::sync::OnceLock;
 
 use crate::attach;
 use crate::page::OPS;
@@ -64,7 +65,6 @@ type Interval = (u32, u32);
 
 /// One document under check.
 struct Document {
-    path: &'static str,
     /// The intervals that checked parts show.
     shown: BTreeSet<Interval>,
     /// The lines of no checked part, each with its number.
@@ -303,23 +303,22 @@ impl Document {
     }
 }
 
-/// The folder in which the commands run.
+/// The folder in which the commands run, laid out once.
 fn sandbox() -> Check<PathBuf> {
-    let folder = programs::folder().join("folder");
-    std::fs::create_dir_all(&folder).map_err(|error| format!("{}: {error}", folder.display()))?;
-    let root = std::fs::canonicalize(root()).map_err(|error| error.to_string())?;
-    for name in ["examples", "target"] {
-        let link = folder.join(name);
-        if link.symlink_metadata().is_err() {
-            std::os::unix::fs::symlink(root.join(name), &link)
-                .or_else(|error| match error.kind() {
-                    std::io::ErrorKind::AlreadyExists => Ok(()),
-                    _ => Err(error),
-                })
-                .map_err(|error| format!("{}: {error}", link.display()))?;
+    static FOLDER: OnceLock<Check<PathBuf>> = OnceLock::new();
+    let lay_out = || {
+        let folder = programs::folder().join("folder");
+        let _ = std::fs::remove_dir_all(&folder);
+        std::fs::create_dir_all(&folder)?;
+        let root = std::fs::canonicalize(root())?;
+        for name in ["examples", "target"] {
+            std::os::unix::fs::symlink(root.join(name), folder.join(name))?;
         }
-    }
-    Ok(folder)
+        Ok(folder)
+    };
+    FOLDER
+        .get_or_init(|| lay_out().map_err(|error: std::io::Error| error.to_string()))
+        .clone()
 }
 
 /// `readings of FILE`, then `without LINE...` and `with LINE...`: columns condition, plain, closed.
@@ -486,10 +485,49 @@ fn phrases(text: &str) -> Check {
     Ok(())
 }
 
+/// The first line from a place on that is so, or the end.
+fn place_of(lines: &[String], from: usize, stop: impl Fn(&str) -> bool) -> usize {
+    let found = lines[from..].iter().position(|line| stop(line));
+    found.map_or(lines.len(), |distance| from + distance)
+}
+
+impl Document {
+    /// A block between two lines of three backquotes.
+    fn check_block(&mut self, kind: &str, number: usize, block: &[String]) -> Check {
+        if kind == "console" {
+            return self.run_block(block);
+        }
+        if let Some(name) = kind.strip_prefix("page ") {
+            let text = block.join("\n") + "\n";
+            return std::fs::write(sandbox()?.join(name), text).map_err(|error| error.to_string());
+        }
+        self.prose
+            .extend(block.iter().map(|line| (number, line.clone())));
+        Ok(())
+    }
+
+    /// The part that begins at a line; where the next one begins.
+    fn check_part(&mut self, lines: &[String], at: usize) -> Check<usize> {
+        let line = &lines[at];
+        if let Some(kind) = line.strip_prefix("```") {
+            let end = place_of(lines, at + 1, |line| line == "```");
+            self.check_block(kind, at + 1, &lines[at + 1..end])?;
+            return Ok(end + 1);
+        }
+        if let Some(how) = line.strip_prefix("<!-- checked: ") {
+            let how = how.strip_suffix(" -->").ok_or("the comment has no end")?;
+            let end = place_of(lines, at + 1, |line| !line.starts_with('|'));
+            self.check_table(how, &Table::parse(&lines[at + 1..end])?)?;
+            return Ok(end);
+        }
+        self.prose.push((at + 1, line.clone()));
+        Ok(at + 1)
+    }
+}
+
 fn check(trial: &mut Trial, path: &'static str) -> Check {
     trial.pages += 1;
     let mut document = Document {
-        path,
         shown: BTreeSet::new(),
         prose: Vec::new(),
     };
@@ -498,44 +536,12 @@ fn check(trial: &mut Trial, path: &'static str) -> Check {
     let lines: Vec<String> = text.lines().map(str::to_string).collect();
     let mut at = 0;
     while at < lines.len() {
-        let number = at + 1;
-        let line = lines[at].clone();
-        let end_of = |stop: &dyn Fn(&String) -> bool, from: usize| {
-            (from..lines.len())
-                .find(|at| stop(&lines[*at]))
-                .unwrap_or(lines.len())
-        };
-        let place = |reason: String| format!("{path}, line {number}: {reason}");
-        if let Some(kind) = line.strip_prefix("```") {
-            let end = end_of(&|line| line == "```", at + 1);
-            let block = &lines[at + 1..end];
-            if kind == "console" {
-                trial.engine.calls += 1;
-                document.run_block(block).map_err(place)?;
-            } else if let Some(name) = kind.strip_prefix("page ") {
-                let text = block.join("\n") + "\n";
-                std::fs::write(sandbox()?.join(name), text).map_err(|e| place(e.to_string()))?;
-            } else {
-                document
-                    .prose
-                    .extend(block.iter().map(|line| (number, line.clone())));
-            }
-            at = end + 1;
-        } else if let Some(how) = line.strip_prefix("<!-- checked: ") {
-            let how = how
-                .strip_suffix(" -->")
-                .ok_or(place("no end".to_string()))?;
-            let end = end_of(&|line| !line.starts_with('|'), at + 1);
-            let table = Table::parse(&lines[at + 1..end]).map_err(place)?;
-            trial.engine.calls += table.rows.len() as u64;
-            document.check_table(how, &table).map_err(place)?;
-            at = end;
-        } else {
-            document.prose.push((number, line));
-            at += 1;
-        }
+        at = document
+            .check_part(&lines, at)
+            .map_err(|reason| format!("{path}, line {}: {reason}", at + 1))?;
+        trial.engine.calls += 1;
     }
     document
         .check_prose()
-        .map_err(|reason| format!("{}, {reason}", document.path))
+        .map_err(|reason| format!("{path}, {reason}"))
 }

@@ -1,11 +1,13 @@
 //! Outside tests of the rule-page engine, through its C interface.
 //!
 //! The reference solver is `page`, `area`, `body`, `reach`, `plain`, `book`, `closed` and `enumerate`; each
-//! names the section of document 01 that it implements. `fast` is a second one for large pages. `workspace` says what an indexed form leaves there. The callee is reached through `ffi`, `guard` and
-//! `engine`. `trial` compares the two, `gen` and `spoil` make the inputs, `cases` are the tests.
+//! names the section of document 01 (`docs/RULES.md`) that it implements. `fast` is a second one for large pages. `workspace` says what
+//! an indexed form leaves there. The callee is reached through `ffi`, `guard`, `stack` and `engine`: what it only reads lies in memory that
+//! cannot be written, beside what it is lent there is no memory, and it has no more stack than the header says. `trial` compares
+//! the two, `gen` and `spoil` make the inputs, `cases` are the tests.
 //!
 //! - `cargo run --release` runs every case; add `only TEXT` for the cases whose name contains the text,
-//!   `quick` for a tenth of the items.
+//!   `quick` for a tenth of the items, `item NUMBER only TEXT` for one item, as a report names it.
 //! - `cargo run --release -- stack` measures the stack of each function and prints it beside the header's figure.
 //! - `cargo run --release -- attach PATH` tests the program `attach` at that path.
 //! - `cargo run --release -- documents PATH` builds and runs the C examples and the C test (gcc), and makes every figure of the

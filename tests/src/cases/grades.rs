@@ -167,26 +167,47 @@ type DriveIndexed =
 const AT_ONCE: usize = 480;
 
 /// Every p, q and weight: a page holds a rule P for some pairs of q and weight, and p goes through all grades, two at a time as the two
-/// ends of an interval.
+/// ends of an interval; from page to page low ends are even or odd. Then every p under every weight, with q at top, at both ends.
 fn drive_products(trial: &mut Trial, item: u64) -> Check {
     let top = item as u16 + 1;
     let all: Vec<(u16, u16)> = (0..=top)
         .flat_map(|q| (1..=top).map(move |weight| (q, weight)))
         .collect();
-    for some in all.chunks(AT_ONCE) {
-        drive_some(trial, top, some, true)?;
+    for (number, some) in all.chunks(AT_ONCE).enumerate() {
+        let first = number as u16 % 2;
+        let mut ends: Vec<[u16; 2]> = (first..=top)
+            .step_by(2)
+            .map(|p| [p, (p + 1).min(top)])
+            .collect();
+        if first == 1 {
+            ends.push([0, 0]);
+        }
+        drive_some(trial, top, some, &ends, true)?;
     }
-    Ok(())
+    let weights: Vec<(u16, u16)> = (1..=top).map(|weight| (top, weight)).collect();
+    drive_some(trial, top, &weights, &points(top), true)
 }
 
-/// Every p and q under top, without a workspace.
+/// Every p and q under top, at both ends, without a workspace.
 fn drive_pairs(trial: &mut Trial, item: u64) -> Check {
     let top = item as u16 + 1;
     let all: Vec<(u16, u16)> = (0..=top).map(|q| (q, top)).collect();
-    drive_some(trial, top, &all, false)
+    drive_some(trial, top, &all, &points(top), false)
 }
 
-fn drive_some(trial: &mut Trial, top: u16, some: &[(u16, u16)], indexed: bool) -> Check {
+/// Every grade as both ends.
+fn points(top: u16) -> Vec<[u16; 2]> {
+    (0..=top).map(|p| [p, p]).collect()
+}
+
+/// Drives rules P over p and each (q, weight), for each interval of p.
+fn drive_some(
+    trial: &mut Trial,
+    top: u16,
+    some: &[(u16, u16)],
+    intervals: &[[u16; 2]],
+    indexed: bool,
+) -> Check {
     trial.pages += 1;
     // SAFETY: the functions have these types.
     let (drive, drive_indexed): (Drive, DriveIndexed) = unsafe {
@@ -209,10 +230,9 @@ fn drive_some(trial: &mut Trial, top: u16, some: &[(u16, u16)], indexed: bool) -
     start.extend([0, 0, 1]);
     start.extend((first..=last).flat_map(|q| [q, q, 1]));
     let place = 3 * usize::from(rules);
-    for p in (0..=top).step_by(2) {
-        let ends = [p, (p + 1).min(top)];
+    for ends in intervals {
         let mut run = start.clone();
-        run[place..place + 2].copy_from_slice(&ends);
+        run[place..place + 2].copy_from_slice(ends);
         let mut wanted = run.clone();
         let mut taken = 0;
         // SAFETY: the slices and the out-parameter are valid and apart.

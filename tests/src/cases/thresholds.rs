@@ -68,65 +68,87 @@ fn lengths(trial: &mut Trial, item: u64) -> Check {
     trial.pages += 1;
     let page = gen::exact(&mut trial.rng, count, usize::from(count));
     let area = encode(&page);
-    let text = page.text();
-    let last = count - 1;
-    let (whole, list) = (3 * usize::from(count), [0, last]);
     for (length, wanted) in [
         (area.len() - 1, Err(AREA_SHORT)),
         (area.len(), Ok(area.len())),
     ] {
         let mut lent = trial.rubbish(length);
-        let got = trial.read(&text, &mut lent)?;
+        let got = trial.read(&page.text(), &mut lent)?;
         figure("read", got.map_err(|refusal| refusal.number), wanted)?;
     }
-    let opening: [(&[u16], &[u16], usize, Option<Refusal>); 7] = [
-        (&area, &list, whole, None),
-        (&area, &list, whole - 1, Some(RUN_SHORT)),
-        (&area, &[0, count], whole, Some(QUERY_RANGE)),
-        (&area, &[], whole, Some(QUERY_COUNT)),
-        (&area, &[last; 16], whole, None),
-        (&area, &[last; 17], whole, Some(QUERY_COUNT)),
-        (&area[..area.len() - 1], &list, whole, Some(PAGE_UNSOUND)),
+    open_lengths(trial, &area, count)?;
+    run_lengths(trial, &area, count)?;
+    workspace_lengths(trial, &area, count)?;
+    closed_lengths(trial, &area, count)
+}
+
+fn open_lengths(trial: &mut Trial, area: &[u16], count: u16) -> Check {
+    let (last, whole) = (count - 1, 3 * usize::from(count));
+    let short = &area[..area.len() - 1];
+    let openings: [(&[u16], &[u16], usize, Option<Refusal>); 7] = [
+        (area, &[0, last], whole, None),
+        (area, &[0, last], whole - 1, Some(RUN_SHORT)),
+        (area, &[0, count], whole, Some(QUERY_RANGE)),
+        (area, &[], whole, Some(QUERY_COUNT)),
+        (area, &[last; 16], whole, None),
+        (area, &[last; 17], whole, Some(QUERY_COUNT)),
+        (short, &[0, last], whole, Some(PAGE_UNSOUND)),
     ];
-    for (area, queries, length, wanted) in opening {
+    for (area, queries, length, wanted) in openings {
         let mut run = trial.rubbish(length);
         let got = trial.open(area, queries, &mut run)?.err();
         figure("open", got, wanted)?;
     }
-    let mut run = trial.rubbish(whole);
-    let _ = trial.open(&area, &list, &mut run)?;
-    for (cond, wanted) in [
-        (u32::from(last), None),
-        (u32::from(count), Some(CONDITION_RANGE)),
-    ] {
-        let got = trial.evaluate(&area, &mut run.clone(), cond)?.err();
+    Ok(())
+}
+
+/// A run in which the first and the last condition are asked for.
+fn opened(trial: &mut Trial, area: &[u16], count: u16) -> Check<Vec<u16>> {
+    let mut run = trial.rubbish(3 * usize::from(count));
+    let opened = trial.open(area, &[0, count - 1], &mut run)?;
+    figure("open", opened.err(), None)?;
+    Ok(run)
+}
+
+fn run_lengths(trial: &mut Trial, area: &[u16], count: u16) -> Check {
+    let run = opened(trial, area, count)?;
+    for (cond, wanted) in [(count - 1, None), (count, Some(CONDITION_RANGE))] {
+        let got = trial.evaluate(area, &mut run.clone(), cond.into())?.err();
         figure("evaluate", got, wanted)?;
-        let got = trial.value(&area, &run, cond)?.err();
+        let got = trial.value(area, &run, cond.into())?.err();
         figure("value", got, wanted)?;
     }
-    let short = &run[..whole - 1];
-    let got = trial.evaluate(&area, &mut short.to_vec(), 0)?.err();
+    let short = &run[..run.len() - 1];
+    let got = trial.evaluate(area, &mut short.to_vec(), 0)?.err();
     figure("evaluate", got, Some(RUN_UNSOUND))?;
-    let got = trial.drive(&area, &mut short.to_vec(), 5)?.err();
+    let got = trial.drive(area, &mut short.to_vec(), 5)?.err();
     figure("drive", got, Some(RUN_UNSOUND))?;
-    let got = trial.value(&area, short, 0)?.err();
-    figure("value", got, Some(RUN_UNSOUND))?;
-    // With a workspace of no number, one short, just enough and more.
-    let needed = workspace::needed(&area);
+    let got = trial.value(area, short, 0)?.err();
+    figure("value", got, Some(RUN_UNSOUND))
+}
+
+/// A workspace of one number short, just enough and more; `drive` tries others.
+fn workspace_lengths(trial: &mut Trial, area: &[u16], count: u16) -> Check {
+    let needed = workspace::needed(area);
+    let run = opened(trial, area, count)?;
     let mut driven = run.clone();
-    let got = trial.drive(&area, &mut driven, 3)?.err();
-    figure("drive", got, None)?;
+    let wanted = trial.drive(area, &mut driven, 3)?;
+    figure("drive", wanted.err(), None)?;
     for length in [needed - 1, needed, needed + 1, workspace::WORKSPACE_MAX] {
-        let wanted = crate::plain::drive(&area, &mut run.clone(), 3);
-        trial.drive_in(&area, &run, 3, (wanted, &driven), length)?;
+        trial.drive_in(area, &run, 3, (wanted, &driven), length)?;
     }
+    Ok(())
+}
+
+fn closed_lengths(trial: &mut Trial, area: &[u16], count: u16) -> Check {
+    let needed = 6 * usize::from(count);
     for (scratch, answers, wanted) in [
-        (2 * whole, 4, None),
-        (2 * whole - 1, 4, Some(SCRATCH_SHORT)),
-        (2 * whole, 3, Some(ANSWERS_SHORT)),
+        (needed, 4, None),
+        (needed - 1, 4, Some(SCRATCH_SHORT)),
+        (needed, 3, Some(ANSWERS_SHORT)),
     ] {
         let (mut scratch, mut answers) = (trial.rubbish(scratch), trial.rubbish(answers));
-        let got = trial.closed(&area, &list, &mut scratch, &mut answers)?;
+        let got = trial.closed(area, &[0, count - 1], &mut scratch, &mut answers)?;
         figure("closed", got.err(), wanted)?;
     }
     Ok(())
