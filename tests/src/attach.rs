@@ -4,7 +4,10 @@
 use std::process::Command;
 use std::sync::OnceLock;
 
+use crate::body::Pair;
+use crate::cases::large::slow_page;
 use crate::closed;
+use crate::fast::{Index, Run};
 use crate::gen::{self, Size};
 use crate::input::shown_text;
 use crate::page::{self, Line, Page, LINES_MAX};
@@ -23,12 +26,16 @@ pub fn expected(text: &[u8]) -> String {
         Ok(page) => page,
         Err(refusal) => return format!("refused,{},{}\n", refusal.number, refusal.line),
     };
-    let (plain, closed) = (plain::reading(&page), closed::reading(&page));
+    printed(&page, &plain::reading(&page), &closed::reading(&page))
+}
+
+/// What `attach` prints for a page with these answers.
+fn printed(page: &Page, plain: &[Pair], closed: &[Pair]) -> String {
     let mut out = format!("top,{}\n", page.top);
     let mut count = 0;
     for line in &page.lines {
         if let Line::Query { closed: by, cond } = line {
-            let (letter, reading) = if *by { ('W', &closed) } else { ('K', &plain) };
+            let (letter, reading) = if *by { ('W', closed) } else { ('K', plain) };
             let pair = reading[usize::from(*cond)];
             out.push_str(&format!("{letter},{cond},{},{}\n", pair.low, pair.high));
             count += 1;
@@ -40,7 +47,7 @@ pub fn expected(text: &[u8]) -> String {
 
 /// Runs the program on these bytes, handed over in pieces of this length; its output. It must end with status 0 and leave
 /// standard error empty.
-pub fn run(text: &[u8], piece: usize) -> Check<Vec<u8>> {
+pub fn run_program(text: &[u8], piece: usize) -> Check<Vec<u8>> {
     let program = PROGRAM.get().ok_or("no program is named")?;
     let mut command = Command::new(&program[0]);
     command.args(&program[1..]);
@@ -70,7 +77,7 @@ fn compare(trial: &mut Trial, text: &[u8]) -> Check {
 fn compare_in_pieces(trial: &mut Trial, text: &[u8], piece: usize) -> Check {
     trial.pages += 1;
     trial.engine.calls += 1;
-    let got = run(text, piece)?;
+    let got = run_program(text, piece)?;
     let wanted = expected(text);
     if got == wanted.as_bytes() {
         Ok(())
@@ -103,6 +110,7 @@ pub fn cases() -> Vec<Case> {
             many_queries,
         ),
         case("attach_agrees_on_pages_at_the_limits", 3, limit_pages),
+        case("attach_agrees_on_slow_pages", 13, slow_pages),
         case("attach_reads_input_that_comes_in_pieces", 20, pieces),
         case("attach_refuses_long_input", 1, long_input),
     ]
@@ -193,6 +201,25 @@ fn limit_pages(trial: &mut Trial, _: u64) -> Check {
     page.lines.truncate(LINES_MAX - 20);
     gen::add_queries(&mut trial.rng, &mut page, 20);
     compare(trial, &page.text())
+}
+
+/// Slow pages of 512 conditions, by the fast reference.
+fn slow_pages(trial: &mut Trial, item: u64) -> Check {
+    trial.pages += 1;
+    trial.engine.calls += 1;
+    let mut page = slow_page(trial, item as usize, 512);
+    for cond in [0, 255, 511] {
+        for closed in [false, true] {
+            page.lines.push(Line::Query { closed, cond });
+        }
+    }
+    let index = Index::new(&page);
+    let mut run = Run::open(&index, &[0, 255, 511]);
+    run.drive(u32::MAX);
+    let wanted = printed(&page, &run.pairs, &index.closed());
+    let text = page.text();
+    let got = run_program(&text, text.len())?;
+    figure("the output", String::from_utf8_lossy(&got), wanted.into())
 }
 
 fn pieces(trial: &mut Trial, _: u64) -> Check {

@@ -12,10 +12,11 @@ use std::process::Command;
 use std::sync::OnceLock;
 
 use crate::attach;
+use crate::ffi::CALLS;
 use crate::page::OPS;
 use crate::programs::{self, built, file, root};
 use crate::runner::Case;
-use crate::stack::header_figure;
+use crate::stack::{header_figure, stack_figure};
 use crate::trial::{figure, Check, Trial};
 
 pub fn cases() -> Vec<Case> {
@@ -50,15 +51,27 @@ const LIMITS: &[(&str, &str)] = &[
     ("numbers of the longest page area", "SIMJORAD_PAGE_MAX"),
 ];
 
-/// Where a document states a limit in words: what stands before and after the figure.
-const PHRASES: &[(&str, &str, &str)] = &[
-    ("top 1 to ", "", "SIMJORAD_TOP_MAX"),
-    ("top over ", "", "SIMJORAD_TOP_MAX"),
-    ("C 1 to ", "", "SIMJORAD_CONDITIONS_MAX"),
-    ("up to ", " conditions", "SIMJORAD_CONDITIONS_MAX"),
-    ("1 to ", " literals", "SIMJORAD_LITERALS_MAX"),
-    ("more than ", " queries", "SIMJORAD_QUERIES_MAX"),
-    ("more than ", " entries", "SIMJORAD_QUERIES_MAX"),
+/// Where a document states a limit in words: what stands before and after the figure, the limit, and what is added to it.
+const PHRASES: &[(&str, &str, &str, usize)] = &[
+    ("top 1 to ", "", "SIMJORAD_TOP_MAX", 0),
+    ("top over ", "", "SIMJORAD_TOP_MAX", 0),
+    ("whole number, 1 to ", "", "SIMJORAD_TOP_MAX", 0),
+    ("C 1 to ", "", "SIMJORAD_CONDITIONS_MAX", 0),
+    ("up to ", " conditions", "SIMJORAD_CONDITIONS_MAX", 0),
+    ("All ", " possible conditions", "SIMJORAD_CONDITIONS_MAX", 0),
+    ("1 to ", " literals", "SIMJORAD_LITERALS_MAX", 0),
+    ("more than ", " queries", "SIMJORAD_QUERIES_MAX", 0),
+    ("more than ", " entries", "SIMJORAD_QUERIES_MAX", 0),
+    ("more than ", " bytes", "SIMJORAD_TEXT_MAX", 0),
+    ("longer than ", " bytes", "SIMJORAD_TEXT_MAX", 0),
+    ("used length is ", "", "SIMJORAD_PAGE_MAX", 0),
+    ("(", " numbers always suffice", "SIMJORAD_PAGE_MAX", 0),
+    ("at most ", " lines", "SIMJORAD_LINES_MAX", 0),
+    ("count of lines is at most ", "", "SIMJORAD_LINES_MAX", 0),
+    ("count among the ", "", "SIMJORAD_LINES_MAX", 0),
+    ("Row 11: ", " lines in all", "SIMJORAD_LINES_MAX", 1),
+    ("it is line ", "", "SIMJORAD_LINES_MAX", 2),
+    ("are read; a ", "th is refused", "SIMJORAD_LINES_MAX", 2),
 ];
 
 type Interval = (u32, u32);
@@ -67,6 +80,8 @@ type Interval = (u32, u32);
 struct Document {
     /// The intervals that checked parts show.
     shown: BTreeSet<Interval>,
+    /// The lines that commands print.
+    printed: BTreeSet<String>,
     /// The lines of no checked part, each with its number.
     prose: Vec<(usize, String)>,
 }
@@ -123,6 +138,13 @@ fn unquoted(line: &str) -> String {
     line.split('`').step_by(2).collect::<Vec<_>>().join(" ")
 }
 
+/// Whether a part in backquotes is a line that `attach` prints, in figures.
+fn is_output(code: &str) -> bool {
+    let (word, rest) = code.split_once(',').unwrap_or((code, ""));
+    let figures = rest.split(',').all(|field| field.parse::<u32>().is_ok());
+    ["top", "K", "W", "end", "refused"].contains(&word) && figures
+}
+
 /// The intervals [a;b] in figures.
 fn intervals(text: &str) -> Vec<Interval> {
     text.split('[')
@@ -162,7 +184,7 @@ fn unescaped(text: &str) -> Check<Vec<u8>> {
 
 /// What `attach` prints for these bytes.
 fn attached(text: &[u8]) -> Check<String> {
-    let out = attach::run(text, text.len().max(1))?;
+    let out = attach::run_program(text, text.len().max(1))?;
     Ok(String::from_utf8_lossy(&out).into_owned())
 }
 
@@ -242,6 +264,7 @@ impl Document {
         figure(&format!("the output of `{command}`"), &*got, wanted)?;
         self.shown.extend(intervals(&got));
         for line in got.lines() {
+            self.printed.insert(line.to_string());
             let fields: Vec<&str> = line.split(',').collect();
             if let ["K" | "W", _, low, high] = fields[..] {
                 self.shown
@@ -266,6 +289,7 @@ impl Document {
             "runs," => runs(rest, table),
             "limits" => limits(table),
             "refusals" => refusals(table),
+            "operations" => operations(table),
             _ => Err(format!("`{how}` is not known")),
         }
     }
@@ -284,6 +308,11 @@ impl Document {
                     return Err(format!(
                         "line {number}: {interval:?} is shown by no checked part"
                     ));
+                }
+            }
+            for code in quoted(line).iter().filter(|code| is_output(code)) {
+                if !self.printed.contains(code) {
+                    return Err(format!("line {number}: no command prints `{code}`"));
                 }
             }
             let plain = unquoted(line);
@@ -471,14 +500,96 @@ fn refusals(table: &Table) -> Check {
     figure("the refusals", stated, wanted)
 }
 
+/// `operations`: the column refusals holds, in order, those that the header states for the column function.
+fn operations(table: &Table) -> Check {
+    let header = file("include/simjorad.h")?;
+    for row in &table.rows {
+        let function = quoted(table.cell(row, "function")?).concat();
+        let (before, _) = header
+            .split_once(&format!(" {function}("))
+            .ok_or(format!("{function} is not declared"))?;
+        let comment = before.rsplit("/*").next().unwrap_or_default();
+        let wanted = match comment.split_once("or minus ") {
+            Some((_, rest)) => rest.split('.').next().unwrap_or_default(),
+            None if comment.contains("Never refuses") => "none",
+            None => return Err(format!("no refusals are stated for {function}")),
+        };
+        let stated = table.cell(row, "refusals, in order")?;
+        figure(&function, stated, &wanted.replace(" or ", ", "))?;
+    }
+    Ok(())
+}
+
+/// The number at the end of a text.
+fn number_before(text: &str) -> Option<usize> {
+    let digits = text.bytes().rev().take_while(u8::is_ascii_digit).count();
+    text[text.len() - digits..].parse().ok()
+}
+
+/// The number at the start of a text, and what follows it.
+fn number_after(text: &str) -> Option<(usize, &str)> {
+    let digits = text.bytes().take_while(u8::is_ascii_digit).count();
+    Some((text[..digits].parse().ok()?, &text[digits..]))
+}
+
+/// Lengths as in `3 × C`, which the header must have, and divisions as in `7 × 5 / 10 is 3`.
+fn arithmetic(text: &str) -> Check {
+    let header = file("include/simjorad.h")?;
+    let parts: Vec<&str> = text.split(" × ").collect();
+    for pair in parts.windows(2) {
+        let Some(first) = number_before(pair[0]) else {
+            continue;
+        };
+        if pair[1].starts_with('C') && !header.contains(&format!("({first} * (c))")) {
+            return Err(format!("{first} × C is no length of the header"));
+        }
+        let stated = number_after(pair[1]).and_then(|(second, rest)| {
+            let (top, rest) = number_after(rest.strip_prefix(" / ")?)?;
+            let (result, _) = number_after(rest.strip_prefix(" is ")?)?;
+            Some((second, top, result))
+        });
+        if let Some((second, top, result)) = stated {
+            let what = format!("{first} × {second} / {top}");
+            figure(&what, result, first * second / top)?;
+        }
+    }
+    Ok(())
+}
+
+/// A stack that no call exceeds, as in `more than 2 KiB of stack`.
+fn stack(text: &str) -> Check {
+    for (at, _) in text.match_indices(" KiB of stack") {
+        let stated = number_before(&text[..at]).ok_or("no figure before KiB")?;
+        for call in CALLS {
+            let name = stack_figure(call);
+            let most = header_figure(&name)?;
+            figure(
+                &format!("{name} within {stated} KiB"),
+                most <= 1024 * stated,
+                true,
+            )?;
+        }
+    }
+    Ok(())
+}
+
 /// The limits that a text states in words.
 fn phrases(text: &str) -> Check {
-    for (before, after, name) in PHRASES {
+    arithmetic(text)?;
+    stack(text)?;
+    // A phrase may go over the end of a line.
+    let text = text.split_whitespace().collect::<Vec<_>>().join(" ");
+    for (before, after, name, more) in PHRASES {
         for rest in text.split(before).skip(1) {
-            let digits = rest.bytes().take_while(u8::is_ascii_digit).count();
-            if digits > 0 && rest[digits..].starts_with(after) {
-                let what = format!("`{before}{}{after}`", &rest[..digits]);
-                figure(&what, &rest[..digits], &header_figure(name)?.to_string())?;
+            let length = rest
+                .bytes()
+                .take_while(|byte| byte.is_ascii_digit() || *byte == b',')
+                .count();
+            let written = rest[..length].trim_end_matches(',');
+            if !written.is_empty() && rest[written.len()..].starts_with(after) {
+                let what = format!("`{before}{written}{after}`");
+                let wanted = (header_figure(name)? + more).to_string();
+                figure(&what, written.replace(',', ""), wanted)?;
             }
         }
     }
@@ -529,6 +640,7 @@ fn check(trial: &mut Trial, path: &'static str) -> Check {
     trial.pages += 1;
     let mut document = Document {
         shown: BTreeSet::new(),
+        printed: BTreeSet::new(),
         prose: Vec::new(),
     };
     let text = file(path)?;

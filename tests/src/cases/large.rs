@@ -154,8 +154,13 @@ fn every_count_of_lines(trial: &mut Trial, item: u64) -> Check {
 /// The least, the greatest, and both sides of a word of a set of conditions.
 const SIZES: [u16; 4] = [512, 129, 193, 320];
 
-/// A kind of slow page, and whether its drive and its closed reading are tried without a workspace at 512 conditions.
+/// A kind of slow page, and whether its drive and its closed reading are tried without a workspace at every size.
 type Kind = (fn(&mut Trial, u16) -> Page, bool, bool);
+
+/// A slow page of one kind, by its number.
+pub fn slow_page(trial: &mut Trial, kind: usize, count: u16) -> Page {
+    KINDS[kind % KINDS.len()].0(trial, count)
+}
 
 const KINDS: &[Kind] = &[
     (|_, count| gen::adding_ring(count, TOP_MAX), false, true),
@@ -217,5 +222,6 @@ fn slow_pages(trial: &mut Trial, item: u64) -> Check {
     let (make, drive, closed) = KINDS[item as usize % KINDS.len()];
     let count = SIZES[item as usize / KINDS.len()];
     let page = make(trial, count);
+    let drive = drive || count < 150;
     compare(trial, &page, Scanning { drive, closed })
 }

@@ -4,7 +4,7 @@ mod areas;
 mod closed;
 mod figures;
 mod grades;
-mod large;
+pub mod large;
 mod lists;
 mod reader;
 mod refusals;
