@@ -208,6 +208,7 @@ fn slow_pages(trial: &mut Trial, item: u64) -> Check {
     trial.pages += 1;
     trial.engine.calls += 1;
     let mut page = slow_page(trial, item as usize, 512);
+    page.lines.truncate(LINES_MAX - 6);
     for cond in [0, 255, 511] {
         for closed in [false, true] {
             page.lines.push(Line::Query { closed, cond });
