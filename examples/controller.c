@@ -18,7 +18,8 @@ enum { ATTACH = 0, PULSATOR = 1, SENSOR_A = 6, SENSOR_B = 7, CONDITIONS = 8 };
 
 /* The thresholds are grades out of TOP: a page with another top is not for this controller. */
 enum { TOP = 100, ATTACH_NEEDED = 70, PULSATOR_NEEDED = 85 };
-typedef char thresholds_are_grades[ATTACH_NEEDED >= 1 && ATTACH_NEEDED <= TOP && PULSATOR_NEEDED >= 1 && PULSATOR_NEEDED <= TOP ? 1 : -1];
+#define IS_THRESHOLD(grade) ((grade) >= 1 && (grade) <= TOP)
+typedef char thresholds_are_grades[IS_THRESHOLD(ATTACH_NEEDED) && IS_THRESHOLD(PULSATOR_NEEDED) ? 1 : -1];
 
 /* Evaluations for each movement. */
 enum { BUDGET = 8 };

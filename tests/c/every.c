@@ -106,6 +106,16 @@ static void runs(void)
     CHECK(simjorad_value(area, USED, run, 6, 0, &low, &high) == -SIMJORAD_NOT_REACHED);
 }
 
+/* A sound run area that no opening left need not come to rest: 0 denies itself and goes to and fro. */
+static void no_rest(void)
+{
+    static const uint16_t page[] = {1, 1, 1, 9, 0, 1, 1, 1, 1};
+    uint16_t run[] = {0, 0, 2};
+    uint32_t taken = 0;
+
+    CHECK(simjorad_drive(page, 9, run, 3, 1000, &taken) == 0 && taken == 1000 && run[2] == 2);
+}
+
 static void closed(void)
 {
     static const uint16_t queries[] = {1, 0}, answer[] = {3, 8, 2, 7};
@@ -129,6 +139,7 @@ int main(void)
     reads();
     long_texts();
     runs();
+    no_rest();
     closed();
     printf("%d passed, %d failed\n", passed, failed);
     return failed != 0;

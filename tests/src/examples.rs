@@ -136,7 +136,7 @@ fn every_function(_: &mut Trial, _: u64) -> Check {
     figure(
         "tests/c/every.c",
         lines(&ended),
-        vec!["47 passed, 0 failed".to_string()],
+        vec!["48 passed, 0 failed".to_string()],
     )?;
     figure("the exit status", ended.status, Some(0))?;
     let test = file("tests/c/every.c")?;
@@ -159,19 +159,30 @@ fn declared() -> Check<BTreeSet<String>> {
         .collect())
 }
 
-fn exported_functions(_: &mut Trial, _: u64) -> Check {
+/// The names that `nm` lists for the library.
+fn names(arguments: &[&str]) -> Check<BTreeSet<String>> {
     let mut command = Command::new("nm");
-    command
-        .args(["-g", "--defined-only"])
-        .arg(programs::library());
+    command.args(arguments).arg(programs::library());
     let ended = programs::run(&mut command, b"", 1)?;
-    let exported: BTreeSet<String> = lines(&ended)
+    figure("the status of nm", ended.status, Some(0))?;
+    let of_line = |line: &String| line.split_whitespace().last().map(str::to_string);
+    Ok(lines(&ended).iter().filter_map(of_line).collect())
+}
+
+fn exported_functions(_: &mut Trial, _: u64) -> Check {
+    let defined = names(&["-g", "--defined-only"])?;
+    let exported: BTreeSet<String> = defined
         .iter()
-        .filter_map(|line| line.split_whitespace().nth(2))
         .filter(|name| name.starts_with("simjorad_"))
-        .map(str::to_string)
+        .cloned()
         .collect();
-    figure("the exported functions", exported, declared()?)
+    figure("the exported functions", exported, declared()?)?;
+    let foreign: Vec<String> = names(&["-u"])?
+        .into_iter()
+        .filter(|name| !name.ends_with(':') && !defined.contains(name))
+        .filter(|name| !["memcpy", "memset"].contains(&name.as_str()))
+        .collect();
+    figure("what else the library asks for", foreign, Vec::new())
 }
 
 /// The version of the header and a fingerprint of what it declares. A change of either asks for the other.

@@ -92,6 +92,11 @@ pub const FAULTS: &[(&str, &str, &str)] = &[
         "quick only CASE",
         "show_line_agrees_on_any_bytes",
     ),
+    (
+        "condition_300_refused_at_301_conditions",
+        "only CASE",
+        "both_sides_of_every_range_of_a_text_at_every_top_and_count",
+    ),
     // Soundness.
     (
         "literal_range_unchecked",
@@ -132,6 +137,11 @@ pub const FAULTS: &[(&str, &str, &str)] = &[
         "high_above_top_accepted",
         "quick only CASE",
         "every_wrong_run_area_is_refused_14_by_each_operation",
+    ),
+    (
+        "full_fact_unsound_at_top_57",
+        "only CASE",
+        "both_sides_of_every_range_of_a_page_area_at_every_top_and_count",
     ),
     // Open a run.
     (
@@ -224,6 +234,11 @@ pub const FAULTS: &[(&str, &str, &str)] = &[
         "queries_wake_too",
         "quick only CASE",
         "attach_example_figures",
+    ),
+    (
+        "wake_misses_condition_448",
+        "only CASE",
+        "a_waiting_condition_is_found_and_woken_wherever_it_is",
     ),
     // Body values.
     (
@@ -387,6 +402,11 @@ pub const FAULTS: &[(&str, &str, &str)] = &[
         "short_answers_written",
         "quick only CASE",
         "refusal_order_of_closed",
+    ),
+    (
+        "scratch_one_short_accepted_at_129_conditions",
+        "only CASE",
+        "both_sides_of_every_length",
     ),
     // Workspaces.
     (
@@ -683,7 +703,12 @@ fn sound_page(area: &[u16]) -> Option<Page> {
     if overlooks.contains(&planted()) && area.len() >= 4 && area[3] >= 4 {
         return area::decode(&overlooked(area));
     }
-    area::decode(area)
+    let page = area::decode(area)?;
+    let is_full = |line: &Line| matches!(line, Line::Fact { high, .. } if *high == page.top);
+    if fault("full_fact_unsound_at_top_57") && page.top == 57 && page.lines.iter().any(is_full) {
+        return None;
+    }
+    Some(page)
 }
 
 fn run_is_sound(page: &Page, run: &[u16]) -> bool {
@@ -840,6 +865,9 @@ fn step(page: &Page, run: &mut [u16], cond: u16) -> bool {
                 Line::Query { cond: head, .. } => (*head, fault("queries_wake_too")),
                 Line::Fact { .. } => continue,
             };
+            if head == 448 && fault("wake_misses_condition_448") {
+                continue;
+            }
             let mark = &mut run[3 * usize::from(head) + 2];
             if names_it && (*mark != NOT_REACHED_MARK || fault("wake_unreached")) {
                 *mark = WAITING_MARK;
@@ -874,6 +902,7 @@ fn next_waiting(page: &Page, run: &[u16], from: u16) -> Option<u16> {
 const STEPWISE: &[&str] = &[
     "wake_only_when_low_rises",
     "wake_nobody",
+    "wake_misses_condition_448",
     "wake_unreached",
     "wake_self_always",
     "wake_unless_unchanged_ignored",
@@ -1017,6 +1046,12 @@ fn read_text(text: &[u8], area: &mut [u16]) -> Result<usize, ReadRefusal> {
         return Err(ReadRefusal {
             number: AREA_SHORT,
             line: 0,
+        });
+    }
+    if fault("condition_300_refused_at_301_conditions") && text.starts_with(b"G,101,301\nQ,K,300") {
+        return Err(ReadRefusal {
+            number: LINE_RANGE,
+            line: 2,
         });
     }
     let changes = [
@@ -1457,7 +1492,10 @@ fn closed_call(
         // SAFETY: none; this is the planted fault.
         unsafe { std::ptr::write_volatile(queries.as_ptr() as *mut u16, queries[0]) };
     }
-    let needed = 6 * usize::from(page.count);
+    let mut needed = 6 * usize::from(page.count);
+    if fault("scratch_one_short_accepted_at_129_conditions") && page.count == 129 {
+        needed -= 1;
+    }
     if scratch.len() < needed {
         return Err(SCRATCH_SHORT);
     }
