@@ -111,6 +111,7 @@ pub fn cases() -> Vec<Case> {
         ),
         case("attach_agrees_on_pages_at_the_limits", 3, limit_pages),
         case("attach_agrees_on_slow_pages", 13, slow_pages),
+        case("attach_takes_little_stack", 1, little_stack),
         case("attach_reads_input_that_comes_in_pieces", 20, pieces),
         case("attach_refuses_long_input", 1, long_input),
     ]
@@ -221,6 +222,26 @@ fn slow_pages(trial: &mut Trial, item: u64) -> Check {
     let text = page.text();
     let got = run_program(&text, text.len())?;
     figure("the output", String::from_utf8_lossy(&got), wanted.into())
+}
+
+/// A page of the greatest size, with no more than 512 KiB of stack for the whole program.
+fn little_stack(trial: &mut Trial, _: u64) -> Check {
+    trial.pages += 1;
+    trial.engine.calls += 1;
+    let program = PROGRAM.get().ok_or("no program is named")?;
+    let mut page: Page = gen::page(&mut trial.rng, Size::Limit);
+    page.lines.truncate(LINES_MAX - 2);
+    for closed in [false, true] {
+        page.lines.push(Line::Query { closed, cond: 3 });
+    }
+    let text = page.text();
+    let mut command = Command::new("sh");
+    command.args(["-c", "ulimit -s 512 && exec \"$0\" \"$@\""]);
+    command.args(program);
+    let ended = programs::run(&mut command, &text, text.len())?;
+    let output = String::from_utf8_lossy(&ended.out).into_owned();
+    figure("the output", output, expected(&text))?;
+    figure("the exit status", ended.status, Some(0))
 }
 
 fn pieces(trial: &mut Trial, _: u64) -> Check {

@@ -22,23 +22,34 @@ use crate::trial::{figure, Check, Trial};
 pub fn cases() -> Vec<Case> {
     vec![Case {
         name: "every_figure_of_the_documents_is_the_program_s",
-        items: DOCUMENTS.len() as u64,
-        each: |trial, item| check(trial, DOCUMENTS[item as usize]),
+        items: documents().len() as u64,
+        each: |trial, item| check(trial, &documents()[item as usize]),
         must_see: &[],
     }]
 }
 
-const DOCUMENTS: &[&str] = &[
-    "README.md",
-    "include/simjorad.h",
-    "docs/PAGES.md",
-    "docs/RULES.md",
-    "examples/attach-cup.md",
-    "examples/divert-milk.md",
-    "examples/kick-sensor.md",
-    "examples/short-check.md",
-    "examples/two-sensors.md",
-];
+/// The documents that are checked: those named here, and every comment file of an example.
+fn documents() -> Vec<String> {
+    let named = [
+        "README.md",
+        "include/simjorad.h",
+        "docs/PAGES.md",
+        "docs/RULES.md",
+    ];
+    let mut all: Vec<String> = named.map(str::to_string).to_vec();
+    let entries = std::fs::read_dir(root().join("examples"));
+    let mut comments: Vec<String> = entries
+        .into_iter()
+        .flatten()
+        .flatten()
+        .map(|entry| entry.file_name().to_string_lossy().into_owned())
+        .filter(|name| name.ends_with(".md"))
+        .map(|name| format!("examples/{name}"))
+        .collect();
+    comments.sort();
+    all.extend(comments);
+    all
+}
 
 /// The limits by the words that a document uses for them.
 const LIMITS: &[(&str, &str)] = &[
@@ -636,7 +647,7 @@ impl Document {
     }
 }
 
-fn check(trial: &mut Trial, path: &'static str) -> Check {
+fn check(trial: &mut Trial, path: &str) -> Check {
     trial.pages += 1;
     let mut document = Document {
         shown: BTreeSet::new(),

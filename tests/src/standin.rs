@@ -544,6 +544,11 @@ pub const FAULTS: &[(&str, &str, &str)] = &[
         "attach_prints_the_example",
     ),
     (
+        "attach_takes_1_5_mb_of_stack",
+        "attach standin only CASE",
+        "attach_takes_little_stack",
+    ),
+    (
         "attach_skips_the_last_query",
         "attach standin only CASE",
         "attach_prints_the_example",
@@ -588,6 +593,9 @@ pub fn attach() -> i32 {
         output = [&lines[..lines.len() - 2], &["end,1", ""]]
             .concat()
             .join("\n");
+    }
+    if fault("attach_takes_1_5_mb_of_stack") {
+        take_stack::<1_500_000>();
     }
     if fault("attach_writes_to_standard_error") {
         eprintln!("page read");
@@ -1598,13 +1606,15 @@ pub fn mutants(every_case: bool) -> bool {
             println!("FAILED {name}: not noticed by {case}, only by {failing:?}");
         }
     }
-    let clean = failing_cases("", "quick");
-    if clean.is_empty() {
-        noticed += 1;
-        println!("ok without a fault");
-    } else {
-        missed += 1;
-        println!("FAILED without a fault: {clean:?}");
+    for words in ["quick", "attach standin only attach"] {
+        let clean = failing_cases("", words);
+        if clean.is_empty() {
+            noticed += 1;
+            println!("ok without a fault ({words})");
+        } else {
+            missed += 1;
+            println!("FAILED without a fault: {clean:?}");
+        }
     }
     println!("{noticed} passed, {missed} failed");
     missed == 0
