@@ -29,6 +29,19 @@ pub fn expected(text: &[u8]) -> String {
     printed(&page, &plain::reading(&page), &closed::reading(&page))
 }
 
+/// The same by the fast reference.
+pub fn expected_fast(text: &[u8]) -> String {
+    let page = match page::read(text) {
+        Ok(page) => page,
+        Err(refusal) => return format!("refused,{},{}\n", refusal.number, refusal.line),
+    };
+    let index = Index::new(&page);
+    let all: Vec<u16> = (0..page.count).collect();
+    let mut run = Run::open(&index, &all);
+    run.drive(u32::MAX);
+    printed(&page, &run.pairs, &index.closed())
+}
+
 /// What `attach` prints for a page with these answers.
 fn printed(page: &Page, plain: &[Pair], closed: &[Pair]) -> String {
     let mut out = format!("top,{}\n", page.top);
@@ -215,12 +228,9 @@ fn slow_pages(trial: &mut Trial, item: u64) -> Check {
             page.lines.push(Line::Query { closed, cond });
         }
     }
-    let index = Index::new(&page);
-    let mut run = Run::open(&index, &[0, 255, 511]);
-    run.drive(u32::MAX);
-    let wanted = printed(&page, &run.pairs, &index.closed());
     let text = page.text();
     let got = run_program(&text, text.len())?;
+    let wanted = expected_fast(&text);
     figure("the output", String::from_utf8_lossy(&got), wanted.into())
 }
 

@@ -3,6 +3,7 @@
 use std::io::Write;
 use std::path::{Path, PathBuf};
 use std::process::{Command, Stdio};
+use std::sync::mpsc::{self, RecvTimeoutError};
 use std::sync::OnceLock;
 use std::thread;
 use std::time::Duration;
@@ -14,6 +15,13 @@ pub struct Ended {
     pub status: Option<i32>,
     pub out: Vec<u8>,
     pub err: Vec<u8>,
+}
+
+/// A program that takes longer is ended and has failed.
+const LIMIT: Duration = Duration::from_secs(40);
+
+extern "C" {
+    fn kill(process: i32, signal: i32) -> i32;
 }
 
 /// Runs a program on this input, handed over in pieces of this length.
@@ -37,10 +45,18 @@ pub fn run(command: &mut Command, input: &[u8], piece: usize) -> Check<Ended> {
             }
         }
     });
-    let output = child
-        .wait_with_output()
-        .map_err(|error| format!("{command:?} does not end: {error}"))?;
-    let _ = writer.join();
+    let process = child.id() as i32;
+    let (ended, end) = mpsc::channel::<()>();
+    let watch = thread::spawn(move || {
+        if end.recv_timeout(LIMIT) == Err(RecvTimeoutError::Timeout) {
+            // SAFETY: the process is this function's own and was not yet waited for.
+            unsafe { kill(process, 9) };
+        }
+    });
+    let output = child.wait_with_output();
+    drop(ended);
+    let _ = (watch.join(), writer.join());
+    let output = output.map_err(|error| format!("{command:?} does not end: {error}"))?;
     Ok(Ended {
         status: output.status.code(),
         out: output.stdout,
