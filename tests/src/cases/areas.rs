@@ -12,7 +12,7 @@ pub fn cases() -> Vec<Case> {
     vec![
         Case {
             name: "every_wrong_page_area_is_refused_10_by_each_operation",
-            items: 700,
+            items: 500,
             each: wrong_page_areas,
             must_see: &[
                 ("open", 10),

@@ -27,7 +27,7 @@ pub fn cases() -> Vec<Case> {
         },
         Case {
             name: "closed_reading_agrees_with_the_definition_on_medium_pages",
-            items: 8_000,
+            items: 5_000,
             each: |trial, _| random(trial, Size::Medium),
             must_see: MANY_SIDED,
         },
@@ -39,7 +39,7 @@ pub fn cases() -> Vec<Case> {
         },
         Case {
             name: "closed_reading_agrees_on_knots_of_support_and_negation",
-            items: 10_000,
+            items: 7_000,
             each: knots,
             must_see: MANY_SIDED,
         },

@@ -15,7 +15,7 @@ pub fn cases() -> Vec<Case> {
     vec![
         Case {
             name: "lists_of_calls_agree_with_the_book_on_random_pages",
-            items: 8_000,
+            items: 5_000,
             each: random_pages,
             must_see: &[],
         },

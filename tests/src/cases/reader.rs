@@ -12,13 +12,13 @@ pub fn cases() -> Vec<Case> {
     vec![
         Case {
             name: "reader_agrees_on_good_pages",
-            items: 10_000,
+            items: 6_000,
             each: good_pages,
             must_see: &[("read", 0), ("read", 6)],
         },
         Case {
             name: "reader_agrees_on_spoilt_pages",
-            items: 12_000,
+            items: 8_000,
             each: spoilt_pages,
             must_see: &[
                 ("read", 0),

@@ -36,7 +36,7 @@ pub fn cases() -> Vec<Case> {
         },
         Case {
             name: "drive_agrees_on_arbitrary_sound_areas",
-            items: 6_000,
+            items: 4_000,
             each: drives,
             must_see: &[
                 ("drive", 0),
