@@ -1,8 +1,8 @@
 /*
  * simjorad.h: the rule-page engine, for the controller of the arm processor. The rules are in docs/RULES.md.
  *
- * Target. The header is C99 and needs stdint and stddef only. The library, libcapi.a, is built for x86-64 (Linux, System V calls) and asks
- * the host for memcpy and memset only. There is no library for another processor.
+ * Target. The header is C99 and needs stdint and stddef only. Compile simjorad.c (dist/) with your program, on any processor, or link with
+ * libcapi.a on x86-64 (Linux, System V calls): both ask the host for memcpy and memset only.
  *
  * Slices. A slice is a pointer and a count of ELEMENTS (not bytes). NULL with a count of 0 is a legal empty slice. Numbers of an area are
  * uint16_t as the processor has them: aligned for uint16_t, in its own byte order, so an area does not travel to a machine with
@@ -94,12 +94,13 @@ extern "C" {
 #define SIMJORAD_WORKSPACE_MAX 10754
 
 /*
- * Stack in bytes that a call takes, its return address and the arguments on the stack counted in. Measured on x86-64
- * with the largest page; tests/ measures it again and fails if a call takes more.
+ * Stack in bytes that a call takes, its return address and the arguments on the stack counted in: of libcapi.a and of simjorad.c by gcc -O2 on
+ * x86-64, measured by tests/ with the largest page, and of simjorad.c by gcc -Os and -O2 on a Cortex-M4, added up by c99/figures. Both fail if a
+ * call takes more. On the Cortex-M4 the host's own memcpy and memset are not counted in.
  */
-#define SIMJORAD_STACK_READ 128
+#define SIMJORAD_STACK_READ 384
 #define SIMJORAD_STACK_SHOW_LINE 64
-#define SIMJORAD_STACK_OPEN 1792
+#define SIMJORAD_STACK_OPEN 1920
 #define SIMJORAD_STACK_EVALUATE 1472
 #define SIMJORAD_STACK_DRIVE 1600
 #define SIMJORAD_STACK_DRIVE_INDEXED 1664
