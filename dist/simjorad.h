@@ -1,0 +1,149 @@
+/*
+ * simjorad.h: the rule-page engine, for the controller of the arm processor.
+ *
+ * C99, nothing needed but stdint and stddef. Compile simjorad.c (dist/) with your program, or link with libcapi.a on x86-64: both ask the
+ * host for memcpy and memset only.
+ *
+ * A slice is a pointer and a count of ELEMENTS (not bytes). NULL with a count of 0 is a legal empty slice.
+ * A call returns a result of 0 or more, or minus the number of its refusal. A refused call changes nothing
+ * that was lent to it, and no out-parameter but the line of simjorad_read. No call keeps anything between calls, allocates or blocks.
+ *
+ * simjorad_drive_indexed and simjorad_closed_indexed give the same answers and the same areas as simjorad_drive and
+ * simjorad_closed. They are lent one more slice, a workspace, for an index of the page's lines: with room for it they take
+ * fewer steps, without room they go through the lines as the other two do. Building the index takes about as long as a few evaluations,
+ * so a drive of a few evaluations is faster without it. A workspace holds nothing between calls: its content before a call
+ * does not matter, and one workspace may serve every page.
+ *
+ * What no proof covers: these declarations, and the caller's duty that a slice which a call writes
+ * (and each out-parameter) shares no number with another slice or out-parameter lent to that call.
+ */
+#ifndef SIMJORAD_H
+#define SIMJORAD_H
+
+#include <stddef.h>
+#include <stdint.h>
+
+#ifdef __cplusplus
+extern "C" {
+#endif
+
+/* Limits. */
+#define SIMJORAD_TOP_MAX 200          /* the greatest grade of a page */
+#define SIMJORAD_CONDITIONS_MAX 512   /* conditions of a page */
+#define SIMJORAD_LINES_MAX 1024       /* lines after the first */
+#define SIMJORAD_LITERALS_MAX 8       /* literals of a rule */
+#define SIMJORAD_QUERIES_MAX 16       /* entries of a query list */
+#define SIMJORAD_TEXT_MAX 65535       /* bytes of a page's text */
+#define SIMJORAD_PAGE_MAX 12292       /* numbers of the longest page area */
+#define SIMJORAD_RUN_LENGTH(c) (3 * (c))     /* numbers of a run area for c conditions */
+#define SIMJORAD_SCRATCH_LENGTH(c) (6 * (c)) /* numbers of scratch for the closed reading of c conditions */
+
+/*
+ * Numbers of a workspace with room for a page's index, and the most that any page needs. The page area holds the counts: conditions is
+ * its second number, lines its third, and literals is its fourth (the used length) - 4 - 4 * lines.
+ */
+#define SIMJORAD_WORKSPACE_LENGTH(conditions, lines, literals) (3 * (conditions) + 2 + (lines) + (literals))
+#define SIMJORAD_WORKSPACE_MAX 10754
+
+/*
+ * Stack in bytes that a call takes, its return address and the arguments on the stack counted in: of libcapi.a and of simjorad.c by gcc -O2 on
+ * x86-64, measured by tests/ with the largest page, and of simjorad.c by gcc -Os and -O2 on a Cortex-M4, added up by c99/figures. Both fail if a
+ * call takes more. On the Cortex-M4 the host's own memcpy and memset are not counted in.
+ */
+#define SIMJORAD_STACK_READ 384
+#define SIMJORAD_STACK_SHOW_LINE 64
+#define SIMJORAD_STACK_OPEN 1920
+#define SIMJORAD_STACK_EVALUATE 1472
+#define SIMJORAD_STACK_DRIVE 1600
+#define SIMJORAD_STACK_DRIVE_INDEXED 1664
+#define SIMJORAD_STACK_VALUE 128
+#define SIMJORAD_STACK_CLOSED 1920
+#define SIMJORAD_STACK_CLOSED_INDEXED 1984
+
+/* Refusals, each with its cause. */
+#define SIMJORAD_TEXT_TOO_LONG 1      /* more than 65,535 bytes */
+#define SIMJORAD_TEXT_UNENDED 2       /* empty, or the last byte is not 10 */
+#define SIMJORAD_LINE_FORM 3          /* a line has none of the forms for its place */
+#define SIMJORAD_LINE_RANGE 4         /* a number is out of range, or low above high */
+#define SIMJORAD_LINE_COUNT 5         /* it is line 1,026 */
+#define SIMJORAD_AREA_SHORT 6         /* the page area is shorter than the used length */
+#define SIMJORAD_PAGE_UNSOUND 10      /* the page area is not sound */
+#define SIMJORAD_QUERY_COUNT 11       /* fewer than 1 or more than 16 queries */
+#define SIMJORAD_QUERY_RANGE 12       /* a query is C or more */
+#define SIMJORAD_RUN_SHORT 13         /* the run area is shorter than 3 * C */
+#define SIMJORAD_RUN_UNSOUND 14       /* the run area is too short or not sound */
+#define SIMJORAD_CONDITION_RANGE 15   /* the condition is C or more */
+#define SIMJORAD_NOT_WAITING 16       /* the condition is not waiting */
+#define SIMJORAD_NOT_REACHED 17       /* the condition is not reached */
+#define SIMJORAD_SCRATCH_SHORT 18     /* scratch shorter than 6 * C */
+#define SIMJORAD_ANSWERS_SHORT 19     /* answers shorter than 2 * the list */
+
+/*
+ * Read a page: the text becomes a page area. Returns the used length (4 or more), or minus 1, 2, 5, 3, 4 or 6.
+ * On refusal *line becomes the line's number from 1 for 3, 4 and 5, and 0 for 1, 2 and 6; a page that is read leaves 0 there.
+ * Writes the used length of area, and nothing of it on refusal.
+ */
+int32_t simjorad_read(const uint8_t *text, size_t text_length, uint16_t *area, size_t area_length, uint32_t *line);
+
+/*
+ * Show a line: where line `number` (from 1) of the text starts, without its byte 10. Returns its length and sets *start;
+ * for a line that is not there the length is 0. Never refuses; text_length may be any size.
+ */
+size_t simjorad_show_line(const uint8_t *text, size_t text_length, size_t number, size_t *start);
+
+/*
+ * Open a run. Returns 0, or minus 10, 11, 12 or 13. Sets *reached to R, *edges to E and *bound to R + top * E.
+ * Writes the first 3 * C numbers of run.
+ */
+int32_t simjorad_open(const uint16_t *page, size_t page_length, const uint16_t *queries, size_t queries_length,
+                      uint16_t *run, size_t run_length, uint32_t *reached, uint32_t *edges, uint32_t *bound);
+
+/*
+ * Evaluate a condition that waits. Returns 1 if its interval changed, 0 if not, or minus 10, 14, 15 or 16.
+ * Writes among the first 3 * C numbers of run.
+ */
+int32_t simjorad_evaluate(const uint16_t *page, size_t page_length, uint16_t *run, size_t run_length, uint32_t condition);
+
+/*
+ * Drive: evaluates the lowest waiting condition until none waits or the allowance is used.
+ * Returns 1 for rest, 0 for spent, or minus 10 or 14. Sets *taken to the evaluations taken.
+ * Writes among the first 3 * C numbers of run.
+ */
+int32_t simjorad_drive(const uint16_t *page, size_t page_length, uint16_t *run, size_t run_length, uint32_t allowance,
+                       uint32_t *taken);
+
+/*
+ * Drive, with an index in the workspace: returns, sets and writes what simjorad_drive does. The workspace may have any length
+ * and any content. If it is shorter than SIMJORAD_WORKSPACE_LENGTH for the page it is not touched; that is no refusal. Else
+ * its first SIMJORAD_WORKSPACE_LENGTH numbers end as zero and the rest stays. A refused call leaves it as it is.
+ */
+int32_t simjorad_drive_indexed(const uint16_t *page, size_t page_length, uint16_t *run, size_t run_length,
+                               uint16_t *workspace, size_t workspace_length, uint32_t allowance, uint32_t *taken);
+
+/*
+ * Value: the interval that a reached condition holds. Returns 1 if the whole run is at rest, 0 if not,
+ * or minus 10, 14, 15 or 17. Sets *low and *high.
+ */
+int32_t simjorad_value(const uint16_t *page, size_t page_length, const uint16_t *run, size_t run_length, uint32_t condition,
+                       uint16_t *low, uint16_t *high);
+
+/*
+ * Closed reading. Returns 0, or minus 10, 11, 12, 18 or 19. Writes low, high per query in list order to answers;
+ * the first 6 * C numbers of scratch end as zero.
+ */
+int32_t simjorad_closed(const uint16_t *page, size_t page_length, const uint16_t *queries, size_t queries_length,
+                        uint16_t *scratch, size_t scratch_length, uint16_t *answers, size_t answers_length);
+
+/*
+ * Closed reading, with an index in the workspace: returns and writes what simjorad_closed does. The workspace is as for
+ * simjorad_drive_indexed.
+ */
+int32_t simjorad_closed_indexed(const uint16_t *page, size_t page_length, const uint16_t *queries, size_t queries_length,
+                                uint16_t *scratch, size_t scratch_length, uint16_t *answers, size_t answers_length,
+                                uint16_t *workspace, size_t workspace_length);
+
+#ifdef __cplusplus
+}
+#endif
+
+#endif
