@@ -7,7 +7,8 @@
 //! the two, `gen` and `spoil` make the inputs, `cases` are the tests.
 //!
 //! - `cargo run --release` runs every case; add `only TEXT` for the cases whose name contains the text,
-//!   `quick` for a tenth of the items, `item NUMBER only TEXT` for one item, as a report names it.
+//!   `quick` for a tenth of the items, `item NUMBER only TEXT` for one item, as a report names it, `calls` for all but the measurements
+//!   of the stack, with a roomy one.
 //! - `cargo run --release -- stack` measures the stack of each function and prints it beside the header's figure.
 //! - `cargo run --release -- attach PATH` tests the program `attach` at that path.
 //! - `cargo run --release -- documents PATH` builds and runs the C examples and the C test (gcc), and makes every figure of the

@@ -5,6 +5,7 @@
 //! far the call went. Two paints, since a call may write a byte that is the same as the paint.
 
 use std::arch::global_asm;
+use std::sync::atomic::{AtomicBool, Ordering};
 use std::sync::OnceLock;
 
 use crate::ffi::{stands_in, Call, CALLS};
@@ -13,8 +14,16 @@ use crate::guard::Mapping;
 /// Bytes of the painted stack.
 const ROOM: usize = 256 * 1024;
 
-/// The stack of the stand-in, which is the reference solver and does not keep to the header's figures.
+/// The stack of a callee that does not keep to the header's figures: the stand-in, which is the reference solver, or a build with
+/// checks of its own.
 pub const STANDIN_STACK: usize = 128 * 1024;
+
+static ROOMY: AtomicBool = AtomicBool::new(false);
+
+/// From now on no call is held to the header's figure. To be called before the first call.
+pub fn make_roomy() {
+    ROOMY.store(true, Ordering::Relaxed);
+}
 
 /// Arguments that go in registers.
 const IN_REGISTERS: usize = 6;
@@ -143,7 +152,7 @@ fn stated_stack(call: Call) -> usize {
     static STATED: OnceLock<[usize; CALLS.len()]> = OnceLock::new();
     STATED.get_or_init(|| {
         CALLS.map(|call| {
-            let stated = if stands_in() {
+            let stated = if stands_in() || ROOMY.load(Ordering::Relaxed) {
                 STANDIN_STACK
             } else {
                 header_figure(&stack_figure(call)).unwrap_or(0)
