@@ -5,16 +5,16 @@ use std::process::exit;
 use outside::{attach, cases, runner};
 
 const USAGE: &str =
-    "arguments: none | calls | quick | only TEXT | item NUMBER only TEXT | stack | attach PATH | documents PATH | mutants [all]";
+    "arguments: none | calls [quick] | quick | only TEXT | item NUMBER only TEXT | stack | attach PATH | documents PATH | mutants [all]";
 
 fn main() {
     let arguments: Vec<String> = std::env::args().skip(1).collect();
     let words: Vec<&str> = arguments.iter().map(String::as_str).collect();
     let good = match words[..] {
         [] => runner::run(&cases::all(), 1, ""),
-        ["calls"] => {
+        ["calls"] | ["calls", "quick"] => {
             outside::stack::make_roomy();
-            runner::run(&cases::calls(), 1, "")
+            runner::run(&cases::calls(), if words.len() == 1 { 1 } else { 10 }, "")
         }
         ["quick"] => runner::run(&cases::all(), 10, ""),
         ["only", text] => runner::run(&cases::all(), 1, text),
