@@ -15,7 +15,7 @@ use Rattle.semantics.specs.Area.{sound, firstLine, pageOf, lineAt, topOf, condi
 use Rattle.semantics.specs.Page.{Line, names, linesName}
 use Rattle.semantics.proofs.Readings.{names-inside}
 use Rattle.semantics.proofs.Soundness.{sound-proper}
-use Rattle.page.specs.Graded.{EntryAt}
+use Rattle.page.specs.Graded.{SoundEntry}
 use Rattle.page.specs.Lines.{Next, lineNames}
 use Rattle.page.proofs.Naming.{lines-name}
 use Rattle.page.proofs.Scan.{entry-four}
@@ -27,7 +27,7 @@ use Rattle.reach.specs.Sets.{Inserts, Visited}
 use Rattle.reach.proofs.Inserting.{Inserting, inserting-first, inserting-next, inserting-skip, inserting-last}
 
 -- the entry where a scan stands
-pub scanned-entry : (a : List ℕ) {at k : ℕ} → Scanning a at k → k < countOf a → EntryAt (topOf a) (conditionsOf a) (usedOf a - at) a at
+pub scanned-entry : (a : List ℕ) {at k : ℕ} → Scanning a at k → k < countOf a → SoundEntry (topOf a) (conditionsOf a) (usedOf a - at) a at
 scanned-entry a {at} s l =
     let e = entry-ok a s l in
     record { fits = omega (arith, s .in-used, s .in-area); four = entry-four (topOf a) (conditionsOf a) (usedOf a - at) a at e; tests = e }

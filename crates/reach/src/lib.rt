@@ -9,7 +9,7 @@ ghost use Rattle.semantics.specs.Operation.{openOf};
 ghost use Rattle.semantics.specs.Page.{mentions, names};
 ghost use Rattle.semantics.specs.RunArea.{markOf};
 ghost use Rattle.semantics.specs.Table.{listed};
-ghost use Rattle.page.specs.Graded.{RuleAt, EntryAt};
+ghost use Rattle.page.specs.Graded.{RuleAt, SoundEntry};
 ghost use Rattle.page.specs.Lines.{lineNames};
 ghost use Rattle.reach.specs.Opening.{openingOf, accepted, Written};
 ghost use Rattle.reach.specs.Marks.{ClosureMarks};
@@ -44,7 +44,7 @@ fn insert_literals(a: &[u16], at: usize, words: &mut [u64]) -> u32
 
 // Puts the conditions that the line at `at` names into the set, if it is an R line; answers how many are new.
 fn insert_line(a: &[u16], at: usize, words: &mut [u64]) -> u32
-    requires { ⌜ EntryAt (topOf (now a)) (conditionsOf (now a)) (usedOf (now a) - at) (now a) at × (conditionsOf (now a) ≤ 512) × (length (now words) ≡ 8) ⌝ }
+    requires { ⌜ SoundEntry (topOf (now a)) (conditionsOf (now a)) (usedOf (now a) - at) (now a) at × (conditionsOf (now a) ≤ 512) × (length (now words) ≡ 8) ⌝ }
     ensures { λ r. ⌜ Inserts (lineNames (lineAt (drop at (now (a .entry))))) (now (words .entry)) (now (words .exit)) r ⌝ }
 {
     let k = a[at + 1];
