@@ -12,8 +12,7 @@ use Rattle.fixpoint.specs.Interval.{Interval}
 use Rattle.semantics.specs.Area.{sound, pageOf, conditionsOf}
 use Rattle.semantics.specs.Call.{Cause, cause, firstOf}
 use Rattle.semantics.specs.Operation.{scratchLength, closedCauses, ClosedAs, ClosedOf}
-use Rattle.semantics.specs.Reading.{IsClosed}
-use Rattle.semantics.specs.Rows.{Reads}
+use Rattle.semantics.specs.Reading.{IsClosed, Reads}
 use Rattle.semantics.proofs.Readings.{closed-one}
 use Rattle.semantics.proofs.Soundness.{sound-proper}
 use Rattle.reach.proofs.Refusals.{first-behind}

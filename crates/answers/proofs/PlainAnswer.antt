@@ -15,8 +15,7 @@ use Rattle.semantics.specs.Call.{drive, value, Answer, refused, drove, valued, 
 use Rattle.semantics.specs.Demand.{perform, performFrom, performBook, Recorded, RunKeeps}
 use Rattle.semantics.specs.Operation.{refusedOpening, openedWith, openOf, driveOf, valueOf}
 use Rattle.semantics.specs.Page.{Page}
-use Rattle.semantics.specs.Reading.{IsPlain, Reached, queried, closure}
-use Rattle.semantics.specs.Rows.{Reads}
+use Rattle.semantics.specs.Reading.{IsPlain, Reached, queried, closure, Reads}
 use Rattle.semantics.specs.Table.{listed, member, intervalOf}
 use Rattle.semantics.specs.Worklist.{Worklist, start, evaluated, lowest, Status, rest, statusAs, status, Driven, driveFrom, driven}
 use Rattle.semantics.proofs.Demand.{demand3}

@@ -8,11 +8,11 @@ use mathlib.Core.Bool.{Bool, true, false, not, _&&_, _||_, cond, true≢false, f
 use Prim.Native.Nat.{ℕ, _≤_, _<_}
 use native.Mathlib.Omega.{arith}
 use lib.Dec.{eqb}
-use Rattle.fixpoint.specs.Interval.{Interval, Within, Ordered, Assign}
+use Rattle.fixpoint.specs.Interval.{Interval, Within, Ordered, Assign, same}
 use Rattle.fixpoint.specs.KnowledgeOrder.{join, unknown}
 use Rattle.fixpoint.specs.System.{System}
 use Rattle.fixpoint.specs.LeastFixpoint.{IsLeast, lfp}
-use Rattle.fixpoint.specs.ChaoticIteration.{same, woken, DependencyClosed, Step, budget, Kept, Run}
+use Rattle.fixpoint.specs.ChaoticIteration.{woken, DependencyClosed, Step, budget, Kept, Run}
 use Rattle.fixpoint.specs.Support.{roof, raise, support}
 use Rattle.fixpoint.specs.AlternatingFixpoint.{merge, clip, mix, floor, heard, IsHighs, IsLows, highs, lift, lows}
 use Rattle.fixpoint.proofs.Cond.{cond-eq}

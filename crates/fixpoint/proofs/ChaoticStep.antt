@@ -11,12 +11,12 @@ use native.Mathlib.Decide.{ℕ-discrete, decLe}
 use native.Mathlib.Omega.{arith}
 use lib.Dec.{eqb}
 use borrow.Author.Tests.{eq-eqb, ne-eqb}
-use Rattle.fixpoint.specs.Interval.{Interval, Within, Ordered, Assign}
+use Rattle.fixpoint.specs.Interval.{Interval, Within, Ordered, Assign, same}
 use Rattle.fixpoint.specs.KnowledgeOrder.{Under}
 use Rattle.fixpoint.specs.System.{System}
 use Rattle.fixpoint.specs.LeastFixpoint.{IsLeast}
 use Rattle.fixpoint.specs.Sum.{bit, count, namers}
-use Rattle.fixpoint.specs.ChaoticIteration.{same, woken, DependencyClosed, Step, slack, Kept}
+use Rattle.fixpoint.specs.ChaoticIteration.{woken, DependencyClosed, Step, slack, Kept}
 use Rattle.fixpoint.proofs.Sum.{sum-le, sum-drop, sum-add, sum-zero}
 use Rattle.fixpoint.proofs.KnowledgeOrder.{under-refl, under-trans, width, width-le, width-eq}
 use Rattle.fixpoint.proofs.Evaluation.{or-false, or-true, and-true, bit-or, bit-and, same-true, same-refl, put-same, put-other}

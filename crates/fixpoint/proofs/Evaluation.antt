@@ -6,11 +6,11 @@ use Prim.Native.Nat.{ℕ, _+_, _≤_, _<_}
 use native.Mathlib.Omega.{arith}
 use lib.Dec.{eqb}
 use borrow.Author.Tests.{eqb-true, eq-eqb, ne-eqb}
-use Rattle.fixpoint.specs.Interval.{Interval, Assign}
+use Rattle.fixpoint.specs.Interval.{Interval, Assign, same}
 use Rattle.fixpoint.specs.KnowledgeOrder.{Under}
 use Rattle.fixpoint.specs.System.{System}
 use Rattle.fixpoint.specs.Sum.{bit}
-use Rattle.fixpoint.specs.ChaoticIteration.{same, put, woken, Step}
+use Rattle.fixpoint.specs.ChaoticIteration.{put, woken, Step}
 use Rattle.fixpoint.proofs.KnowledgeOrder.{pair-eq, under-refl}
 
 -- Booleans

@@ -3,7 +3,7 @@ use mathlib.Core.Path.{_≡_}
 use mathlib.Core.Bool.{Bool, true, false, not, _&&_, _||_, cond}
 use Prim.Native.Nat.{ℕ, suc, _+_, _*_, _-_, _≤_, _<_}
 use lib.Dec.{eqb}
-use Rattle.fixpoint.specs.Interval.{Interval, Within, Ordered, Assign}
+use Rattle.fixpoint.specs.Interval.{Interval, same, Within, Ordered, Assign}
 use Rattle.fixpoint.specs.KnowledgeOrder.{Under, bottom}
 use Rattle.fixpoint.specs.Sum.{sum, count, namers}
 
@@ -12,9 +12,6 @@ abbrev pub DependencyClosed : ℕ → (ℕ → ℕ → Bool) → (ℕ → Bool) 
 DependencyClosed n names reached = (a b : ℕ) → a < n → b < n → reached a ≡ true → names a b ≡ true → reached b ≡ true
 
 -- an evaluation of A: A holds its body value and waits no longer; if that changed it, whatever is reached and names A waits
-unfoldable pub same : Interval → Interval → Bool
-same p q = eqb (p .low) (q .low) && eqb (p .high) (q .high)
-
 unfoldable pub put : Assign → ℕ → Interval → Assign
 put I A p c = cond (eqb c A) p (I c)
 

@@ -8,7 +8,8 @@ use native.Mathlib.Omega.{arith}
 use lib.Dec.{eqb}
 use borrow.Author.Tests.{eqb-true}
 use Rattle.semantics.specs.Area.{sound, pageOf, conditionsOf}
-use Rattle.semantics.specs.Page.{Line, fact, rule, query, AllInRange}
+use Rattle.semantics.specs.Page.{Line, fact, rule, query}
+use Rattle.semantics.proofs.Proper.{AllInRange}
 use Rattle.semantics.proofs.Soundness.{both-true, sound-proper}
 use Rattle.semantics.proofs.Table.{or-cases}
 use Rattle.index.specs.Readers.{among, linesRead}

@@ -14,7 +14,8 @@ use Rattle.fixpoint.specs.ChaoticIteration.{DependencyClosed}
 use Rattle.fixpoint.specs.Sum.{sum, bit, count}
 use Rattle.fixpoint.proofs.Sum.{sum-eq, sum-le, sum-const, sum-zero}
 use Rattle.semantics.specs.Area.{allUnder}
-use Rattle.semantics.specs.Page.{Page, names, Proper}
+use Rattle.semantics.specs.Page.{Page, names}
+use Rattle.semantics.proofs.Proper.{Proper}
 use Rattle.semantics.specs.Reading.{Reached, queried, named, closure, countR, countE, reached}
 use Rattle.semantics.specs.Table.{member, listed}
 use Rattle.semantics.proofs.Closure.{closure-length, reached-sound, reached-closed, reached-real, reached-complete}

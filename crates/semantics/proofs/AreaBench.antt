@@ -1,133 +1,77 @@
--- The rows on raw areas hold, each by computation. Assumes nothing.
+-- The rows on raw areas hold: one test over the list, computed. Assumes nothing.
 use mathlib.Core.Path.{_≡_, refl, sym, _∙_, ap, ap₂}
+use mathlib.Core.Bool.{Bool, true, _&&_}
 use mathlib.Core.List.{List, [], _∷_, _++_}
-use Prim.Native.Nat.{ℕ, _<_}
+use mathlib.Core.Option.{none, some}
+use lib.ListN.{length, drop}
+use Prim.Native.Nat.{ℕ, _<_, _*_}
 use native.Mathlib.Omega.{arith}
-use Rattle.fixpoint.specs.ChaoticIteration.{same}
-use Rattle.fixpoint.specs.Interval.{Interval, Assign}
+use Rattle.fixpoint.specs.Interval.{same, Interval, Assign}
 use Rattle.fixpoint.specs.Sum.{sum}
 use Rattle.fixpoint.specs.Support.{roof, raise}
 use Rattle.fixpoint.specs.WellFounded.{closed}
-use Rattle.semantics.specs.Area.{kind, span, linesOf, pageOf, allUnder, linesOk, sound, lineCodes, areaOf}
-use Rattle.semantics.specs.AreaRows.{AllHoldOn, areaRows, area1, area7, opened1, rested1, unreached1, spoilt1, many, nines, scratch1}
+use Rattle.semantics.specs.Area.{kind, span, linesOf, pageOf, allUnder, linesOk, sound, every}
+use Rattle.semantics.proofs.AreaRows.{AreaRow, opensOn, callsOn, closesOn, refusesOn, HoldsOn, AllHoldOn, areaRows, area1, area7, opened1, rested1, unreached1, spoilt1, many, nines, scratch1}
 use Rattle.semantics.specs.Body.{bodies, unknownByDefault, bodyless, largestOf, T}
-use Rattle.semantics.specs.Call.{outcome}
+use Rattle.semantics.specs.Call.{firstOf, outcome}
 use Rattle.semantics.specs.Grade.{rounding, divided, combine, foldFrom, foldAll, weighted, negated}
-use Rattle.semantics.specs.Operation.{openOf, operation, zeros, ends, ClosedAnswers, ClosedOf}
-use Rattle.semantics.specs.Page.{mentions, linesName, Page, Proper}
+use Rattle.semantics.specs.Operation.{openOf, operation, closedCauses, zeros, scratchLength, ends, ClosedAnswers, ClosedOf}
+use Rattle.semantics.specs.Page.{mentions, linesName, Page}
+use Rattle.semantics.proofs.Proper.{Proper}
 use Rattle.semantics.specs.Reading.{pass, passes, closure, countR, countE, bound, IsClosed}
 use Rattle.semantics.specs.RunArea.{cells, runOf, worklistOf, reachedOf, runSound}
 use Rattle.semantics.specs.Table.{tableFrom, allUnknown, anyBelow, allBelow, listed, intervalOf}
 use Rattle.semantics.specs.Worklist.{start, changes, waitingAfter, evaluated, lowestFrom, driveFrom}
 use Rattle.semantics.proofs.Computed.{closed-list}
+use Rattle.semantics.proofs.Keeps.{ends-same}
+use Rattle.semantics.proofs.Same.{sameNumbers, same-numbers, sameCause, same-cause, sameOpening, same-opening, figures, same-answer, sameStatus}
 use Rattle.semantics.proofs.Readings.{closed-is}
-use Rattle.semantics.proofs.Soundness.{sound-proper}
+use Rattle.semantics.proofs.Soundness.{sound-proper, both-true, Every, every-true}
 use Rattle.semantics.proofs.Sweeps.{sweep, sweeps, supportList, closeList, rounds, closedList}
 
--- the closed reading of the page of row 1
-proper1 : Proper (pageOf area1)
-proper1 = sound-proper area1 (unfold area1 sound kind span linesOk allUnder in refl)
+abbrev tests : AreaRow → List Bool
+tests (opensOn a qs r o left) = sameOpening (openOf a qs r .answer) o ∷ sameNumbers (openOf a qs r .run) left ∷ []
+tests (callsOn a r c o left) = sameNumbers (figures (operation a r c .answer)) (figures o) ∷ sameNumbers (operation a r c .run) left ∷ []
+tests (closesOn a qs s w s′ w′) =
+    sameCause (firstOf (closedCauses a qs s w)) none
+    ∷ sound a
+    ∷ allUnder (pageOf a .conditions) qs
+    ∷ sameNumbers (ends (intervalOf (closedList (pageOf a))) qs ++ drop (2 * length qs) w) w′
+    ∷ sameNumbers (zeros (scratchLength (pageOf a)) ++ drop (scratchLength (pageOf a)) s) s′
+    ∷ []
+tests (refusesOn a qs s w k) = sameCause (firstOf (closedCauses a qs s w)) (some k) ∷ []
 
-reading1 : Assign
-reading1 = closed (pageOf area1 .conditions) (pageOf area1 .top) (T (pageOf area1)) (unknownByDefault (pageOf area1))
+passed : (r : AreaRow) → Every (tests r) → HoldsOn r
+unfolding ClosedOf
+passed (opensOn a qs r o left) z = (same-opening _ _ (z .0), same-numbers _ _ (z .1 .0))
+passed (callsOn a r c o left) z = (same-answer _ _ (z .0), same-numbers _ _ (z .1 .0))
+passed (closesOn a qs s w s′ w′) z =
+    let v = sound-proper a (z .1 .0) in
+    let n = pageOf a .conditions in
+    let C = closed (pageOf a .conditions) (pageOf a .top) (T (pageOf a)) (unknownByDefault (pageOf a)) in
+    rw (same-cause _ _ (z .0)) (
+      refl,
+      record {
+        reading = C;
+        is-closed = closed-is (pageOf a) v;
+        written = sym (same-numbers _ _ (z .1 .1 .1 .0)) ∙ ap (λ (l : List ℕ). l ++ drop (2 * length qs) w) (ends-same n (intervalOf (closedList (pageOf a))) C (λ c k. sym (closed-list (pageOf a) v C (closed-is (pageOf a) v) c k)) qs (z .1 .1 .0));
+        cleared = sym (same-numbers _ _ (z .1 .1 .1 .1 .0));
+      },
+    )
+passed (refusesOn a qs s w k) z = rw (same-cause _ _ (z .0)) (refl, refl, refl)
 
-holds1 : reading1 1 ≡ record { low = 3; high = 8 }
-unfolding reading1
-holds1 = closed-list (pageOf area1) proper1 reading1 (closed-is (pageOf area1) proper1) 1 inside ∙ computed
-  where
-    inside : 1 < pageOf area1 .conditions
-    inside = unfold area1 pageOf in omega arith
+test : List AreaRow → Bool
+test [] = true
+test (r ∷ rs) = every (tests r) && test rs
 
-    computed : intervalOf (closedList (pageOf area1)) 1 ≡ record { low = 3; high = 8 }
-    computed = unfold area1 pageOf linesOf kind span rounding divided combine foldFrom foldAll weighted negated bodies unknownByDefault bodyless largestOf T tableFrom allUnknown sweep sweeps supportList closeList rounds closedList roof raise in refl
+law : (rs : List AreaRow) → test rs ≡ true → AllHoldOn rs
+unfolding test
+law [] e = tt
+law (r ∷ rs) e = let h = both-true (every (tests r)) (test rs) e in (passed r (every-true (tests r) (h .0)), law rs (h .1))
 
-is-closed1 : IsClosed (pageOf area1) reading1
-unfolding reading1
-is-closed1 = closed-is (pageOf area1) proper1
+computed : test areaRows ≡ true
+unfolding areaRows area1 area7 opened1 rested1 unreached1 spoilt1 many nines scratch1 test sameNumbers sameCause sameOpening figures sameStatus openOf operation outcome sound kind span linesOk allUnder pageOf linesOf runOf cells worklistOf reachedOf runSound allBelow same sum start changes waitingAfter evaluated lowestFrom driveFrom closure pass passes listed tableFrom anyBelow allUnknown countR countE bound mentions linesName rounding divided combine foldFrom foldAll weighted negated bodies unknownByDefault bodyless largestOf T zeros sweep sweeps supportList closeList rounds closedList roof raise
+computed = refl
 
 pub area-bench : AllHoldOn areaRows
-unfolding areaRows area1 area7 opened1 rested1 unreached1 spoilt1 many nines scratch1 openOf operation ClosedOf outcome sound kind span linesOk allUnder pageOf linesOf runOf cells worklistOf reachedOf runSound allBelow same sum start changes waitingAfter evaluated lowestFrom driveFrom closure pass passes listed tableFrom anyBelow allUnknown countR countE bound mentions linesName rounding divided combine foldFrom foldAll weighted negated bodies bodyless largestOf T zeros
-area-bench = (
-  (refl, refl),
-  (
-    (refl, refl),
-    (
-      (refl, refl),
-      (
-        (refl, refl),
-        (
-          (refl, refl),
-          (
-            (refl, refl),
-            (
-              (refl, refl),
-              (
-                (refl, refl),
-                (
-                  (refl, refl),
-                  (
-                    (refl, refl),
-                    (
-                      (refl, refl),
-                      (
-                        (refl, refl),
-                        (
-                          (refl, refl),
-                          (
-                            (refl, refl),
-                            (
-                              (refl, refl),
-                              (
-                                (refl, refl),
-                                (
-                                  (refl, refl),
-                                  (
-                                    (refl, refl),
-                                    (
-                                      (refl, refl),
-                                      (
-                                        (refl, refl),
-                                        (
-                                          (refl, refl),
-                                          (
-                                            (refl, refl),
-                                            (
-                                              (refl, refl),
-                                              (
-                                                (refl, refl),
-                                                (
-                                                  (
-                                                    refl,
-                                                    record {
-                                                      reading = reading1;
-                                                      is-closed = is-closed1;
-                                                      written = ap (λ (p : Interval). p .low ∷ p .high ∷ 9 ∷ []) (sym holds1);
-                                                      cleared = refl;
-                                                    },
-                                                  ),
-                                                  ((refl, refl, refl), ((refl, refl, refl), ((refl, refl, refl), ((refl, refl, refl), ((refl, refl, refl), tt))))),
-                                                ),
-                                              ),
-                                            ),
-                                          ),
-                                        ),
-                                      ),
-                                    ),
-                                  ),
-                                ),
-                              ),
-                            ),
-                          ),
-                        ),
-                      ),
-                    ),
-                  ),
-                ),
-              ),
-            ),
-          ),
-        ),
-      ),
-    ),
-  ),
-)
+area-bench = law areaRows computed

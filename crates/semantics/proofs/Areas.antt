@@ -11,13 +11,13 @@ use mathlib.Core.Logic.{inl, inr}
 use lib.ListN.{length, getD, drop, length-append}
 use lib.Seq.{ext-getD, getD-drop, drop-at, drop-cons}
 use borrow.Author.Tests.{le-leb, leb-true, eqb-true}
-use Rattle.fixpoint.specs.ChaoticIteration.{same}
-use Rattle.fixpoint.specs.Interval.{Interval, Ordered, Assign}
+use Rattle.fixpoint.specs.Interval.{same, Interval, Ordered, Assign}
 use Rattle.semantics.specs.Area.{sound, pageOf, every, allUnder}
 use Rattle.semantics.specs.Call.{Call, Answer, refused, Outcome, Cause, cause, firstOf, outcome}
 use Rattle.semantics.specs.Demand.{perform, Demand3}
 use Rattle.semantics.specs.Operation.{Left, operation, openCauses}
-use Rattle.semantics.specs.Page.{Page, Proper}
+use Rattle.semantics.specs.Page.{Page}
+use Rattle.semantics.proofs.Proper.{Proper}
 use Rattle.semantics.specs.Reading.{closure}
 use Rattle.semantics.specs.RunArea.{cells, markOf, runOf, intervalAt, markAt, worklistOf, reachedOf, cellTests, runSound}
 use Rattle.semantics.specs.Table.{intervalOf, member, table, listed, allBelow}

@@ -1,12 +1,11 @@
 -- The starred rows hold: one test over the list, computed. Assumes nothing.
-use mathlib.Core.Path.{_≡_, refl, sym, _∙_, ap, ap₂, subst}
-use mathlib.Core.Bool.{Bool, true, false, not, _&&_, false≢true}
+use mathlib.Core.Path.{_≡_, refl, sym, _∙_, ap, subst}
+use mathlib.Core.Bool.{Bool, true, _&&_}
 use mathlib.Core.List.{List, [], _∷_, append-nil}
 use Prim.Native.Nat.{ℕ, _<_}
 use lib.Dec.{eqb, ltb}
-use borrow.Author.Tests.{eqb-true, ltb-true, not-true}
-use Rattle.fixpoint.specs.ChaoticIteration.{same}
-use Rattle.fixpoint.specs.Interval.{Interval, Assign}
+use borrow.Author.Tests.{eqb-true, ltb-true}
+use Rattle.fixpoint.specs.Interval.{same, Interval, Assign}
 use Rattle.fixpoint.specs.LeastFixpoint.{lfp}
 use Rattle.fixpoint.specs.Sum.{sum}
 use Rattle.fixpoint.specs.Support.{roof, raise}
@@ -14,72 +13,22 @@ use Rattle.fixpoint.specs.WellFounded.{closed}
 use Rattle.semantics.specs.Area.{areaOf, pageOf, sound, kind, span, linesOf, allUnder, linesOk, lineCodes, every}
 use Rattle.semantics.specs.Body.{bodies, unknownByDefault, bodyless, largestOf, T}
 use Rattle.semantics.specs.Grade.{rounding, divided, combine, foldFrom, foldAll, weighted, negated}
-use Rattle.semantics.specs.Page.{mentions, linesName, Page, Proper}
-use Rattle.semantics.specs.Reading.{pass, passes, closure, countE, countR, bound}
-use Rattle.semantics.specs.Rows.{interval, Row, plainly, closedly, opens, drives, Reads, Opens, Drives, Holds, AllHold, rows, page1, page3, page4, page5, page6, page7, page8, pageOurs}
+use Rattle.semantics.specs.Page.{mentions, linesName, Page}
+use Rattle.semantics.proofs.Proper.{Proper}
+use Rattle.semantics.specs.Reading.{pass, passes, closure, countE, countR, bound, Reads}
+use Rattle.semantics.proofs.Rows.{interval, Row, plainly, closedly, opens, drives, Opens, Drives, Holds, AllHold, rows, page1, page3, page4, page5, page6, page7, page8, pageOurs}
 use Rattle.semantics.specs.Table.{intervalOf, member, tableFrom, anyBelow, listed, allUnknown}
 use Rattle.semantics.specs.Worklist.{Worklist, start, changes, waitingAfter, evaluated, lowestFrom, driveFrom, driven, Status, rest, spent, status}
 use Rattle.fixpoint.proofs.Evaluation.{same-true}
 use Rattle.semantics.proofs.Computed.{plain-list, closed-list}
 use Rattle.semantics.proofs.Readings.{plain-is, closed-is}
 use Rattle.semantics.proofs.RoundTrip.{page-area}
+use Rattle.semantics.proofs.Same.{sameStatus, same-status, sameFlag, sameSet, same-set, sameAll, same-all}
 use Rattle.semantics.proofs.Soundness.{both-true, Every, every-true, sound-proper}
 use Rattle.semantics.proofs.Sweeps.{sweep, sweeps, plainList, supportList, closeList, rounds, closedList}
 
 pub proper : (page : Page) → sound (areaOf page) ≡ true → Proper page
 proper page e = subst Proper (ap pageOf (sym (append-nil (areaOf page))) ∙ page-area page []) (sound-proper (areaOf page) e)
-
-sameStatus : Status → Status → Bool
-sameStatus rest rest = true
-sameStatus rest spent = false
-sameStatus spent rest = false
-sameStatus spent spent = true
-
-same-status : (a b : Status) → sameStatus a b ≡ true → a ≡ b
-unfolding sameStatus
-same-status rest rest e = refl
-same-status rest spent e = absurd (false≢true e)
-same-status spent rest e = absurd (false≢true e)
-same-status spent spent e = refl
-
-sameFlag : Bool → Bool → Bool
-sameFlag true b = b
-sameFlag false b = not b
-
-same-flag : (a b : Bool) → sameFlag a b ≡ true → a ≡ b
-unfolding sameFlag
-same-flag true b e = sym e
-same-flag false b e = sym (not-true b e)
-
-sameSet : List Bool → List Bool → Bool
-sameSet [] [] = true
-sameSet [] (b ∷ w) = false
-sameSet (a ∷ v) [] = false
-sameSet (a ∷ v) (b ∷ w) = sameFlag a b && sameSet v w
-
-same-set : (v w : List Bool) → sameSet v w ≡ true → v ≡ w
-unfolding sameSet
-same-set [] [] e = refl
-same-set [] (b ∷ w) e = absurd (false≢true e)
-same-set (a ∷ v) [] e = absurd (false≢true e)
-same-set (a ∷ v) (b ∷ w) e =
-    let h = both-true (sameFlag a b) (sameSet v w) e in
-    ap₂ {C = List Bool} (λ x xs. x ∷ xs) (same-flag a b (h .0)) (same-set v w (h .1))
-
-sameAll : List Interval → List Interval → Bool
-sameAll [] [] = true
-sameAll [] (q ∷ qs) = false
-sameAll (p ∷ ps) [] = false
-sameAll (p ∷ ps) (q ∷ qs) = same p q && sameAll ps qs
-
-same-all : (ps qs : List Interval) → sameAll ps qs ≡ true → ps ≡ qs
-unfolding sameAll
-same-all [] [] e = refl
-same-all [] (q ∷ qs) e = absurd (false≢true e)
-same-all (p ∷ ps) [] e = absurd (false≢true e)
-same-all (p ∷ ps) (q ∷ qs) e =
-    let h = both-true (same p q) (sameAll ps qs) e in
-    ap₂ {C = List Interval} (λ x xs. x ∷ xs) (same-true p q (h .0)) (same-all ps qs (h .1))
 
 abbrev tests : Row → List Bool
 tests (plainly page c l h) = sound (areaOf page) ∷ ltb c (page .conditions) ∷ same (intervalOf (plainList page) c) (interval l h) ∷ []

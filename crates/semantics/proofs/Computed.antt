@@ -11,7 +11,8 @@ use Rattle.fixpoint.specs.Support.{roof, raise, support, close}
 use Rattle.fixpoint.specs.System.{System}
 use Rattle.fixpoint.specs.WellFounded.{closed}
 use Rattle.semantics.specs.Body.{T, unknownByDefault}
-use Rattle.semantics.specs.Page.{Page, names, Proper}
+use Rattle.semantics.specs.Page.{Page, names}
+use Rattle.semantics.proofs.Proper.{Proper}
 use Rattle.semantics.specs.Reading.{IsPlain, IsClosed}
 use Rattle.semantics.specs.Table.{table, intervalOf, allUnknown}
 use Rattle.fixpoint.proofs.LeastFixpoint.{ext, iter-within}

@@ -1,19 +1,19 @@
 -- Demand 3: after an accepted opening, any list of calls on areas follows the book, and the book keeps what is asked. Assumes nothing.
 use mathlib.Core.Path.{_≡_, refl, sym, _∙_, ap, ap₂}
-use mathlib.Core.Logic.{_≢_, _↔_}
+use mathlib.Core.Logic.{_≢_, _↔_, inl, inr}
 use mathlib.Core.Bool.{Bool, true, false, not, cond, _&&_, _||_, true≢false, false≢true}
-use mathlib.Core.List.{List, [], _∷_}
+use mathlib.Core.List.{List, [], _∷_, _++_}
 use mathlib.Core.Option.{Option, none, some}
 use Prim.Native.Nat.{ℕ, zero, suc, _+_, _*_, _≤_, _<_}
 use native.Mathlib.Decide.{ℕ-discrete, decLe}
 use native.Mathlib.Nat.{zero-add}
 use native.Mathlib.Omega.{arith}
-use lib.Dec.{eqb, leb}
-use lib.ListN.{length, getD, set, length-set, List·getD-eq-default}
+use lib.Dec.{eqb, leb, ltb}
+use lib.ListN.{length, getD, set, length-set, List·getD-eq-default, drop}
 use lib.Seq.{getD-set-same, getD-set-other}
-use borrow.Author.Tests.{eq-eqb, ne-eqb, leb-false, lt-leb, not-false}
-use Rattle.fixpoint.specs.ChaoticIteration.{put, woken, same, DependencyClosed, Step, Kept, budget}
-use Rattle.fixpoint.specs.Interval.{Interval, Assign}
+use borrow.Author.Tests.{eq-eqb, ne-eqb, leb-false, lt-leb, not-false, ltb-true, eqb-true}
+use Rattle.fixpoint.specs.ChaoticIteration.{put, woken, DependencyClosed, Step, Kept, budget}
+use Rattle.fixpoint.specs.Interval.{same, Interval, Assign}
 use Rattle.fixpoint.specs.KnowledgeOrder.{Under, bottom}
 use Rattle.fixpoint.specs.LeastFixpoint.{IsLeast}
 use Rattle.fixpoint.specs.System.{System}
@@ -22,7 +22,8 @@ use Rattle.semantics.specs.Body.{T}
 use Rattle.semantics.specs.Call.{Call, evaluate, drive, value, Answer, refused, changed, unchanged, drove, valued, Outcome, Cause, cause, firstOf, unless, outcome, taken, takenBy}
 use Rattle.semantics.specs.Demand.{perform, performFrom, performBook, Performed, Recorded, Demand3}
 use Rattle.semantics.specs.Operation.{openCauses, openOf, openAs, Opened, operation, Left, leftAs, openedWith}
-use Rattle.semantics.specs.Page.{Page, names, Proper}
+use Rattle.semantics.specs.Page.{Page, names}
+use Rattle.semantics.proofs.Proper.{Proper}
 use Rattle.semantics.specs.Reading.{IsPlain, Reached, closure, bound, reached, countR, countE}
 use Rattle.semantics.specs.RunArea.{runOf, reachedOf, worklistOf, runSound}
 use Rattle.semantics.specs.Table.{listed, intervalOf, member, table, allUnknown}
@@ -35,11 +36,6 @@ use Rattle.semantics.proofs.Invariant.{lowest-some, lowest-none, rest-n
 use Rattle.semantics.proofs.Readings.{page-system, plain-is, plain-ordered, names-inside}
 use Rattle.semantics.proofs.Soundness.{sound-proper, both-true}
 use Rattle.semantics.proofs.Table.{length-from, getD-table, or-cases}
-use lib.ListN.{drop}
-use mathlib.Core.List.{_++_}
-use mathlib.Core.Logic.{inl, inr}
-use lib.Dec.{ltb}
-use borrow.Author.Tests.{ltb-true, eqb-true}
 
 rest-iff : (n : ℕ) (b : Worklist) → length (b .waiting) ≡ n → (status b ≡ rest) ↔ ((c : ℕ) → c < n → member (b .waiting) c ≡ false)
 rest-iff n b l = (λ e c k. lowest-none 0 (b .waiting) (rest-none (lowest b) e) c, λ q. go q (lowest b) refl)
@@ -108,6 +104,8 @@ opened-none a qs r R E B e = opened-with (firstOf (openCauses a qs r)) (pageOf a
 pub demand3 : Demand3
 demand3 a qs r R E B e calls =
     record {
+      reached-count = sym (o .1);
+      edge-count = sym (o .2);
       bound-is = bound-by;
       reached-are = closure-is (pageOf a) qs (names-inside (pageOf a) w) asked;
       area = ap (λ (j : Performed). j .run) same;

@@ -11,7 +11,8 @@ use lib.Seq.{take-at, drop-at, take-add, take-all}
 use borrow.Author.Tests.{leb-true, ltb-true, eqb-true, eqb-false, le-leb, lt-ltb, eq-eqb}
 use Rattle.semantics.specs.Area.{Kind, factKind, ruleKind, queryKind, noKind, kind, spanAs, span, literalOf, literalsAt, lineAs, lineAt, lineTests, linesOf, pageOf, every, allUnder, fieldTests, headTests, linesOk, sound, firstLine, topOf, conditionsOf, countOf, usedOf, kindOf, codeOf, lineCode, lineCodes, areaOf}
 use Rattle.semantics.specs.Grade.{Op, M, X, L, B, P}
-use Rattle.semantics.specs.Page.{Literal, positive, negative, conditionOf, Reading, K, W, Line, fact, rule, query, Page, LiteralsBelow, InRange, AllInRange, Proper}
+use Rattle.semantics.specs.Page.{Literal, positive, negative, conditionOf, Reading, K, W, Line, fact, rule, query, Page}
+use Rattle.semantics.proofs.Proper.{LiteralsBelow, InRange, AllInRange, Proper}
 use Rattle.semantics.proofs.RoundTrip.{kind-of, line-span}
 use Rattle.semantics.proofs.Soundness.{both-true, Every, every-true, sound-proper}
 

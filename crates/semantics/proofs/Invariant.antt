@@ -12,15 +12,16 @@ use lib.Dec.{eqb, leb}
 use lib.ListN.{length, getD, set, length-set, List·getD-eq-default}
 use lib.Seq.{getD-set-same, getD-set-other}
 use borrow.Author.Tests.{eq-eqb, ne-eqb, leb-false, lt-leb, not-false}
-use Rattle.fixpoint.specs.ChaoticIteration.{put, woken, same, DependencyClosed, Step, Kept, budget}
-use Rattle.fixpoint.specs.Interval.{Interval, Assign}
+use Rattle.fixpoint.specs.ChaoticIteration.{put, woken, DependencyClosed, Step, Kept, budget}
+use Rattle.fixpoint.specs.Interval.{same, Interval, Assign}
 use Rattle.fixpoint.specs.KnowledgeOrder.{Under, bottom}
 use Rattle.fixpoint.specs.LeastFixpoint.{IsLeast}
 use Rattle.fixpoint.specs.System.{System}
 use Rattle.semantics.specs.Body.{T}
 use Rattle.semantics.specs.Call.{Call, evaluate, drive, value, Answer, refused, changed, unchanged, drove, valued, Outcome, Cause, cause, firstOf, unless, outcome, takenBy, taken}
 use Rattle.semantics.specs.Demand.{performFrom, performBook}
-use Rattle.semantics.specs.Page.{Page, names, Proper}
+use Rattle.semantics.specs.Page.{Page, names}
+use Rattle.semantics.proofs.Proper.{Proper}
 use Rattle.semantics.specs.Reading.{IsPlain, Reached, closure, bound, reached}
 use Rattle.semantics.specs.Table.{listed, intervalOf, member, table, allUnknown}
 use Rattle.semantics.specs.Worklist.{Worklist, start, changes, waitingAfter, evaluated, lowestFrom, lowest, Status, rest, spent, statusAs, status, Driven, driveFrom, driven}

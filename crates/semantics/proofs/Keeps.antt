@@ -13,7 +13,8 @@ use Rattle.fixpoint.specs.Interval.{Interval, Assign}
 use Rattle.semantics.specs.Area.{sound, pageOf, allUnder}
 use Rattle.semantics.specs.Call.{Call, evaluate, drive, value, Answer, refused, changed, unchanged, drove, valued, Cause, cause, firstOf, Outcome, unless, outcome}
 use Rattle.semantics.specs.Operation.{Left, leftAs, operation, ends, ClosedAnswers, ClosedAs, ClosedOf, closedCauses, scratchLength, zeros}
-use Rattle.semantics.specs.Page.{Page, Proper}
+use Rattle.semantics.specs.Page.{Page}
+use Rattle.semantics.proofs.Proper.{Proper}
 use Rattle.semantics.specs.Reading.{IsClosed}
 use Rattle.semantics.specs.RunArea.{runSound, runOf, reachedOf, worklistOf}
 use Rattle.semantics.specs.Table.{member, intervalOf, listed}
@@ -102,7 +103,7 @@ unfolding operation
 value-keeps a r c = keeps a r (value c) (firstOf (causes a r (value c))) refl (λ h. value-state (pageOf a) _ _ c)
 
 -- A closed call leaves one result and one content of each slice.
-ends-same : (n : ℕ) (C D : Assign) → ((c : ℕ) → c < n → C c ≡ D c) → (qs : List ℕ) → allUnder n qs ≡ true → ends C qs ≡ ends D qs
+pub ends-same : (n : ℕ) (C D : Assign) → ((c : ℕ) → c < n → C c ≡ D c) → (qs : List ℕ) → allUnder n qs ≡ true → ends C qs ≡ ends D qs
 unfolding allUnder
 ends-same n C D h [] u = refl
 ends-same n C D h (q ∷ qs) u =

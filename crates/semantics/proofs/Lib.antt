@@ -4,6 +4,7 @@ pub mod Ops
 pub mod Relation
 pub mod Readings
 -- sound areas are exactly the areas of proper pages
+pub mod Proper
 pub mod Soundness
 pub mod RoundTrip
 pub mod ExactAreas
@@ -13,6 +14,7 @@ pub mod TestLists
 pub mod ReadLines
 pub mod ReadProper
 -- what is read is what was written
+pub mod Written
 pub mod TextParts
 pub mod TextNumbers
 pub mod TextForms
@@ -21,11 +23,16 @@ pub mod WrittenPages
 -- the computed closure is what is reached
 pub mod Table
 pub mod Closure
--- the starred rows
+-- worked rows: the starred ones of document 01, and our own on areas and on texts
 pub mod Sweeps
 pub mod Computed
+pub mod Same
+pub mod Rows
 pub mod Bench
+pub mod AreaRows
 pub mod AreaBench
+pub mod TextRows
+pub mod TextBench
 -- what operations keep
 pub mod Keeps
 -- demand 3

@@ -16,7 +16,8 @@ use Rattle.semantics.specs.Area.{sound, pageOf}
 use Rattle.semantics.specs.Call.{Call, evaluate, drive, value, Outcome, Cause, cause, firstOf, unless, outcome, takenBy, taken}
 use Rattle.semantics.specs.Demand.{perform, performFrom, performBook, bookAt}
 use Rattle.semantics.specs.Operation.{openCauses, openOf, openedWith}
-use Rattle.semantics.specs.Page.{Page, Proper}
+use Rattle.semantics.specs.Page.{Page}
+use Rattle.semantics.proofs.Proper.{Proper}
 use Rattle.semantics.specs.Reading.{closure}
 use Rattle.semantics.specs.RunArea.{runOf, intervalAt}
 use Rattle.semantics.specs.Table.{intervalOf, member}

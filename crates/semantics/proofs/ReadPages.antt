@@ -8,11 +8,11 @@ use Prim.Native.Nat.{ℕ, suc, _+_, _-_, _≤_}
 use native.Mathlib.Omega.{arith}
 use lib.ListN.{length, getD, drop}
 use borrow.Author.Tests.{eqb-true, eqb-false, leb-true}
-use Rattle.semantics.specs.Page.{AllInRange, Proper}
+use Rattle.semantics.proofs.Proper.{AllInRange, Proper}
 use Rattle.semantics.specs.Area.{sound, pageOf, areaOf}
 use Rattle.semantics.specs.Text.{textLines, fieldsOf, headRanges, topIn, conditionsIn, linesIn, pageIn}
 use Rattle.semantics.specs.ReadPage.{badLine, textRefusal, pageRead, usedBy, refusalOf, readOf}
-use Rattle.semantics.specs.Written.{joined, endedLines, lineTexts, textOf}
+use Rattle.semantics.proofs.Written.{joined, endedLines, lineTexts, textOf}
 use Rattle.semantics.proofs.Soundness.{every-true}
 use Rattle.semantics.proofs.RoundTrip.{page-area}
 use Rattle.semantics.proofs.ExactAreas.{proper-sound}

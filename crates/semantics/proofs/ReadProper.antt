@@ -13,7 +13,8 @@ use borrow.Author.Tests.{leb-true, ltb-true, eq-eqb, eqb-false}
 use Rattle.semantics.specs.Area.{every, sound, areaOf}
 use Rattle.semantics.specs.Call.{Cause, cause, firstOf}
 use Rattle.semantics.specs.Grade.{Op}
-use Rattle.semantics.specs.Page.{Literal, conditionOf, Reading, Line, fact, rule, query, LiteralsBelow, InRange, AllInRange, Proper}
+use Rattle.semantics.specs.Page.{Literal, conditionOf, Reading, Line, fact, rule, query}
+use Rattle.semantics.proofs.Proper.{LiteralsBelow, InRange, AllInRange, Proper}
 use Rattle.semantics.specs.ReadPage.{Refusal, toldAt, orElse, textCauses, headCauses, lineCauses, badLine, badLineOf, textRefusal, pageRead, usedBy, areaCauses, refusalOf, ReadAnswer, refusedPage, readPage, ReadOutcome, readAs, readOf}
 use Rattle.semantics.specs.Text.{textLines, fieldsOf, field, valueOf, opIn, readingIn, literalIn, isFact, ruleForm, isRule, lineIn, headRanges, rangeTests, literalRanges, linesIn, topIn, conditionsIn, pageIn}
 use Rattle.semantics.proofs.ExactAreas.{proper-sound}

@@ -13,7 +13,8 @@ use Rattle.fixpoint.specs.LeastFixpoint.{lfp}
 use Rattle.fixpoint.specs.System.{System, Agrees}
 use Rattle.fixpoint.specs.WellFounded.{closed}
 use Rattle.semantics.specs.Body.{T, unknownByDefault}
-use Rattle.semantics.specs.Page.{Literal, conditionOf, mentions, Line, fact, rule, query, linesName, LiteralsBelow, AllInRange, Page, names, Proper}
+use Rattle.semantics.specs.Page.{Literal, conditionOf, mentions, Line, fact, rule, query, linesName, Page, names}
+use Rattle.semantics.proofs.Proper.{LiteralsBelow, AllInRange, Proper}
 use Rattle.semantics.specs.Reading.{IsPlain, IsSupportOf, IsClosed}
 use Rattle.fixpoint.proofs.LeastFixpoint.{least-unique, ext}
 use Rattle.fixpoint.proofs.LeastOnReached.{reading-inside}

@@ -11,7 +11,8 @@ use Rattle.fixpoint.specs.Interval.{Interval, Within, Assign}
 use Rattle.fixpoint.specs.KnowledgeOrder.{Under}
 use Rattle.semantics.specs.Body.{literalValue, ruleValue, onlyIf, lineBody, bodies, bodyless, largestOf, T}
 use Rattle.semantics.specs.Grade.{lower, upper, divided, Op, combine, endwise, foldFrom, foldAll, weighted, negated, largest}
-use Rattle.semantics.specs.Page.{Literal, positive, negative, conditionOf, mentions, Line, fact, rule, query, linesName, LiteralsBelow, InRange, AllInRange, Page, names, Proper}
+use Rattle.semantics.specs.Page.{Literal, positive, negative, conditionOf, mentions, Line, fact, rule, query, linesName, Page, names}
+use Rattle.semantics.proofs.Proper.{LiteralsBelow, InRange, AllInRange, Proper}
 use Rattle.semantics.proofs.Ops.{divided-mono, divided-ends, divided-bounded, combine-mono, combine-ends, combine-bounded}
 
 pub record Respected (top : ℕ) (R : Interval → Interval → Type 0) : Type 0 where

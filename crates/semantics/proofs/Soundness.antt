@@ -8,7 +8,8 @@ use lib.Dec.{eqb, leb, ltb}
 use lib.ListN.{length, getD, take, drop, length-take, length-drop, length-map}
 use borrow.Author.Tests.{leb-true, ltb-true, eqb-true}
 use Rattle.semantics.specs.Area.{Kind, factKind, ruleKind, queryKind, noKind, kind, spanAs, span, literalOf, literalsAt, lineAs, linesOf, pageOf, every, allUnder, fieldTests, lineTests, headTests, linesOk, sound, firstLine, topOf, conditionsOf, countOf, usedOf}
-use Rattle.semantics.specs.Page.{Literal, positive, negative, conditionOf, Line, LiteralsBelow, InRange, AllInRange, Page, Proper}
+use Rattle.semantics.specs.Page.{Literal, positive, negative, conditionOf, Line, Page}
+use Rattle.semantics.proofs.Proper.{LiteralsBelow, InRange, AllInRange, Proper}
 
 -- all tests of a list hold
 abbrev pub Every : List Bool → Type 0

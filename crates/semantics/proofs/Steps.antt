@@ -11,7 +11,8 @@ use lib.ListN.{length-set}
 use lib.Seq.{getD-set-same, getD-set-other}
 use Rattle.fixpoint.specs.Interval.{Interval, Ordered, Within, Assign}
 use Rattle.semantics.specs.Body.{T}
-use Rattle.semantics.specs.Page.{Page, names, Proper}
+use Rattle.semantics.specs.Page.{Page, names}
+use Rattle.semantics.proofs.Proper.{Proper}
 use Rattle.semantics.specs.Table.{intervalOf, member}
 use Rattle.semantics.specs.Worklist.{Worklist, changes, waitingAfter, evaluated}
 use Rattle.fixpoint.proofs.PlainReading.{agrees-consistent}

@@ -9,10 +9,11 @@ use lib.Dec.{eqb, leb, ltb}
 use lib.ListN.{length, getD, drop, length-map}
 use borrow.Author.Tests.{eqb-true, leb-true, ltb-true, le-leb, lt-ltb}
 use Rattle.semantics.specs.Grade.{Op, M, X, L, B, P}
-use Rattle.semantics.specs.Page.{Literal, positive, negative, conditionOf, Reading, K, W, Line, fact, rule, query, LiteralsBelow, InRange}
+use Rattle.semantics.specs.Page.{Literal, positive, negative, conditionOf, Reading, K, W, Line, fact, rule, query}
+use Rattle.semantics.proofs.Proper.{LiteralsBelow, InRange}
 use Rattle.semantics.specs.Area.{every}
 use Rattle.semantics.specs.Text.{field, isNumber, valueOf, isNegated, isLiteral, literalIn, allLiterals, isLetter, isOp, opIn, isReading, readingIn, headForm, isHead, factForm, isFact, ruleForm, isRule, queryForm, isQuery, hasForm, lineIn, literalRanges, rangeTests}
-use Rattle.semantics.specs.Written.{numberText, literalText, opLetter, readingLetter, lineFields, headFields}
+use Rattle.semantics.proofs.Written.{numberText, literalText, opLetter, readingLetter, lineFields, headFields}
 use Rattle.semantics.proofs.Soundness.{both-true, every-true}
 use Rattle.semantics.proofs.TextNumbers.{written-number, written-value, first-not, number-back}
 

@@ -9,7 +9,7 @@ use lib.Dec.{eqb, leb}
 use lib.ListN.{length, getD}
 use borrow.Author.Tests.{ne-eqb, eqb-false, not-true, le-leb, leb-true, lt-ltb, le-ltb}
 use Rattle.semantics.specs.Text.{isDigit, allDigits, isNumber, valueFrom, valueOf}
-use Rattle.semantics.specs.Written.{digit, numberText}
+use Rattle.semantics.proofs.Written.{digit, numberText}
 use Rattle.semantics.proofs.Soundness.{both-true, every-true}
 use Rattle.semantics.proofs.TextParts.{without}
 

@@ -9,7 +9,8 @@ use borrow.Author.Needs.{needs}
 use borrow.Author.Tests.{leb-true, eqb-true}
 use Rattle.semantics.specs.Area.{Kind, factKind, ruleKind, queryKind, noKind, kind, spanAs, span, literalsAt, every, fieldTests, lineTests, headTests, linesOk, sound, firstLine, topOf, conditionsOf, countOf, usedOf, lineCodes, areaOf}
 use Rattle.semantics.specs.Grade.{M}
-use Rattle.semantics.specs.Page.{positive, Line, rule, Page, AllInRange, Proper}
+use Rattle.semantics.specs.Page.{positive, Line, rule, Page}
+use Rattle.semantics.proofs.Proper.{AllInRange, Proper}
 use Rattle.semantics.proofs.Soundness.{both-true, Every, every-true}
 use Rattle.semantics.proofs.ExactAreas.{proper-sound}
 

@@ -8,12 +8,13 @@ use native.Mathlib.Omega.{arith}
 use lib.ListN.{length, getD, drop, length-append}
 use borrow.Author.Tests.{eq-eqb, ne-eqb, le-leb, le-ltb}
 use Rattle.semantics.specs.Grade.{Op, M, X, L, B, P}
-use Rattle.semantics.specs.Page.{Literal, positive, negative, Reading, K, W, Line, fact, rule, query, Page, LiteralsBelow, InRange, AllInRange, Proper}
+use Rattle.semantics.specs.Page.{Literal, positive, negative, Reading, K, W, Line, fact, rule, query, Page}
+use Rattle.semantics.proofs.Proper.{LiteralsBelow, InRange, AllInRange, Proper}
 use Rattle.semantics.specs.Area.{every, usedOf, areaOf}
 use Rattle.semantics.specs.Text.{textLines, fieldsOf, isHead, lineIn, headRanges, topIn, conditionsIn, linesIn, pageIn}
 use Rattle.semantics.specs.ReadPage.{badLine, badLineOf, textRefusal, pageRead, refusalOf, readPage, readOf}
-use Rattle.semantics.specs.Rows.{page1}
-use Rattle.semantics.specs.Written.{numberText, literalText, opLetter, readingLetter, lineFields, headFields, afterCommas, joined, endedLines, lineTexts, textOf}
+use Rattle.semantics.proofs.Rows.{page1}
+use Rattle.semantics.proofs.Written.{numberText, literalText, opLetter, readingLetter, lineFields, headFields, afterCommas, joined, endedLines, lineTexts, textOf}
 use Rattle.semantics.proofs.TextParts.{without, AllWithout, lines-of-ended, fields-of-joined, joined-without, ended-last}
 use Rattle.semantics.proofs.TextNumbers.{written-value, number-without, number-short}
 use Rattle.semantics.proofs.TextForms.{head-written, line-written, range-passes}

@@ -8,7 +8,7 @@ use lib.ListN.{drop}
 use Rattle.fixpoint.specs.Interval.{Interval, Assign}
 use Rattle.semantics.specs.Page.{Page}
 use Rattle.semantics.specs.Table.{member, intervalOf}
-use Rattle.semantics.specs.Reading.{IsPlain, Reached, closure}
+use Rattle.semantics.specs.Reading.{IsPlain, Reached, closure, countR, countE}
 use Rattle.semantics.specs.Area.{pageOf}
 use Rattle.semantics.specs.Worklist.{Worklist, start, Status, rest, status}
 use Rattle.semantics.specs.RunArea.{runOf}
@@ -49,9 +49,12 @@ bookAt page qs calls = intervalOf (performBook page qs calls .state .intervals)
 
 -- What holds after the calls, for a page area a, queries qs and a run area r whose opening returned R, E and B:
 pub record RunKeeps (a qs r : List ℕ) (R E B : ℕ) (calls : List Call) : Type 0 where
-  pub bound-is : B ≡ R + pageOf a .top * E
   -- the computed closure is what the queries reach
   pub reached-are : (c : ℕ) → (member (closure (pageOf a) qs) c ≡ true) ↔ Reached (pageOf a) qs c
+  -- R counts the reached conditions, E the pairs of them where a rule of the one names the other, and the bound is R + top × E
+  pub reached-count : R ≡ countR (pageOf a) (closure (pageOf a) qs)
+  pub edge-count : E ≡ countE (pageOf a) (closure (pageOf a) qs)
+  pub bound-is : B ≡ R + pageOf a .top * E
   -- the area is the book's, with what lies past 3 × C untouched, and the answers are the book's
   pub area : perform a (openOf a qs r .run) calls .run
       ≡ runOf (pageOf a) (closure (pageOf a) qs) (performBook (pageOf a) qs calls .state) ++ drop (3 * pageOf a .conditions) r

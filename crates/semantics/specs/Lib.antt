@@ -13,7 +13,6 @@ pub mod Area
 pub mod RunArea
 -- "The page", its text, and what reading it answers
 pub mod Text
-pub mod Written
 pub mod ReadPage
 -- "The book of a run", and what each call answers
 pub mod Worklist
@@ -22,6 +21,3 @@ pub mod Call
 pub mod Operation
 -- demand 3, one statement
 pub mod Demand
--- "Bench figures"
-pub mod Rows
-pub mod AreaRows

@@ -3,7 +3,7 @@ use mathlib.Core.Path.{_≡_}
 use mathlib.Core.Bool.{Bool, true, _&&_, _||_}
 use mathlib.Core.List.{List}
 use Prim.Native.Nat.{ℕ, zero, suc, _+_, _*_}
-use Rattle.fixpoint.specs.Interval.{Assign}
+use Rattle.fixpoint.specs.Interval.{Interval, Assign}
 use Rattle.fixpoint.specs.LeastFixpoint.{IsLeast}
 use Rattle.fixpoint.specs.Support.{IsSupport}
 use Rattle.fixpoint.specs.WellFounded.{IsClosedReading}
@@ -24,6 +24,11 @@ IsSupportOf page = IsSupport (page .conditions) (page .top) (T page) (unknownByD
 -- Closed: "the knowledge-least I equal to T at (I joined with the support of I)"
 abbrev pub IsClosed : Page → Assign → Type 0
 IsClosed page = IsClosedReading (page .conditions) (page .top) (T page) (unknownByDefault page)
+
+-- a condition's answer in a reading: there is such an assignment, and every such one holds p at c
+pub record Reads (Is : Assign → Type 0) (c : ℕ) (p : Interval) : Type 0 where
+  pub some-one : (I : Assign) × Is I
+  pub every-one : (I : Assign) → Is I → I c ≡ p
 
 -- "A condition is reached if it is queried, or named in an R line of a reached condition."
 pub data Reached (page : Page) (qs : List ℕ) : ℕ → Type 0 where

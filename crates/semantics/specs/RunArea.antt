@@ -4,9 +4,8 @@ use mathlib.Core.List.{List, [], _∷_}
 use Prim.Native.Nat.{ℕ, zero, suc, _+_, _*_}
 use lib.Dec.{eqb, leb}
 use lib.ListN.{length, getD}
-use Rattle.fixpoint.specs.Interval.{Interval, Assign}
+use Rattle.fixpoint.specs.Interval.{Interval, Assign, same}
 use Rattle.fixpoint.specs.KnowledgeOrder.{unknown}
-use Rattle.fixpoint.specs.ChaoticIteration.{same}
 use Rattle.semantics.specs.Page.{Page}
 use Rattle.semantics.specs.Area.{every}
 use Rattle.semantics.specs.Table.{table, member, intervalOf, allBelow}

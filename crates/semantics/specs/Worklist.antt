@@ -7,8 +7,7 @@ use mathlib.Core.Option.{Option, none, some}
 use Prim.Native.Nat.{ℕ, zero, suc}
 use lib.Dec.{eqb}
 use lib.ListN.{set}
-use Rattle.fixpoint.specs.Interval.{Interval}
-use Rattle.fixpoint.specs.ChaoticIteration.{same}
+use Rattle.fixpoint.specs.Interval.{Interval, same}
 use Rattle.semantics.specs.Page.{Page, names}
 use Rattle.semantics.specs.Body.{T}
 use Rattle.semantics.specs.Table.{table, member, intervalOf, allUnknown}

@@ -11,7 +11,8 @@ use Rattle.semantics.specs.Area.{codeOf}
 use Rattle.fixpoint.specs.Interval.{Interval, Assign}
 use Rattle.semantics.specs.Body.{literalValue, onlyIf, lineBody, bodies, bodyless, largestOf, T}
 use Rattle.semantics.specs.Grade.{End, lower, upper, divided, combine, endwise, foldFrom, foldAll, weighted, negated}
-use Rattle.semantics.specs.Page.{Literal, positive, negative, conditionOf, mentions, Line, fact, rule, query, linesName, LiteralsBelow, InRange, AllInRange, Page, names, Proper}
+use Rattle.semantics.specs.Page.{Literal, positive, negative, conditionOf, mentions, Line, fact, rule, query, linesName, Page, names}
+use Rattle.semantics.proofs.Proper.{LiteralsBelow, InRange, AllInRange, Proper}
 use Rattle.semantics.proofs.Soundness.{both-true}
 use Rattle.semantics.proofs.Table.{or-cases}
 use Rattle.index.specs.Readers.{among, linesRead}

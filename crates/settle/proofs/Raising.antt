@@ -15,7 +15,8 @@ use Rattle.fixpoint.proofs.Sum.{sum-le, sum-drop}
 use Rattle.semantics.specs.Area.{sound, lineAt, pageOf, topOf, conditionsOf, countOf}
 use Rattle.semantics.specs.Body.{lineBody, T, unknownByDefault}
 use Rattle.semantics.specs.Grade.{End}
-use Rattle.semantics.specs.Page.{InRange, AllInRange, names}
+use Rattle.semantics.specs.Page.{names}
+use Rattle.semantics.proofs.Proper.{InRange, AllInRange}
 use Rattle.semantics.proofs.Readings.{page-system}
 use Rattle.semantics.proofs.Soundness.{sound-proper}
 use Rattle.page.specs.Places.{placeOf, LineIn, LineOf}

@@ -9,8 +9,7 @@ use native.Mathlib.Omega.{arith}
 use lib.ListN.{length, getD, set, length-set}
 use lib.Seq.{set-getD}
 use borrow.Author.Tests.{not-false}
-use Rattle.fixpoint.specs.ChaoticIteration.{same}
-use Rattle.fixpoint.specs.Interval.{Interval}
+use Rattle.fixpoint.specs.Interval.{same, Interval}
 use Rattle.fixpoint.proofs.Evaluation.{same-true}
 use Rattle.semantics.specs.Area.{sound, pageOf, topOf, conditionsOf}
 use Rattle.semantics.specs.Grade.{lower}

@@ -10,7 +10,8 @@ use lib.Dec.{eqb, leb}
 use lib.ListN.{length, getD}
 use borrow.Author.Tests.{eq-eqb, ne-eqb, eqb-true, leb-true, le-leb}
 use Rattle.semantics.specs.Area.{sound, pageOf, conditionsOf, codeOf}
-use Rattle.semantics.specs.Page.{Literal, positive, negative, conditionOf, mentions, Line, fact, rule, query, linesName, AllInRange, names}
+use Rattle.semantics.specs.Page.{Literal, positive, negative, conditionOf, mentions, Line, fact, rule, query, linesName, names}
+use Rattle.semantics.proofs.Proper.{AllInRange}
 use Rattle.semantics.specs.RunArea.{markAt}
 use Rattle.semantics.proofs.Soundness.{both-true, sound-proper}
 use Rattle.semantics.proofs.Table.{or-cases}

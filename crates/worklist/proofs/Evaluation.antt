@@ -10,11 +10,12 @@ use lib.Dec.{eqb, leb}
 use lib.ListN.{length, getD, set, drop, length-set}
 use lib.Seq.{getD-set-same, getD-set-other, drop-set-lt}
 use borrow.Author.Tests.{eq-eqb, ne-eqb, le-leb, leb-true}
-use Rattle.fixpoint.specs.ChaoticIteration.{same}
+use Rattle.fixpoint.specs.Interval.{same}
 use Rattle.fixpoint.proofs.KnowledgeOrder.{pair-eq}
 use Rattle.semantics.specs.Area.{sound, pageOf, topOf, conditionsOf}
 use Rattle.semantics.specs.Body.{T}
-use Rattle.semantics.specs.Page.{Page, names, Proper}
+use Rattle.semantics.specs.Page.{Page, names}
+use Rattle.semantics.proofs.Proper.{Proper}
 use Rattle.semantics.specs.RunArea.{markOf, runOf, intervalAt, markAt, worklistOf, reachedOf, runSound}
 use Rattle.semantics.specs.Table.{intervalOf, member}
 use Rattle.semantics.specs.Worklist.{Worklist, changes, evaluated}

@@ -8,8 +8,7 @@ use native.Mathlib.Omega.{arith}
 use lib.Dec.{eqb}
 use lib.ListN.{length}
 use borrow.Author.Tests.{le-leb, lt-leb, eq-eqb, ne-eqb}
-use Rattle.fixpoint.specs.Interval.{Interval}
-use Rattle.fixpoint.specs.ChaoticIteration.{same}
+use Rattle.fixpoint.specs.Interval.{Interval, same}
 use Rattle.semantics.specs.Area.{every, pageOf, topOf, conditionsOf}
 use Rattle.semantics.specs.RunArea.{intervalAt, markAt, cellTests, runSound}
 use Rattle.semantics.specs.Table.{allBelow}

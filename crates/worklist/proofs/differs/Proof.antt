@@ -1,6 +1,6 @@
 -- `worklist::differs` meets its contract. Assumes nothing.
 use borrow.Author.Tests.{eq-eqb, ne-eqb}
-use Rattle.fixpoint.specs.ChaoticIteration.{same}
+use Rattle.fixpoint.specs.Interval.{same}
 use Rattle.worklist.proofs.differs.Statement.{statement}
 use Rattle.worklist.proofs.differs.Tie as tie
 

@@ -1,27 +1,30 @@
--- Worked rows of our own on raw areas: the numbers of every answer and refusal, and what is left in the areas. One list, one claim
--- (`area-bench`). Assumes nothing.
+-- Worked rows of our own on raw areas: the numbers of every answer and refusal, the order of the causes, and what is left in the areas.
+-- One list, one claim (`area-bench`). Assumes nothing.
 use mathlib.Core.Path.{_≡_}
 use mathlib.Core.List.{List, [], _∷_}
-use mathlib.Core.Option.{Option, none, some}
+use mathlib.Core.Option.{none, some}
 use Prim.Native.Nat.{ℕ}
 use Rattle.fixpoint.specs.Interval.{Interval}
 use Rattle.semantics.specs.Worklist.{rest, spent}
 use Rattle.semantics.specs.Call.{Call, evaluate, drive, value, Answer, refused, unchanged, changed, drove, valued}
 use Rattle.semantics.specs.Operation.{Opening, refusedOpening, openedWith, openOf, operation, ClosedOf}
-use Rattle.semantics.specs.Rows.{interval}
+use Rattle.semantics.proofs.Rows.{interval}
 
 pub data AreaRow : Type 0 where
   -- an opening: its answer, and the run area that it leaves
   opensOn : (area queries run : List ℕ) → Opening → (left : List ℕ) → AreaRow
   -- a call: its answer, and the run area that it leaves
   callsOn : (area run : List ℕ) → Call → Answer → (left : List ℕ) → AreaRow
-  -- a closed reading: the number of a refusal, or none where the call did its work, and what it leaves in scratch and answers
-  closesOn : (area queries scratch answers : List ℕ) → (answer : Option ℕ) → (scratch′ answers′ : List ℕ) → AreaRow
+  -- a closed reading that does its work: what it leaves in scratch and answers
+  closesOn : (area queries scratch answers : List ℕ) → (scratch′ answers′ : List ℕ) → AreaRow
+  -- one that is refused, by its number, and leaves both as they are
+  refusesOn : (area queries scratch answers : List ℕ) → (number : ℕ) → AreaRow
 
 abbrev pub HoldsOn : AreaRow → Type 0
 HoldsOn (opensOn a qs r o left) = (openOf a qs r .answer ≡ o) × (openOf a qs r .run ≡ left)
 HoldsOn (callsOn a r c o left) = (operation a r c .answer ≡ o) × (operation a r c .run ≡ left)
-HoldsOn (closesOn a qs s w answer s′ w′) = ClosedOf answer a qs s w s′ w′
+HoldsOn (closesOn a qs s w s′ w′) = ClosedOf none a qs s w s′ w′
+HoldsOn (refusesOn a qs s w k) = ClosedOf (some k) a qs s w s w
 
 abbrev pub AllHoldOn : List AreaRow → Type 0
 AllHoldOn [] = Unit {0}
@@ -90,10 +93,25 @@ areaRows =
     ∷ callsOn area1 rested1 (value 1) (valued (interval 3 8) rest) rested1
     ∷ callsOn area1 opened1 (value 2) (refused 15) opened1
     ∷ callsOn area1 unreached1 (value 0) (refused 17) unreached1
-    ∷ closesOn area1 (1 ∷ []) scratch1 (9 ∷ 9 ∷ 9 ∷ []) none (0 ∷ 0 ∷ 0 ∷ 0 ∷ 0 ∷ 0 ∷ 0 ∷ 0 ∷ 0 ∷ 0 ∷ 0 ∷ 0 ∷ 9 ∷ []) (3 ∷ 8 ∷ 9 ∷ [])
-    ∷ closesOn area7 (1 ∷ []) scratch1 nines (some 10) scratch1 nines
-    ∷ closesOn area1 [] scratch1 nines (some 11) scratch1 nines
-    ∷ closesOn area1 (2 ∷ []) scratch1 nines (some 12) scratch1 nines
-    ∷ closesOn area1 (1 ∷ []) nines nines (some 18) nines nines
-    ∷ closesOn area1 (1 ∷ []) scratch1 (9 ∷ []) (some 19) scratch1 (9 ∷ [])
+    ∷ closesOn area1 (1 ∷ []) scratch1 (9 ∷ 9 ∷ 9 ∷ []) (0 ∷ 0 ∷ 0 ∷ 0 ∷ 0 ∷ 0 ∷ 0 ∷ 0 ∷ 0 ∷ 0 ∷ 0 ∷ 0 ∷ 9 ∷ []) (3 ∷ 8 ∷ 9 ∷ [])
+    ∷ refusesOn area7 (1 ∷ []) scratch1 nines 10
+    ∷ refusesOn area1 [] scratch1 nines 11
+    ∷ refusesOn area1 (2 ∷ []) scratch1 nines 12
+    ∷ refusesOn area1 (1 ∷ []) nines nines 18
+    ∷ refusesOn area1 (1 ∷ []) scratch1 (9 ∷ []) 19
+    -- the order of the causes: of two neighbours that hold at once the first tells
+    ∷ opensOn area7 [] nines (refusedOpening 10) nines
+    ∷ opensOn area1 (2 ∷ many) nines (refusedOpening 11) nines
+    ∷ opensOn area1 (2 ∷ []) [] (refusedOpening 12) []
+    ∷ callsOn area7 spoilt1 (evaluate 0) (refused 10) spoilt1
+    ∷ callsOn area1 spoilt1 (evaluate 2) (refused 14) spoilt1
+    ∷ callsOn area1 rested1 (evaluate 2) (refused 15) rested1
+    ∷ callsOn area7 spoilt1 (drive 1) (refused 10) spoilt1
+    ∷ callsOn area7 spoilt1 (value 0) (refused 10) spoilt1
+    ∷ callsOn area1 spoilt1 (value 2) (refused 14) spoilt1
+    ∷ callsOn area1 unreached1 (value 2) (refused 15) unreached1
+    ∷ refusesOn area7 [] scratch1 nines 10
+    ∷ refusesOn area1 (2 ∷ many) scratch1 nines 11
+    ∷ refusesOn area1 (2 ∷ []) nines nines 12
+    ∷ refusesOn area1 (1 ∷ []) nines [] 18
     ∷ []

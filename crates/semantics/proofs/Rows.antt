@@ -6,7 +6,7 @@ use Prim.Native.Nat.{ℕ, _<_}
 use Rattle.fixpoint.specs.Interval.{Interval, Assign}
 use Rattle.semantics.specs.Grade.{Op, M, X, L, B, P}
 use Rattle.semantics.specs.Page.{Literal, positive, negative, Reading, K, W, Line, fact, rule, query, Page}
-use Rattle.semantics.specs.Reading.{IsPlain, IsClosed, closure, countR, countE, bound}
+use Rattle.semantics.specs.Reading.{IsPlain, IsClosed, Reads, closure, countR, countE, bound}
 use Rattle.semantics.specs.Worklist.{Worklist, Status, rest, spent, status, start, driven}
 
 abbrev pub interval : ℕ → ℕ → Interval
@@ -20,11 +20,6 @@ pub data Row : Type 0 where
   opens : Page → (queries : List ℕ) → (R E bound : ℕ) → Row
   -- a drive from an opening: how it ends, the count taken, who waits then, and the intervals held
   drives : Page → (queries : List ℕ) → (allowance : ℕ) → Status → (taken : ℕ) → (waiting : List Bool) → (intervals : List Interval) → Row
-
--- there is such an assignment, and every such one holds p at c
-pub record Reads (Is : Assign → Type 0) (c : ℕ) (p : Interval) : Type 0 where
-  pub some-one : (I : Assign) × Is I
-  pub every-one : (I : Assign) → Is I → I c ≡ p
 
 pub record Opens (page : Page) (m : List Bool) (r e b : ℕ) : Type 0 where
   pub reached : countR page m ≡ r

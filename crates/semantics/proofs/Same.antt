@@ -1,0 +1,150 @@
+-- Tests of equality that compute, for the worked rows. Assumes nothing.
+use mathlib.Core.Path.{_≡_, refl, sym, _∙_, ap, ap₂}
+use mathlib.Core.Bool.{Bool, true, false, not, cond, _&&_, false≢true}
+use mathlib.Core.List.{List, [], _∷_}
+use mathlib.Core.Option.{Option, none, some}
+use Prim.Native.Nat.{ℕ}
+use lib.Dec.{eqb}
+use lib.ListN.{getD}
+use borrow.Author.Tests.{eqb-true, not-true}
+use Rattle.fixpoint.specs.Interval.{same, Interval}
+use Rattle.semantics.specs.Call.{Answer, refused, unchanged, changed, drove, valued}
+use Rattle.semantics.specs.Operation.{Opening, refusedOpening, openedWith}
+use Rattle.semantics.specs.Worklist.{Status, rest, spent}
+use Rattle.fixpoint.proofs.Evaluation.{same-true}
+use Rattle.semantics.proofs.Soundness.{both-true}
+
+unfoldable pub sameNumbers : List ℕ → List ℕ → Bool
+sameNumbers [] [] = true
+sameNumbers [] (y ∷ ys) = false
+sameNumbers (x ∷ xs) [] = false
+sameNumbers (x ∷ xs) (y ∷ ys) = eqb x y && sameNumbers xs ys
+
+pub same-numbers : (xs ys : List ℕ) → sameNumbers xs ys ≡ true → xs ≡ ys
+unfolding sameNumbers
+same-numbers [] [] e = refl
+same-numbers [] (y ∷ ys) e = absurd (false≢true e)
+same-numbers (x ∷ xs) [] e = absurd (false≢true e)
+same-numbers (x ∷ xs) (y ∷ ys) e =
+    let h = both-true (eqb x y) (sameNumbers xs ys) e in
+    ap₂ {C = List ℕ} (λ z zs. z ∷ zs) (eqb-true x y (h .0)) (same-numbers xs ys (h .1))
+
+unfoldable pub sameStatus : Status → Status → Bool
+sameStatus rest rest = true
+sameStatus rest spent = false
+sameStatus spent rest = false
+sameStatus spent spent = true
+
+pub same-status : (a b : Status) → sameStatus a b ≡ true → a ≡ b
+unfolding sameStatus
+same-status rest rest e = refl
+same-status rest spent e = absurd (false≢true e)
+same-status spent rest e = absurd (false≢true e)
+same-status spent spent e = refl
+
+unfoldable pub sameFlag : Bool → Bool → Bool
+sameFlag true b = b
+sameFlag false b = not b
+
+pub same-flag : (a b : Bool) → sameFlag a b ≡ true → a ≡ b
+unfolding sameFlag
+same-flag true b e = sym e
+same-flag false b e = sym (not-true b e)
+
+unfoldable pub sameSet : List Bool → List Bool → Bool
+sameSet [] [] = true
+sameSet [] (b ∷ w) = false
+sameSet (a ∷ v) [] = false
+sameSet (a ∷ v) (b ∷ w) = sameFlag a b && sameSet v w
+
+pub same-set : (v w : List Bool) → sameSet v w ≡ true → v ≡ w
+unfolding sameSet
+same-set [] [] e = refl
+same-set [] (b ∷ w) e = absurd (false≢true e)
+same-set (a ∷ v) [] e = absurd (false≢true e)
+same-set (a ∷ v) (b ∷ w) e =
+    let h = both-true (sameFlag a b) (sameSet v w) e in
+    ap₂ {C = List Bool} (λ x xs. x ∷ xs) (same-flag a b (h .0)) (same-set v w (h .1))
+
+unfoldable pub sameAll : List Interval → List Interval → Bool
+sameAll [] [] = true
+sameAll [] (q ∷ qs) = false
+sameAll (p ∷ ps) [] = false
+sameAll (p ∷ ps) (q ∷ qs) = same p q && sameAll ps qs
+
+pub same-all : (ps qs : List Interval) → sameAll ps qs ≡ true → ps ≡ qs
+unfolding sameAll
+same-all [] [] e = refl
+same-all [] (q ∷ qs) e = absurd (false≢true e)
+same-all (p ∷ ps) [] e = absurd (false≢true e)
+same-all (p ∷ ps) (q ∷ qs) e =
+    let h = both-true (same p q) (sameAll ps qs) e in
+    ap₂ {C = List Interval} (λ x xs. x ∷ xs) (same-true p q (h .0)) (same-all ps qs (h .1))
+
+-- which refusal it is, if any
+unfoldable pub sameCause : Option ℕ → Option ℕ → Bool
+sameCause none none = true
+sameCause none (some k) = false
+sameCause (some j) none = false
+sameCause (some j) (some k) = eqb j k
+
+pub same-cause : (o p : Option ℕ) → sameCause o p ≡ true → o ≡ p
+unfolding sameCause
+same-cause none none e = refl
+same-cause none (some k) e = absurd (false≢true e)
+same-cause (some j) none e = absurd (false≢true e)
+same-cause (some j) (some k) e = ap some (eqb-true j k e)
+
+unfoldable pub sameOpening : Opening → Opening → Bool
+sameOpening (refusedOpening j) (refusedOpening k) = eqb j k
+sameOpening (refusedOpening j) (openedWith r e b) = false
+sameOpening (openedWith r e b) (refusedOpening k) = false
+sameOpening (openedWith r e b) (openedWith R E B) = eqb r R && (eqb e E && eqb b B)
+
+pub same-opening : (o p : Opening) → sameOpening o p ≡ true → o ≡ p
+unfolding sameOpening
+same-opening (refusedOpening j) (refusedOpening k) e = ap refusedOpening (eqb-true j k e)
+same-opening (refusedOpening j) (openedWith r e b) q = absurd (false≢true q)
+same-opening (openedWith r e b) (refusedOpening k) q = absurd (false≢true q)
+same-opening (openedWith r e b) (openedWith R E B) q =
+    let h = both-true (eqb r R) (eqb e E && eqb b B) q in
+    let k = both-true (eqb e E) (eqb b B) (h .1) in
+    rw (eqb-true r R (h .0), eqb-true e E (k .0), eqb-true b B (k .1)) refl
+
+-- an answer as numbers: which of the five it is, and its figures
+abbrev statusNumber : Status → ℕ
+statusNumber rest = 0
+statusNumber spent = 1
+
+abbrev statusIn : ℕ → Status
+statusIn k = cond (eqb k 0) rest spent
+
+unfoldable pub figures : Answer → List ℕ
+figures (refused k) = 0 ∷ k ∷ []
+figures unchanged = 1 ∷ []
+figures changed = 2 ∷ []
+figures (drove k s) = 3 ∷ k ∷ statusNumber s ∷ []
+figures (valued p s) = 4 ∷ p .low ∷ p .high ∷ statusNumber s ∷ []
+
+abbrev answerAs : ℕ → ℕ → ℕ → ℕ → Answer
+answerAs t x y z =
+    cond (eqb t 0) (refused x)
+    (cond (eqb t 1) unchanged
+    (cond (eqb t 2) changed
+    (cond (eqb t 3) (drove x (statusIn y)) (valued (record { low = x; high = y }) (statusIn z)))))
+
+abbrev answerIn : List ℕ → Answer
+answerIn l = answerAs (getD l 0 0) (getD l 1 0) (getD l 2 0) (getD l 3 0)
+
+answer-back : (a : Answer) → answerIn (figures a) ≡ a
+unfolding figures
+answer-back (refused k) = refl
+answer-back unchanged = refl
+answer-back changed = refl
+answer-back (drove k rest) = refl
+answer-back (drove k spent) = refl
+answer-back (valued p rest) = refl
+answer-back (valued p spent) = refl
+
+pub same-answer : (a b : Answer) → sameNumbers (figures a) (figures b) ≡ true → a ≡ b
+same-answer a b e = sym (answer-back a) ∙ ap answerIn (same-numbers (figures a) (figures b) e) ∙ answer-back b

@@ -1,0 +1,194 @@
+-- Worked rows of our own on texts, in literal bytes: what reading answers and leaves in the area, and what showing a line hands back. One
+-- list, one claim (`text-bench`). For each refusal its nearest neighbour that is accepted, and the order
+-- of the causes; rows 9 to 12 of the bench figures.
+-- Assumes nothing.
+use mathlib.Core.Path.{_≡_}
+use mathlib.Core.List.{List, [], _∷_, _++_}
+use Prim.Native.Nat.{ℕ, zero, suc}
+use lib.ListN.{replicate}
+use Rattle.semantics.specs.ReadPage.{ReadAnswer, refusedPage, readPage, readOf, lineOf, startOf}
+
+pub data TextRow : Type 0 where
+  -- reading a text into an area: the answer, and what the area then holds
+  reads : (text area : List ℕ) → ReadAnswer → (left : List ℕ) → TextRow
+  -- reading alone: the answer, where the area is long
+  answers : (text area : List ℕ) → ReadAnswer → TextRow
+  -- showing a line: its bytes, and where they begin
+  shows : (text : List ℕ) → (number : ℕ) → (line : List ℕ) → (start : ℕ) → TextRow
+
+abbrev pub HoldsIn : TextRow → Type 0
+HoldsIn (reads t a o left) = (readOf t a .answer ≡ o) × (readOf t a .area ≡ left)
+HoldsIn (answers t a o) = readOf t a .answer ≡ o
+HoldsIn (shows t k l s) = (lineOf t k ≡ l) × (startOf t k ≡ s)
+
+abbrev pub AllHoldIn : List TextRow → Type 0
+AllHoldIn [] = Unit {0}
+AllHoldIn (r ∷ rs) = HoldsIn r × AllHoldIn rs
+
+-- `G,1,1\n`
+unfoldable pub head : List ℕ
+head = 71 ∷ 44 ∷ 49 ∷ 44 ∷ 49 ∷ 10 ∷ []
+
+-- `G,1,1`
+unfoldable pub noEnd : List ℕ
+noEnd = 71 ∷ 44 ∷ 49 ∷ 44 ∷ 49 ∷ []
+
+-- `G,10,1\nF,0,3,4\n`
+unfoldable pub fact34 : List ℕ
+fact34 = 71 ∷ 44 ∷ 49 ∷ 48 ∷ 44 ∷ 49 ∷ 10 ∷ 70 ∷ 44 ∷ 48 ∷ 44 ∷ 51 ∷ 44 ∷ 52 ∷ 10 ∷ []
+
+-- `G,10,1\nF,0,03,4\n`
+unfoldable pub zeroFirst : List ℕ
+zeroFirst = 71 ∷ 44 ∷ 49 ∷ 48 ∷ 44 ∷ 49 ∷ 10 ∷ 70 ∷ 44 ∷ 48 ∷ 44 ∷ 48 ∷ 51 ∷ 44 ∷ 52 ∷ 10 ∷ []
+
+-- `G,10,1\nF,0,4,3\n`
+unfoldable pub fact43 : List ℕ
+fact43 = 71 ∷ 44 ∷ 49 ∷ 48 ∷ 44 ∷ 49 ∷ 10 ∷ 70 ∷ 44 ∷ 48 ∷ 44 ∷ 52 ∷ 44 ∷ 51 ∷ 10 ∷ []
+
+-- `G,10,1\nF,0,4,4\n`
+unfoldable pub fact44 : List ℕ
+fact44 = 71 ∷ 44 ∷ 49 ∷ 48 ∷ 44 ∷ 49 ∷ 10 ∷ 70 ∷ 44 ∷ 48 ∷ 44 ∷ 52 ∷ 44 ∷ 52 ∷ 10 ∷ []
+
+-- `G,1,512\nF,511,0,1\n`
+unfoldable pub last : List ℕ
+last = 71 ∷ 44 ∷ 49 ∷ 44 ∷ 53 ∷ 49 ∷ 50 ∷ 10 ∷ 70 ∷ 44 ∷ 53 ∷ 49 ∷ 49 ∷ 44 ∷ 48 ∷ 44 ∷ 49 ∷ 10 ∷ []
+
+-- `G,1,512\nF,512,0,1\n`
+unfoldable pub past : List ℕ
+past = 71 ∷ 44 ∷ 49 ∷ 44 ∷ 53 ∷ 49 ∷ 50 ∷ 10 ∷ 70 ∷ 44 ∷ 53 ∷ 49 ∷ 50 ∷ 44 ∷ 48 ∷ 44 ∷ 49 ∷ 10 ∷ []
+
+-- `G,200,1\n`
+unfoldable pub top200 : List ℕ
+top200 = 71 ∷ 44 ∷ 50 ∷ 48 ∷ 48 ∷ 44 ∷ 49 ∷ 10 ∷ []
+
+-- `G,201,1\n`
+unfoldable pub top201 : List ℕ
+top201 = 71 ∷ 44 ∷ 50 ∷ 48 ∷ 49 ∷ 44 ∷ 49 ∷ 10 ∷ []
+
+-- `G,1,1\nR,0,1,M,0,0,0,0,0,0,0,!0\n`
+unfoldable pub eight : List ℕ
+eight = 71 ∷ 44 ∷ 49 ∷ 44 ∷ 49 ∷ 10 ∷ 82 ∷ 44 ∷ 48 ∷ 44 ∷ 49 ∷ 44 ∷ 77 ∷ 44 ∷ 48 ∷ 44 ∷ 48 ∷ 44 ∷ 48 ∷ 44 ∷ 48 ∷ 44 ∷ 48 ∷ 44 ∷ 48 ∷ 44 ∷ 48 ∷ 44 ∷ 33 ∷ 48 ∷ 10 ∷ []
+
+-- `G,1,1\nR,0,1,M,0,0,0,0,0,0,0,0,!0\n`
+unfoldable pub nine : List ℕ
+nine = 71 ∷ 44 ∷ 49 ∷ 44 ∷ 49 ∷ 10 ∷ 82 ∷ 44 ∷ 48 ∷ 44 ∷ 49 ∷ 44 ∷ 77 ∷ 44 ∷ 48 ∷ 44 ∷ 48 ∷ 44 ∷ 48 ∷ 44 ∷ 48 ∷ 44 ∷ 48 ∷ 44 ∷ 48 ∷ 44 ∷ 48 ∷ 44 ∷ 48 ∷ 44 ∷ 33 ∷ 48 ∷ 10 ∷ []
+
+-- `G,10,2\nF,0,2,2\nF,1,3,3\nR,0,10,M,!1\nR,1,10,M,!0\nQ,K,0\nQ,W,1\n`
+unfoldable pub example : List ℕ
+example = 71 ∷ 44 ∷ 49 ∷ 48 ∷ 44 ∷ 50 ∷ 10 ∷ 70 ∷ 44 ∷ 48 ∷ 44 ∷ 50 ∷ 44 ∷ 50 ∷ 10 ∷ 70 ∷ 44 ∷ 49 ∷ 44 ∷ 51 ∷ 44 ∷ 51 ∷ 10 ∷ 82 ∷ 44 ∷ 48 ∷ 44 ∷ 49 ∷ 48 ∷ 44 ∷ 77 ∷ 44 ∷ 33 ∷ 49 ∷ 10 ∷ 82 ∷ 44 ∷ 49 ∷ 44 ∷ 49 ∷ 48 ∷ 44 ∷ 77 ∷ 44 ∷ 33 ∷ 48 ∷ 10 ∷ 81 ∷ 44 ∷ 75 ∷ 44 ∷ 48 ∷ 10 ∷ 81 ∷ 44 ∷ 87 ∷ 44 ∷ 49 ∷ 10 ∷ []
+
+-- `Q,K,0\n`
+unfoldable pub query : List ℕ
+query = 81 ∷ 44 ∷ 75 ∷ 44 ∷ 48 ∷ 10 ∷ []
+
+-- `G,1000,1\n`
+unfoldable pub top1000 : List ℕ
+top1000 = 71 ∷ 44 ∷ 49 ∷ 48 ∷ 48 ∷ 48 ∷ 44 ∷ 49 ∷ 10 ∷ []
+
+-- `G,1,512\n`
+unfoldable pub conditions512 : List ℕ
+conditions512 = 71 ∷ 44 ∷ 49 ∷ 44 ∷ 53 ∷ 49 ∷ 50 ∷ 10 ∷ []
+
+-- `G,1,513\n`
+unfoldable pub conditions513 : List ℕ
+conditions513 = 71 ∷ 44 ∷ 49 ∷ 44 ∷ 53 ∷ 49 ∷ 51 ∷ 10 ∷ []
+
+-- `G,3,1\nR,0,3,M,0\n`
+unfoldable pub weight3 : List ℕ
+weight3 = 71 ∷ 44 ∷ 51 ∷ 44 ∷ 49 ∷ 10 ∷ 82 ∷ 44 ∷ 48 ∷ 44 ∷ 51 ∷ 44 ∷ 77 ∷ 44 ∷ 48 ∷ 10 ∷ []
+
+-- `G,3,1\nR,0,4,M,0\n`
+unfoldable pub weight4 : List ℕ
+weight4 = 71 ∷ 44 ∷ 51 ∷ 44 ∷ 49 ∷ 10 ∷ 82 ∷ 44 ∷ 48 ∷ 44 ∷ 52 ∷ 44 ∷ 77 ∷ 44 ∷ 48 ∷ 10 ∷ []
+
+-- `G,3,1\nR,0,0,M,0\n`
+unfoldable pub weight0 : List ℕ
+weight0 = 71 ∷ 44 ∷ 51 ∷ 44 ∷ 49 ∷ 10 ∷ 82 ∷ 44 ∷ 48 ∷ 44 ∷ 48 ∷ 44 ∷ 77 ∷ 44 ∷ 48 ∷ 10 ∷ []
+
+-- `G,1,2\nR,0,1,M,0\nR,0,1,X,1\nR,0,1,L,!0\nR,0,1,B,!1\nR,0,1,P,0\n`
+unfoldable pub letters : List ℕ
+letters = 71 ∷ 44 ∷ 49 ∷ 44 ∷ 50 ∷ 10 ∷ 82 ∷ 44 ∷ 48 ∷ 44 ∷ 49 ∷ 44 ∷ 77 ∷ 44 ∷ 48 ∷ 10 ∷ 82 ∷ 44 ∷ 48 ∷ 44 ∷ 49 ∷ 44 ∷ 88 ∷ 44 ∷ 49 ∷ 10 ∷ 82 ∷ 44 ∷ 48 ∷ 44 ∷ 49 ∷ 44 ∷ 76 ∷ 44 ∷ 33 ∷ 48 ∷ 10 ∷ 82 ∷ 44 ∷ 48 ∷ 44 ∷ 49 ∷ 44 ∷ 66 ∷ 44 ∷ 33 ∷ 49 ∷ 10 ∷ 82 ∷ 44 ∷ 48 ∷ 44 ∷ 49 ∷ 44 ∷ 80 ∷ 44 ∷ 48 ∷ 10 ∷ []
+
+-- `G,10,1\nF,9,03,4\n`
+unfoldable pub formAndRange : List ℕ
+formAndRange = 71 ∷ 44 ∷ 49 ∷ 48 ∷ 44 ∷ 49 ∷ 10 ∷ 70 ∷ 44 ∷ 57 ∷ 44 ∷ 48 ∷ 51 ∷ 44 ∷ 52 ∷ 10 ∷ []
+
+-- `x`
+unfoldable pub noLine : List ℕ
+noLine = 120 ∷ []
+
+-- `G\n\nQ`
+unfoldable pub three : List ℕ
+three = 71 ∷ 10 ∷ 10 ∷ 81 ∷ []
+
+-- k lines `Q,K,0`
+unfoldable pub queries : ℕ → List ℕ
+queries zero = []
+queries (suc k) = query ++ queries k
+
+-- `x`, a line of no form
+unfoldable pub noForm : List ℕ
+noForm = 120 ∷ 10 ∷ []
+
+unfoldable pub nines : ℕ → List ℕ
+nines k = replicate k 9
+
+unfoldable pub textRows : List TextRow
+textRows =
+    -- 1: longer than 65,535 bytes. No page is that long; a text of 65,535 bytes is refused for another cause.
+    answers (replicate 65536 10) [] (refusedPage 1 0)
+    ∷ answers (replicate 65535 10) [] (refusedPage 3 1)
+    -- .. before 2
+    ∷ answers (replicate 65536 120) [] (refusedPage 1 0)
+    -- 2: empty, or the last byte is not 10
+    ∷ reads [] (nines 5) (refusedPage 2 0) (nines 5)
+    ∷ reads noEnd (nines 5) (refusedPage 2 0) (nines 5)
+    ∷ reads head (nines 5) (readPage 4) (1 ∷ 1 ∷ 0 ∷ 4 ∷ 9 ∷ [])
+    -- .. before 3
+    ∷ reads noLine [] (refusedPage 2 0) []
+    -- 3, and row 12: a leading zero
+    ∷ reads zeroFirst (nines 9) (refusedPage 3 2) (nines 9)
+    ∷ reads fact34 (nines 9) (readPage 8) (10 ∷ 1 ∷ 1 ∷ 8 ∷ 0 ∷ 0 ∷ 3 ∷ 4 ∷ 9 ∷ [])
+    -- .. before 4
+    ∷ reads formAndRange (nines 9) (refusedPage 3 2) (nines 9)
+    -- 4, and row 12: low above high
+    ∷ reads fact43 (nines 9) (refusedPage 4 2) (nines 9)
+    ∷ reads fact44 (nines 9) (readPage 8) (10 ∷ 1 ∷ 1 ∷ 8 ∷ 0 ∷ 0 ∷ 4 ∷ 4 ∷ 9 ∷ [])
+    -- .. before 6
+    ∷ reads fact43 (nines 3) (refusedPage 4 2) (nines 3)
+    -- 6: the area is shorter than the used length
+    ∷ reads fact44 (nines 7) (refusedPage 6 0) (nines 7)
+    ∷ reads fact44 (nines 8) (readPage 8) (10 ∷ 1 ∷ 1 ∷ 8 ∷ 0 ∷ 0 ∷ 4 ∷ 4 ∷ [])
+    -- row 9
+    ∷ reads last (nines 8) (readPage 8) (1 ∷ 512 ∷ 1 ∷ 8 ∷ 511 ∷ 0 ∷ 0 ∷ 1 ∷ [])
+    ∷ reads past (nines 8) (refusedPage 4 2) (nines 8)
+    -- row 10
+    ∷ reads top200 (nines 4) (readPage 4) (200 ∷ 1 ∷ 0 ∷ 4 ∷ [])
+    ∷ reads top201 (nines 4) (refusedPage 4 1) (nines 4)
+    ∷ reads top1000 (nines 4) (refusedPage 3 1) (nines 4)
+    ∷ reads conditions512 (nines 4) (readPage 4) (1 ∷ 512 ∷ 0 ∷ 4 ∷ [])
+    ∷ reads conditions513 (nines 4) (refusedPage 4 1) (nines 4)
+    ∷ reads weight3 (nines 9) (readPage 9) (3 ∷ 1 ∷ 1 ∷ 9 ∷ 0 ∷ 1 ∷ 3 ∷ 1 ∷ 0 ∷ [])
+    ∷ reads weight4 (nines 9) (refusedPage 4 2) (nines 9)
+    ∷ reads weight0 (nines 9) (refusedPage 4 2) (nines 9)
+    ∷ reads eight (nines 16) (readPage 16) (1 ∷ 1 ∷ 1 ∷ 16 ∷ 0 ∷ 1 ∷ 1 ∷ 8 ∷ 0 ∷ 0 ∷ 0 ∷ 0 ∷ 0 ∷ 0 ∷ 0 ∷ 1 ∷ [])
+    ∷ reads nine (nines 17) (refusedPage 3 2) (nines 17)
+    -- row 11, and 5: 1,025 lines in all are read, a 1,026th is refused, however it looks
+    ∷ answers (head ++ queries 1024) (nines 4100) (readPage 4100)
+    ∷ answers (head ++ queries 1025) (nines 4104) (refusedPage 5 1026)
+    ∷ answers (head ++ (queries 1024 ++ noForm)) (nines 4104) (refusedPage 5 1026)
+    ∷ answers (head ++ (queries 1023 ++ noForm)) (nines 4104) (refusedPage 3 1025)
+    -- the page of row 1
+    ∷ reads example (nines 31) (readPage 30)
+    (10 ∷ 2 ∷ 6 ∷ 30 ∷ 0 ∷ 0 ∷ 2 ∷ 2 ∷ 1 ∷ 0 ∷ 3 ∷ 3 ∷ 0 ∷ 1 ∷ 10 ∷ 1 ∷ 3 ∷ 1 ∷ 1 ∷ 10 ∷ 1 ∷ 1 ∷ 0 ∷ 6 ∷ 0 ∷ 0 ∷ 1 ∷ 6 ∷ 1 ∷ 0 ∷ 9 ∷ [])
+    -- the five op letters
+    ∷ reads letters (nines 30) (readPage 29)
+    (1 ∷ 2 ∷ 5 ∷ 29 ∷ 0 ∷ 1 ∷ 1 ∷ 1 ∷ 0 ∷ 0 ∷ 2 ∷ 1 ∷ 1 ∷ 2 ∷ 0 ∷ 3 ∷ 1 ∷ 1 ∷ 1 ∷ 0 ∷ 4 ∷ 1 ∷ 1 ∷ 3 ∷ 0 ∷ 5 ∷ 1 ∷ 1 ∷ 0 ∷ 9 ∷ [])
+    -- show a line: `G`, an empty line and a last line without byte 10; none with number 0 or 4
+    ∷ shows three 0 [] 0
+    ∷ shows three 1 (71 ∷ []) 0
+    ∷ shows three 2 [] 2
+    ∷ shows three 3 (81 ∷ []) 3
+    ∷ shows three 4 [] 4
+    ∷ shows [] 1 [] 0
+    ∷ []
