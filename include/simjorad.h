@@ -27,7 +27,7 @@
  * Cost. Every call that is lent a page area first scans it, and a run area too, to see that they are sound. Then:
  *   read             two passes over the text
  *   show_line        one pass over the text, up to the line
- *   open             scans of the page, up to a few for each reached condition
+ *   open             one scan of the page for each reached condition
  *   evaluate         a scan of the page for the lines of the condition, and one for its dependants if it changed
  *   drive            as evaluate, for each evaluation; the areas are checked once
  *   drive_indexed    an index is built by a few scans; then each evaluation looks at the lines of the condition and at its dependants only
@@ -100,7 +100,7 @@ extern "C" {
  */
 #define SIMJORAD_STACK_READ 384
 #define SIMJORAD_STACK_SHOW_LINE 64
-#define SIMJORAD_STACK_OPEN 1920
+#define SIMJORAD_STACK_OPEN 1024
 #define SIMJORAD_STACK_EVALUATE 1472
 #define SIMJORAD_STACK_DRIVE 1600
 #define SIMJORAD_STACK_DRIVE_INDEXED 1664
