@@ -4,3 +4,6 @@ pub mod OneQuery
 pub mod PlainAnswer
 -- the closed reading of one query
 pub mod ClosedAnswer
+-- a printed line, and the Q lines of a page
+pub mod PrintedLines
+pub mod Printing

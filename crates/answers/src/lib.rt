@@ -1,10 +1,16 @@
-// The answer of a page to a query, by its reading. An index is made in a workspace that the caller lends, if there is room.
+// The answer of a page to a query, by its reading, and the output of the program `attach` for a text. An index is made in a workspace that the caller lends, if there is room.
 ghost use mathlib.Core.Path.{_≡_};
 ghost use mathlib.Core.Bool.{true};
 ghost use Prim.Native.Nat.{_<_};
 ghost use Rattle.semantics.specs.Area.{sound, pageOf, conditionsOf};
 ghost use Rattle.semantics.specs.Reading.{IsPlain, IsClosed, Reads};
-ghost use Rattle.answers.specs.Asked.{readingOf, IsReading};
+ghost use Rattle.answers.specs.Asked.{readingOf};
+ghost use Rattle.semantics.specs.Output.{IsReading, Prints};
+
+mod output;
+
+use output::put_output;
+use print::put_all;
 use reach::OpenAnswer;
 use run::ValueAnswer;
 use value::Ends;
@@ -59,4 +65,17 @@ pub fn answer(page: &[u16], reading: u16, c: u16, workspace: &mut [u16]) -> Ends
         return plain_answer(page, c, workspace);
     }
     closed_answer(page, c, workspace)
+}
+
+// What the program `attach` prints for a text, at the front of a slice; answers how many bytes that is. A slice that is shorter is left as it
+// is: the output is made in a local array of the greatest length first.
+pub fn answer_page(text: &[u8], out: &mut [u8]) -> usize
+    ensures { λ r. ⌜ Prints (now (text .entry)) (now (out .entry)) (now (out .exit)) r ⌝ }
+{
+    let mut output = [0u8; 14353];
+    let n = put_output(text, &mut output);
+    if n <= out.len() {
+        put_all(out, 0, &output[..n]);
+    }
+    n
 }

@@ -50,6 +50,7 @@ pub extern "C" fn simjorad_show_line(text: &[u8], number: usize, start: &mut usi
     ensures line { λ r. ⌜ take r (drop (now (start .exit)) (now (text .entry))) ≡ lineOf (now (text .entry)) number ⌝ }
     ensures inside { λ r. ⌜ now (start .exit) + r ≤ length (now (text .entry)) ⌝ }
     ensures begins { λ _. ⌜ now (start .exit) ≡ startOf (now (text .entry)) number ⌝ }
+    ensures spans { λ r. ⌜ r ≡ length (lineOf (now (text .entry)) number) ⌝ }
 {
     let span = reader::find_line(text, number);
     *start = span.start;

@@ -5,7 +5,7 @@ use Prim.Native.Nat.{ℕ, zero, suc, _+_, _-_, _≤_, _<_}
 use native.Mathlib.Omega.{arith}
 use native.Mathlib.Nat.{sub-self}
 use lib.ListN.{length, getD, take, drop, length-drop, drop-of-length-le}
-use lib.Seq.{take-suc, getD-drop}
+use lib.Seq.{take-suc, getD-drop, length-take-le}
 use Rattle.semantics.specs.Text.{textLines}
 use Rattle.semantics.specs.ReadPage.{lineOf, startFrom, startOf}
 use Rattle.fields.specs.Cursor.{linesAfter}
@@ -126,3 +126,8 @@ module _ (s : List ℕ) (number at left : ℕ) (w : Seeking s number at left) wh
         ahead = q .ahead;
         inside = q .inside;
       }
+
+-- a part that stands inside is as long as its line
+pub line-span : {s : List ℕ} {number start end : ℕ} → LineAt s number start end → end - start ≡ length (lineOf s number)
+line-span {s} {number} {start} {end} w =
+    sym (length-take-le (end - start) (drop start s) (omega (arith, w .ahead, w .inside, length-drop start s))) ∙ ap length (w .line)

@@ -4,7 +4,10 @@ mod show;
 mod write;
 
 ghost use mathlib.Core.Path.{_≡_};
-ghost use Rattle.semantics.specs.ReadPage.{readOf, lineOf};
+ghost use Prim.Native.Nat.{_+_};
+ghost use denote.Ref.{ptr};
+ghost use lib.ListN.{length};
+ghost use Rattle.semantics.specs.ReadPage.{readOf, lineOf, startOf};
 ghost use Rattle.reader.specs.Answers.{answerOf};
 ghost use Rattle.reader.specs.Shown.{LineAt};
 use crate::check::Checked;
@@ -71,9 +74,13 @@ pub fn find_line(bytes: &[u8], number: usize) -> Span
     Span { start: at, end }
 }
 
-// Show a line, by its number from 1: the part of the caller's own bytes, empty where there is no such line.
+// Show a line, by its number from 1: the part of the caller's own bytes, empty where there is no such line. A reference's `ptr` is a
+// block, and an offset in bytes: the part lies in the caller's block, at the line's own place and not at another line of the same bytes.
 pub fn show_line(bytes: &[u8], number: usize) -> &[u8]
-    ensures { λ r. ⌜ now r ≡ lineOf (now (bytes .entry)) number ⌝ }
+    ensures line { λ r. ⌜ now r ≡ lineOf (now (bytes .entry)) number ⌝ }
+    ensures block { λ r. ⌜ ptr r .0 ≡ ptr (bytes .entry) .0 ⌝ }
+    ensures begins { λ r. ⌜ ptr r .1 ≡ ptr (bytes .entry) .1 + startOf (now (bytes .entry)) number ⌝ }
+    ensures spans { λ r. ⌜ length (now r) ≡ length (lineOf (now (bytes .entry)) number) ⌝ }
 {
     let span = find_line(bytes, number);
     let start = span.start;

@@ -35,6 +35,9 @@ pub mod TextRows
 pub mod TextBench
 -- what operations keep
 pub mod Keeps
+-- what the program `attach` prints
+pub mod Outputs
+pub mod OutputRow
 -- demand 3
 pub mod Invariant
 pub mod Areas

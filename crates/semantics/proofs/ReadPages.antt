@@ -12,7 +12,8 @@ use Rattle.semantics.proofs.Proper.{AllInRange, Proper}
 use Rattle.semantics.specs.Area.{sound, pageOf, areaOf}
 use Rattle.semantics.specs.Text.{textLines, fieldsOf, headRanges, topIn, conditionsIn, linesIn, pageIn}
 use Rattle.semantics.specs.ReadPage.{badLine, textRefusal, pageRead, usedBy, refusalOf, readOf}
-use Rattle.semantics.proofs.Written.{joined, endedLines, lineTexts, textOf}
+use Rattle.semantics.specs.Fields.{joined, endedLines}
+use Rattle.semantics.proofs.Written.{lineTexts, textOf}
 use Rattle.semantics.proofs.Soundness.{every-true}
 use Rattle.semantics.proofs.RoundTrip.{page-area}
 use Rattle.semantics.proofs.ExactAreas.{proper-sound}

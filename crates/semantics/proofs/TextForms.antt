@@ -13,7 +13,8 @@ use Rattle.semantics.specs.Page.{Literal, positive, negative, conditionO
 use Rattle.semantics.proofs.Proper.{LiteralsBelow, InRange}
 use Rattle.semantics.specs.Area.{every}
 use Rattle.semantics.specs.Text.{field, isNumber, valueOf, isNegated, isLiteral, literalIn, allLiterals, isLetter, isOp, opIn, isReading, readingIn, headForm, isHead, factForm, isFact, ruleForm, isRule, queryForm, isQuery, hasForm, lineIn, literalRanges, rangeTests}
-use Rattle.semantics.proofs.Written.{numberText, literalText, opLetter, readingLetter, lineFields, headFields}
+use Rattle.semantics.specs.Fields.{numberText, readingLetter}
+use Rattle.semantics.proofs.Written.{literalText, opLetter, lineFields, headFields}
 use Rattle.semantics.proofs.Soundness.{both-true, every-true}
 use Rattle.semantics.proofs.TextNumbers.{written-number, written-value, first-not, number-back}
 

@@ -1,15 +1,15 @@
 -- Numbers, literals and letters: what is written is read, and what is read was written so. Assumes nothing.
 use mathlib.Core.Path.{_≡_, refl, _∙_, ap, ap₂}
-use mathlib.Core.Bool.{Bool, true, false, not, _&&_, _||_}
-use mathlib.Core.List.{List, [], _∷_}
-use Prim.Native.Nat.{ℕ, _/_, _%_, _≤_, _<_}
+use mathlib.Core.Bool.{Bool, true, false, not, cond, _&&_, _||_}
+use mathlib.Core.List.{List, [], _∷_, _++_}
+use Prim.Native.Nat.{ℕ, zero, suc, _+_, _*_, _-_, _/_, _%_, _≤_, _<_}
 use native.Mathlib.Omega.{arith}
 use native.Mathlib.Decide.{decLt}
-use lib.Dec.{eqb, leb}
-use lib.ListN.{length, getD}
+use lib.Dec.{eqb, ltb, leb}
+use lib.ListN.{length, getD, length-append}
 use borrow.Author.Tests.{ne-eqb, eqb-false, not-true, le-leb, leb-true, lt-ltb, le-ltb}
 use Rattle.semantics.specs.Text.{isDigit, allDigits, isNumber, valueFrom, valueOf}
-use Rattle.semantics.proofs.Written.{digit, numberText}
+use Rattle.semantics.specs.Fields.{digit, numberWithin, numberText}
 use Rattle.semantics.proofs.Soundness.{both-true, every-true}
 use Rattle.semantics.proofs.TextParts.{without}
 
@@ -36,24 +36,85 @@ pub three-digits : (a b d : ℕ) → isDigit a ≡ true → isDigit b ≡ true �
 unfolding isNumber
 three-digits a b d p q r n = rw (p, q, r, ne-eqb a 48 n)
 
--- The three lengths of a number's text.
+-- Any number of steps that is enough gives the same digits.
+steps-enough : (j k n : ℕ) → n ≤ j → n ≤ k → numberWithin j n ≡ numberWithin k n
+unfolding numberWithin
+steps-enough zero zero n p q = refl
+steps-enough zero (suc k) n p q = rw (lt-ltb n 10 (omega arith))
+steps-enough (suc j) zero n p q = rw (lt-ltb n 10 (omega arith))
+steps-enough (suc j) (suc k) n p q =
+    elim (decLt n 10) [
+      | yes h ↦ rw (lt-ltb n 10 h)
+      | no h ↦ ap (λ (ds : List ℕ). cond (ltb n 10) (digit n ∷ []) (ds ++ (digit (n % 10) ∷ []))) (steps-enough j k (n / 10) (omega arith) (omega arith))
+    ]
+
+-- below 10 there is one digit; else the digits of a tenth, and the last one
+pub number-one : (n : ℕ) → n < 10 → numberText n ≡ digit n ∷ []
+unfolding numberText numberWithin
+number-one zero h = refl
+number-one (suc k) h = rw (lt-ltb (suc k) 10 h)
+
+pub number-more : (n : ℕ) → 10 ≤ n → numberText n ≡ numberText (n / 10) ++ (digit (n % 10) ∷ [])
+unfolding numberText numberWithin
+number-more zero h = absurd (omega arith)
+number-more (suc k) h =
+    rw (le-ltb (suc k) 10 h) (ap (λ (ds : List ℕ). ds ++ (digit (suc k % 10) ∷ [])) (steps-enough k (suc k / 10) (suc k / 10) (omega arith) (omega arith)))
+
+pub number-length : (n : ℕ) → 10 ≤ n → length (numberText n) ≡ length (numberText (n / 10)) + 1
+number-length n h = ap length (number-more n h) ∙ length-append (numberText (n / 10)) (digit (n % 10) ∷ [])
+
+-- read in decimal, the digits give the number again, whatever its size
+value-on : (v : ℕ) (f : List ℕ) (d : ℕ) → valueFrom v (f ++ (d ∷ [])) ≡ 10 * valueFrom v f + (d - 48)
+value-on v [] d = refl
+value-on v (x ∷ f) d = value-on (10 * v + (x - 48)) f d
+
+value-within : (k n : ℕ) → n ≤ k → valueFrom 0 (numberWithin k n) ≡ n
+unfolding numberWithin
+value-within zero n h = omega arith
+value-within (suc k) n h =
+    elim (decLt n 10) [
+      | yes l ↦ rw (lt-ltb n 10 l) (omega arith)
+      | no l ↦ rw (le-ltb n 10 (omega arith)) (omega (arith, value-on 0 (numberWithin k (n / 10)) (digit (n % 10)), value-within k (n / 10) (omega arith)))
+    ]
+
+pub number-value : (n : ℕ) → valueOf (numberText n) ≡ n
+unfolding valueOf numberText
+number-value n = value-within n n (omega arith)
+
+-- ten times as large, a digit more
+longer : (k m n : ℕ) → ((i : ℕ) → i < m → length (numberText i) ≤ k) → 1 ≤ k → n < 10 * m → length (numberText n) ≤ k + 1
+longer k m n w l h =
+    elim (decLt n 10) [
+      | yes s ↦ omega (arith, ap length (number-one n s))
+      | no s ↦ omega (arith, number-length n (omega arith), w (n / 10) (omega arith))
+    ]
+
+-- three digits below 1,000, four below 10,000
+pub number-short : (n : ℕ) → n < 1000 → length (numberText n) ≤ 3
+number-short n h = longer 2 100 n (λ i k. longer 1 10 i (λ j l. omega (arith, ap length (number-one j l))) (omega arith) k) (omega arith) h
+
+pub number-four : (n : ℕ) → n < 10000 → length (numberText n) ≤ 4
+number-four n h = longer 3 1000 n number-short (omega arith) h
+
+-- The three lengths of the text of a number below 1,000.
 pub data Digits (n : ℕ) : Type 0 where
   one : n < 10 → numberText n ≡ digit n ∷ [] → Digits n
   two : 10 ≤ n → n < 100 → numberText n ≡ digit (n / 10) ∷ digit (n % 10) ∷ [] → Digits n
   three : 100 ≤ n → numberText n ≡ digit (n / 100) ∷ digit (n / 10 % 10) ∷ digit (n % 10) ∷ [] → Digits n
 
-pub digits-of : (n : ℕ) → Digits n
-unfolding numberText
-digits-of n = go (decLt n 10) (decLt n 100)
+pub digits-of : (n : ℕ) → n < 1000 → Digits n
+digits-of n w = go (decLt n 10) (decLt n 100)
   where
     go : Dec (n < 10) → Dec (n < 100) → Digits n
-    go (yes h) d = one h (rw (lt-ltb n 10 h))
-    go (no h) (yes k) = two (omega arith) k (rw (le-ltb n 10 (omega arith), lt-ltb n 100 k))
-    go (no h) (no k) = three (omega arith) (rw (le-ltb n 10 (omega arith), le-ltb n 100 (omega arith)))
+    go (yes h) d = one h (number-one n h)
+    go (no h) (yes k) = two (omega arith) k (rw (number-more n (omega arith), number-one (n / 10) (omega arith)))
+    go (no h) (no k) =
+        let e : n / 10 / 10 ≡ n / 100 = omega arith in
+        three (omega arith) (rw (number-more n (omega arith), number-more (n / 10) (omega arith), number-one (n / 10 / 10) (omega arith), e))
 
 module _ (n : ℕ) (h : n < 1000) where
   pub written-number : isNumber (numberText n) ≡ true
-  written-number = go (digits-of n)
+  written-number = go (digits-of n h)
     where
       low : (d : ℕ) → d < 10 → isDigit (digit d) ≡ true
       low d k = is-digit (digit d) (omega arith) (omega arith)
@@ -66,17 +127,11 @@ module _ (n : ℕ) (h : n < 1000) where
           (three-digits (digit (n / 100)) (digit (n / 10 % 10)) (digit (n % 10)) (low (n / 100) (omega arith)) (low (n / 10 % 10) (omega arith)) (low (n % 10) (omega arith)) (λ z. omega arith))
 
   pub written-value : valueOf (numberText n) ≡ n
-  unfolding valueOf
-  written-value = go (digits-of n)
-    where
-      go : Digits n → valueOf (numberText n) ≡ n
-      go (one l e) = rw e (omega arith)
-      go (two l m e) = rw e (omega arith)
-      go (three l e) = rw e (omega arith)
+  written-value = number-value n
 
   -- it has no byte below `0` or above `9`
   pub number-without : (m : ℕ) → m < 48 → without m (numberText n) ≡ true
-  number-without m k = go (digits-of n)
+  number-without m k = go (digits-of n h)
     where
       no : (d : ℕ) → eqb (digit d) m ≡ false
       no d = ne-eqb (digit d) m (λ z. omega arith)
@@ -87,7 +142,7 @@ module _ (n : ℕ) (h : n < 1000) where
       go (three l e) = rw e (rw (no (n / 100), no (n / 10 % 10), no (n % 10)))
 
   pub first-not : (m : ℕ) → m < 48 → eqb (getD (numberText n) 0 0) m ≡ false
-  first-not m k = go (digits-of n)
+  first-not m k = go (digits-of n h)
     where
       no : (d : ℕ) → eqb (digit d) m ≡ false
       no d = ne-eqb (digit d) m (λ z. omega arith)
@@ -96,14 +151,6 @@ module _ (n : ℕ) (h : n < 1000) where
       go (one l e) = rw e (no n)
       go (two l u e) = rw e (no (n / 10))
       go (three l e) = rw e (no (n / 100))
-
-  pub number-short : length (numberText n) ≤ 3
-  number-short = go (digits-of n)
-    where
-      go : Digits n → length (numberText n) ≤ 3
-      go (one l e) = rw e (omega arith)
-      go (two l m e) = rw e (omega arith)
-      go (three l e) = rw e (omega arith)
 
 -- what it says of a field that it is a number
 pub record NumberField (f : List ℕ) : Type 0 where
@@ -122,7 +169,7 @@ number-field f n =
 -- A field that is a number is the text of its value.
 module _ (a : ℕ) (p : isDigit a ≡ true) where
   one-back : numberText (valueFrom 0 (a ∷ [])) ≡ a ∷ []
-  one-back = go (digits-of (valueFrom 0 (a ∷ [])))
+  one-back = go (digits-of (valueFrom 0 (a ∷ [])) (let r = digit-range a p in omega arith))
     where
       go : Digits (valueFrom 0 (a ∷ [])) → numberText (valueFrom 0 (a ∷ [])) ≡ a ∷ []
       go (one l e) = let r = digit-range a p in e ∙ ap (λ (x : ℕ). x ∷ []) (omega arith)
@@ -131,7 +178,7 @@ module _ (a : ℕ) (p : isDigit a ≡ true) where
 
   module _ (n : a ≡ 48 → ⊥) (b : ℕ) (q : isDigit b ≡ true) where
     two-back : numberText (valueFrom 0 (a ∷ b ∷ [])) ≡ a ∷ b ∷ []
-    two-back = go (digits-of (valueFrom 0 (a ∷ b ∷ [])))
+    two-back = go (digits-of (valueFrom 0 (a ∷ b ∷ [])) (let r = digit-range a p in let r′ = digit-range b q in omega arith))
       where
         go : Digits (valueFrom 0 (a ∷ b ∷ [])) → numberText (valueFrom 0 (a ∷ b ∷ [])) ≡ a ∷ b ∷ []
         go (one l e) = let r = digit-range a p in let r′ = digit-range b q in absurd (omega arith)
@@ -142,7 +189,7 @@ module _ (a : ℕ) (p : isDigit a ≡ true) where
         go (three l e) = let r = digit-range a p in let r′ = digit-range b q in absurd (omega arith)
 
     three-back : (d : ℕ) → isDigit d ≡ true → numberText (valueFrom 0 (a ∷ b ∷ d ∷ [])) ≡ a ∷ b ∷ d ∷ []
-    three-back d s = go (digits-of (valueFrom 0 (a ∷ b ∷ d ∷ [])))
+    three-back d s = go (digits-of (valueFrom 0 (a ∷ b ∷ d ∷ [])) (let r = digit-range a p in let r′ = digit-range b q in let r″ = digit-range d s in omega arith))
       where
         go : Digits (valueFrom 0 (a ∷ b ∷ d ∷ [])) → numberText (valueFrom 0 (a ∷ b ∷ d ∷ [])) ≡ a ∷ b ∷ d ∷ []
         go (one l e) = let r = digit-range a p in absurd (omega arith)

@@ -8,7 +8,7 @@ use lib.Dec.{eqb}
 use lib.ListN.{length, getD, drop, length-append}
 use borrow.Author.Tests.{ne-eqb, eqb-true, not-true}
 use Rattle.semantics.specs.Text.{parted, textLines, fieldsOf}
-use Rattle.semantics.proofs.Written.{afterCommas, joined, endedLines}
+use Rattle.semantics.specs.Fields.{afterCommas, joined, endedLines}
 use Rattle.semantics.proofs.Soundness.{both-true}
 
 -- a list without the byte m

@@ -14,7 +14,8 @@ use Rattle.semantics.specs.Area.{every, usedOf, areaOf}
 use Rattle.semantics.specs.Text.{textLines, fieldsOf, isHead, lineIn, headRanges, topIn, conditionsIn, linesIn, pageIn}
 use Rattle.semantics.specs.ReadPage.{badLine, badLineOf, textRefusal, pageRead, refusalOf, readPage, readOf}
 use Rattle.semantics.proofs.Rows.{page1}
-use Rattle.semantics.proofs.Written.{numberText, literalText, opLetter, readingLetter, lineFields, headFields, afterCommas, joined, endedLines, lineTexts, textOf}
+use Rattle.semantics.specs.Fields.{numberWithin, numberText, readingLetter, afterCommas, joined, endedLines}
+use Rattle.semantics.proofs.Written.{literalText, opLetter, lineFields, headFields, lineTexts, textOf}
 use Rattle.semantics.proofs.TextParts.{without, AllWithout, lines-of-ended, fields-of-joined, joined-without, ended-last}
 use Rattle.semantics.proofs.TextNumbers.{written-value, number-without, number-short}
 use Rattle.semantics.proofs.TextForms.{head-written, line-written, range-passes}
@@ -238,5 +239,5 @@ pub page1-text : textOf page1
     ∷ 81 ∷ 44 ∷ 75 ∷ 44 ∷ 48 ∷ 10
     ∷ 81 ∷ 44 ∷ 87 ∷ 44 ∷ 49 ∷ 10
     ∷ []
-unfolding textOf page1 numberText
+unfolding textOf page1 numberText numberWithin
 page1-text = refl

@@ -21,3 +21,6 @@ pub mod Call
 pub mod Operation
 -- demand 3, one statement
 pub mod Demand
+-- "The program `attach`": what it prints
+pub mod Fields
+pub mod Output

@@ -1,11 +1,17 @@
--- `attach::main` is safe: the area of a page that is read is sound. Assumes nothing.
-use mathlib.Core.Path.{sym, ap, _∙_}
-use Rattle.semantics.specs.Area.{sound}
-use Rattle.semantics.proofs.ReadProper.{read-good}
-use Rattle.reader.specs.Answers.{answerOf}
+-- `attach::main` is safe: no output is longer than the array for it. Assumes nothing.
+use mathlib.Core.Path.{sym}
+use mathlib.Core.List.{List}
+use Prim.Native.Nat.{ℕ, _≤_}
+use native.Mathlib.Omega.{arith}
+use lib.Seq.{length-take-le}
+use Rattle.semantics.specs.Output.{Prints}
+use Rattle.semantics.proofs.Outputs.{output-short}
 use borrow.Author.Needs.{needs}
 use Rattle.attach.proofs.main.Statement.{statement}
 use Rattle.attach.proofs.main.Tie as tie
+
+fits : {text out out′ : List ℕ} {n : ℕ} → Prints text out out′ n → n ≤ 14353
+fits {text} p = omega (arith, p .size-is, output-short text (p .output) (p .is-output))
 
 large-buffer-requires : tie.Need-large-buffer-requires
 large-buffer-requires c κs = search needs
@@ -19,41 +25,26 @@ read-input-requires c κs = search needs
 array-share-prefix-text : tie.Need-array-share-prefix-text
 array-share-prefix-text c = search needs
 
-slice-aggregate-read-page : tie.Need-slice-aggregate-read-page
-slice-aggregate-read-page c = search needs
+slice-aggregate-answer-page : tie.Need-slice-aggregate-answer-page
+slice-aggregate-answer-page c = search needs
 
-slice-aggregate-read-page-2 : tie.Need-slice-aggregate-read-page-2
-slice-aggregate-read-page-2 c = search needs
+slice-aggregate-answer-page-2 : tie.Need-slice-aggregate-answer-page-2
+slice-aggregate-answer-page-2 c = search needs
 
-read-page-requires : tie.Need-read-page-requires
-read-page-requires c κs = search needs
+answer-page-requires : tie.Need-answer-page-requires
+answer-page-requires c κs = search needs
 
-enum-known-read : tie.Need-enum-known-read
-enum-known-read c = search needs
+array-share-prefix-output : tie.Need-array-share-prefix-output
+array-share-prefix-output c = omega (arith, fits (c .before .answer-page .ensures), c .before .answer-page .kept .1 .0)
 
-cast-print-refusal : tie.Need-cast-print-refusal
-cast-print-refusal c = search needs
+slice-aggregate-write-all : tie.Need-slice-aggregate-write-all
+slice-aggregate-write-all c = let p = c .before .before .answer-page in sym (length-take-le (p .result) (p .last .1 .0) (omega (arith, fits (p .ensures), p .kept .1 .0)))
 
-print-refusal-requires : tie.Need-print-refusal-requires
-print-refusal-requires c κs = search needs
-
-enum-told : tie.Need-enum-told
-enum-told c = search needs
-
-slice-aggregate-print-page : tie.Need-slice-aggregate-print-page
-slice-aggregate-print-page c = search needs
-
-slice-aggregate-print-page-2 : tie.Need-slice-aggregate-print-page-2
-slice-aggregate-print-page-2 c = search needs
-
-print-page-requires : tie.Need-print-page-requires
-print-page-requires c κs = ap sound (c .before .before .before .before .before .read-page .ensures .1) ∙ read-good _ _ (ap answerOf (sym (c .before .before .enum-told .given .1)) ∙ c .before .before .before .before .before .read-page .ensures .0) .page-sound
+write-all-requires : tie.Need-write-all-requires
+write-all-requires c κs = search needs
 
 returns : tie.Need-returns
 returns c = search needs
-
-returns-2 : tie.Need-returns-2
-returns-2 c = search needs
 
 pub main-spec : {M : Type 1} → statement M
 main-spec =
@@ -63,15 +54,10 @@ main-spec =
     slice-aggregate-read-input
     read-input-requires
     array-share-prefix-text
-    slice-aggregate-read-page
-    slice-aggregate-read-page-2
-    read-page-requires
-    enum-known-read
-    cast-print-refusal
-    print-refusal-requires
-    enum-told
-    slice-aggregate-print-page
-    slice-aggregate-print-page-2
-    print-page-requires
-    returns
-    returns-2)
+    slice-aggregate-answer-page
+    slice-aggregate-answer-page-2
+    answer-page-requires
+    array-share-prefix-output
+    slice-aggregate-write-all
+    write-all-requires
+    returns)

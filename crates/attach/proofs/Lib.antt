@@ -1,2 +1,0 @@
--- the Q lines of a page, line by line
-pub mod Printing

@@ -1,2 +1,0 @@
--- the Q lines of a page, and what each asks
-pub mod Queries

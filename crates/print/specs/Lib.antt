@@ -1,0 +1,2 @@
+-- bytes written at a place
+pub mod Wrote
