@@ -29,7 +29,8 @@ fn solve(a: &[u16], queries: &[u16], lines: &[u16], users: &[u16], scratch: &mut
     requires { ⌜ SolveReady (now a) (now queries) (now scratch) × MaybeIndex (now a) (now lines) (now users) ⌝ }
     ensures { λ r. ⌜ Solved (now (a .entry)) (now (queries .entry)) (now (scratch .entry)) (now (scratch .exit)) ⌝ }
 {
-    let marks = reach::closure_of(a, queries);
+    let mut marks = [false; 512];
+    reach::mark_closure(a, queries, &mut marks);
     begin(scratch, a[1], &marks);
     rounds::alternate(a, lines, users, scratch);
 }

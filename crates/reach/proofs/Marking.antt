@@ -15,7 +15,7 @@ use Rattle.semantics.specs.Reading.{closure}
 use Rattle.semantics.specs.Table.{member}
 use Rattle.semantics.proofs.Closure.{closure-length}
 use Rattle.bits.specs.Words.{has}
-use Rattle.reach.specs.Marks.{ClosureMarks}
+use Rattle.reach.specs.Marks.{Unmarked, ClosureMarks}
 use Rattle.reach.specs.Sets.{ClosureSet, MarksBelow}
 
 none-marked : (n c : ℕ) → member (replicate n false) c ≡ false
@@ -30,9 +30,12 @@ ltb-on k c n =
       | no l ↦ lt-ltb k (c + 1) (omega arith) ∙ sym (lt-ltb k c (omega arith))
     ]
 
+pub unmarked : Unmarked (replicate 512 false)
+unmarked = (refl, none-marked 512)
+
 module _ (words : List ℕ) where
-  pub marks-first : MarksBelow 0 words (replicate 512 false)
-  marks-first = record { size = refl; is = λ c. none-marked 512 c ∙ sym (ap (λ (t : Bool). t && has words c) (le-ltb c 0 (omega arith))) }
+  pub marks-first : (marks : List Bool) → Unmarked marks → MarksBelow 0 words marks
+  marks-first marks h = record { size = h .0; is = λ c. h .1 c ∙ sym (ap (λ (t : Bool). t && has words c) (le-ltb c 0 (omega arith))) }
 
   pub marks-next : {marks : List Bool} {c : ℕ} {x : Bool} → MarksBelow c words marks → c < 512 → x ≡ has words c → MarksBelow (c + 1) words (set marks c x)
   marks-next {marks} {c} {x} h l e = record { size = length-set marks c x ∙ h .size; is = is }

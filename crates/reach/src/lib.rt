@@ -12,7 +12,7 @@ ghost use Rattle.semantics.specs.Table.{listed};
 ghost use Rattle.page.specs.Graded.{RuleAt, SoundEntry};
 ghost use Rattle.page.specs.Lines.{lineNames};
 ghost use Rattle.reach.specs.Opening.{openingOf, accepted, Written};
-ghost use Rattle.reach.specs.Marks.{ClosureMarks};
+ghost use Rattle.reach.specs.Marks.{Unmarked, ClosureMarks};
 ghost use Rattle.reach.specs.Sets.{Joins, Inserts, Visited, ClosureSet, Followed, Swept, MarksBelow};
 
 // Puts the queries into the set.
@@ -116,9 +116,9 @@ fn follow(a: &[u16], queries: &[u16]) -> Closure
     }
 }
 
-// Marks the conditions of the set that are below n, where none is marked yet.
+// Marks the conditions of the set that are below n, where nothing is marked yet.
 fn mark_set(words: &[u64], n: u16, marks: &mut [bool])
-    requires { ⌜ (length (now words) ≡ 8) × (n ≤ 512) × MarksBelow 0 (now words) (now marks) ⌝ }
+    requires { ⌜ (length (now words) ≡ 8) × (n ≤ 512) × Unmarked (now marks) ⌝ }
     ensures { λ _. ⌜ MarksBelow n (now (words .entry)) (now (marks .exit)) ⌝ }
 {
     let mut c: u16 = 0;
@@ -161,14 +161,22 @@ fn spread(a: &[u16], queries: &[u16]) -> [u64; 8]
     }
 }
 
-// The marks of the closure of the queries.
+// Marks the closure of the queries, where nothing is marked yet.
+pub fn mark_closure(a: &[u16], queries: &[u16], marks: &mut [bool])
+    requires { ⌜ (sound (now a) ≡ true) × (allUnder (conditionsOf (now a)) (now queries) ≡ true) × Unmarked (now marks) ⌝ }
+    ensures { λ _. ⌜ ClosureMarks (pageOf (now (a .entry))) (now (queries .entry)) (now (marks .exit)) ⌝ }
+{
+    let set = spread(a, queries);
+    mark_set(&set, a[1], marks);
+}
+
+// The same in an array of its own. A caller that holds the array saves the copies.
 pub fn closure_of(a: &[u16], queries: &[u16]) -> [bool; 512]
     requires { ⌜ (sound (now a) ≡ true) × (allUnder (conditionsOf (now a)) (now queries) ≡ true) ⌝ }
     ensures { λ r. ⌜ ClosureMarks (pageOf (now (a .entry))) (now (queries .entry)) r ⌝ }
 {
     let mut marks = [false; 512];
-    let set = spread(a, queries);
-    mark_set(&set, a[1], &mut marks);
+    mark_closure(a, queries, &mut marks);
     marks
 }
 

@@ -3,7 +3,7 @@ use mathlib.Core.Path.{_≡_, sym, _∙_, subst}
 use Prim.Native.Nat.{ℕ, _-_, _≤_}
 use native.Mathlib.Omega.{arith}
 use Rattle.reach.specs.Sets.{MarksBelow}
-use Rattle.reach.proofs.Marking.{marks-next}
+use Rattle.reach.proofs.Marking.{marks-first, marks-next}
 use Rattle.reach.proofs.mark_set.Statement.{statement}
 use Rattle.reach.proofs.mark_set.Tie as tie
 
@@ -14,7 +14,7 @@ abbrev μ-loop : tie.MeasureT-loop
 μ-loop words n marks₀ c₀ marks c = n - c
 
 loop-holds : tie.Need-loop-holds Inv-loop μ-loop
-loop-holds c = (omega arith, c .before .before .pre .2)
+loop-holds c = let z = c .before .before in (omega arith, marks-first (z .args .words .now) (z .args .marks .now) (z .pre .2))
 
 contains-requires : tie.Need-contains-requires Inv-loop μ-loop
 contains-requires c κs = let z = c .before .before .before .before in (z .pre .0, omega (arith, z .pre .1))
@@ -35,7 +35,7 @@ loop-again : tie.Need-loop-again Inv-loop μ-loop
 loop-again c = let z = c .before .before .before .before .before in (omega arith, marks-next (z .args .words .now) (c .before .before .loop .inv .1) (omega (arith, z .pre .1)) (c .contains .ensures))
 
 same-length : tie.Need-same-length Inv-loop μ-loop
-same-length c = c .before .loop .inv .1 .size ∙ sym (c .before .before .before .before .pre .2 .size)
+same-length c = c .before .loop .inv .1 .size ∙ sym (c .before .before .before .before .pre .2 .0)
 
 returns : tie.Need-returns Inv-loop μ-loop
 returns c =

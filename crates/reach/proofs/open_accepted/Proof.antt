@@ -5,7 +5,7 @@ use Rattle.semantics.specs.Area.{pageOf}
 use Rattle.page.proofs.Head.{head-of}
 use Rattle.page.proofs.Scan.{sound-head}
 use Rattle.reach.proofs.Closing.{followed-few}
-use Rattle.reach.proofs.Marking.{marks-first, closure-marks}
+use Rattle.reach.proofs.Marking.{unmarked, closure-marks}
 use Rattle.reach.proofs.Writing.{accepted-answer, accepted-run}
 use Rattle.reach.proofs.open_accepted.Statement.{statement}
 use Rattle.reach.proofs.open_accepted.Tie as tie
@@ -26,7 +26,7 @@ slice-aggregate-mark-set-2 : tie.Need-slice-aggregate-mark-set-2
 slice-aggregate-mark-set-2 c = search needs
 
 mark-set-requires : tie.Need-mark-set-requires
-mark-set-requires c κs = let z = c .before .before .before .before .before .before .before .before .before in (c .before .before .before .follow .ensures .set .size, head-of (z .args .page .now) (z .pre .0) .few, marks-first _)
+mark-set-requires c κs = let z = c .before .before .before .before .before .before .before .before .before in (c .before .before .before .follow .ensures .set .size, head-of (z .args .page .now) (z .pre .0) .few, unmarked)
 
 slice-aggregate-write-run : tie.Need-slice-aggregate-write-run
 slice-aggregate-write-run c = search needs
