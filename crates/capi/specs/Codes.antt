@@ -62,9 +62,9 @@ readCode (refusedPage number line) = minus number
 readCode (readPage used) = pos used
 
 -- the line of a refusal, "For 1, 2 and 6 the line is 0"; 0 for a page that is read
-abbrev pub lineCode : ReadAnswer → ℕ
-lineCode (refusedPage number line) = line
-lineCode (readPage used) = 0
+abbrev pub lineTold : ReadAnswer → ℕ
+lineTold (refusedPage number line) = line
+lineTold (readPage used) = 0
 
 -- closed reading: minus the refusal number, or 0
 abbrev pub closedCode : Option ℕ → ℤ

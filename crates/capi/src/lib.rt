@@ -5,8 +5,8 @@ ghost use lib.ListN.{length, take, drop};
 ghost use Rattle.semantics.specs.ReadPage.{readOf, lineOf, startOf};
 ghost use Rattle.semantics.specs.Operation.{openOf, evaluateOf, driveOf, valueOf, ClosedOf, driveWorkspace, closedWorkspace};
 ghost use Rattle.run.specs.Answers.{statusIf, driveAnswerOf};
-ghost use Rattle.closed.specs.Answer.{refusalOf};
-ghost use Rattle.capi.specs.Codes.{minus as Codes·minus, statusCode, answerCode, takenOr, intervalOr, openCode, countsOr, readCode, lineCode, closedCode, closedRefusal};
+ghost use Rattle.closed.specs.Answer.{closedRefusal};
+ghost use Rattle.capi.specs.Codes.{minus as Codes·minus, statusCode, answerCode, takenOr, intervalOr, openCode, countsOr, readCode, lineTold, closedCode, closedRefusal};
 use closed::ClosedAnswer;
 use run::DriveAnswer;
 
@@ -29,7 +29,7 @@ fn rest_code(rest: bool) -> i32
 pub extern "C" fn simjorad_read(text: &[u8], area: &mut [u16], line: &mut u32) -> i32
     ensures code { λ r. ⌜ r ≡ readCode (readOf (now (text .entry)) (now (area .entry)) .answer) ⌝ }
     ensures area { λ _. ⌜ now (area .exit) ≡ readOf (now (text .entry)) (now (area .entry)) .area ⌝ }
-    ensures line { λ _. ⌜ now (line .exit) ≡ lineCode (readOf (now (text .entry)) (now (area .entry)) .answer) ⌝ }
+    ensures line { λ _. ⌜ now (line .exit) ≡ lineTold (readOf (now (text .entry)) (now (area .entry)) .answer) ⌝ }
 {
     let answer = reader::read_page(text, area);
     match answer {
@@ -182,7 +182,7 @@ pub extern "C" fn simjorad_value(
 
 // What a closed reading answers: 0, or minus a refusal.
 fn closed_code(answer: ClosedAnswer) -> i32
-    ensures { λ r. ⌜ r ≡ closedCode (refusalOf answer) ⌝ }
+    ensures { λ r. ⌜ r ≡ closedCode (closedRefusal answer) ⌝ }
 {
     match answer {
         ClosedAnswer::Refused(k) => minus(k),

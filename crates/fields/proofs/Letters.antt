@@ -10,7 +10,7 @@ use lib.Dec.{eqb, leb}
 use lib.ListN.{length, getD, drop}
 use borrow.Author.Tests.{ne-eqb, eqb-true, le-leb, leb-true, leb-false}
 use Rattle.semantics.specs.Text.{field}
-use Rattle.fields.specs.Cursor.{Within, fieldsAt, fieldAt, linesAfter, letterThen}
+use Rattle.fields.specs.Cursor.{InText, fieldsAt, fieldAt, linesAfter, letterThen}
 use Rattle.fields.proofs.Places.{byte-here, within, within-next, comma-fields, newline-fields, other-fields}
 use Rattle.semantics.proofs.Soundness.{both-true}
 use Rattle.fields.proofs.Fields.{Comma, Newline, some-field, follows}
@@ -48,7 +48,7 @@ module _ (s : List ℕ) (at : ℕ) {x : ℕ} (b : x ≡ getD s at 10) where
 pub record LetterThen (s : List ℕ) (at r : ℕ) : Type 0 where
   pub fields : fieldsAt (drop at s) ≡ (r ∷ []) ∷ fieldsAt (drop (at + 2) s)
   pub lines : linesAfter (drop at s) ≡ linesAfter (drop (at + 2) s)
-  pub place : Within s (at + 2)
+  pub place : InText s (at + 2)
 
 letter-tests : (t : Bool) (y r : ℕ) → r ≡ cond t y 0 → (r ≡ 0 → ⊥) → (t ≡ true) × (r ≡ y)
 letter-tests true y r e n = (refl, e)
@@ -59,7 +59,7 @@ single [] r l e = absurd (omega arith)
 single (b ∷ []) r l e = rw e
 single (b ∷ d ∷ f) r l e = absurd (omega arith)
 
-module _ (s : List ℕ) (at : ℕ) (p : Within s at) {r : ℕ} (a : r ≡ letterThen (fieldsAt (drop at s))) where
+module _ (s : List ℕ) (at : ℕ) (p : InText s at) {r : ℕ} (a : r ≡ letterThen (fieldsAt (drop at s))) where
   letter-then : (r ≡ 0 → ⊥) → LetterThen s at r
   unfolding letterThen
   letter-then n =
@@ -74,7 +74,7 @@ module _ (s : List ℕ) (at : ℕ) (p : Within s at) {r : ℕ} (a : r ≡ letter
       ⊎-elim
       (λ (k : (getD s (at + 1) 10 ≡ 44) × Comma s at (at + 1)).
       let h : at + 1 < length s = within s (at + 1) (λ z. omega (arith, k .0)) in
-      let v : Within s (at + 1) = record { inside = h; ended = p .ended } in
+      let v : InText s (at + 1) = record { inside = h; ended = p .ended } in
       let g : LetterThen s at r =
       record {
         fields = k .1 .fields ∙ rw (e, two);
@@ -95,8 +95,8 @@ pub plain : (x : ℕ) → 44 < x → Plain x
 plain x h = record { comma = λ z. omega arith; newline = λ z. omega arith; zero = λ z. omega arith }
 
 -- A line that begins with the letter x.
-module _ (s : List ℕ) (at : ℕ) (p : Within s at) {x : ℕ} (b : getD s at 10 ≡ x) (l : Plain x) where
-  pub letter-next : Within s (at + 1)
+module _ (s : List ℕ) (at : ℕ) (p : InText s at) {x : ℕ} (b : getD s at 10 ≡ x) (l : Plain x) where
+  pub letter-next : InText s (at + 1)
   letter-next = within-next s at p (λ e. l .newline (sym b ∙ e))
 
   byte-next : getD s (at + 1) 0 ≡ getD s (at + 1) 10

@@ -11,7 +11,7 @@ use lib.ListN.{length, getD}
 use borrow.Author.Tests.{eq-eqb, ne-eqb, eqb-true, le-leb, lt-leb}
 use Rattle.semantics.proofs.TestLists.{fails}
 use Rattle.semantics.proofs.TextNumbers.{digit-range, one-digit, two-digits, three-digits}
-use Rattle.semantics.specs.Text.{field, isDigit, allDigits, isNumber, valueOf}
+use Rattle.semantics.specs.Text.{field, isDigit, allDigits, isNumber, numberIn}
 use Rattle.fields.specs.Cursor.{fieldAt, classOf, DigitIs, Numbered}
 use Rattle.fields.proofs.Places.{comma-fields, newline-fields, other-fields}
 
@@ -126,23 +126,23 @@ not-leading b f e h =
     fails (leb 1 (length (b ∷ f)) ∷ leb (length (b ∷ f)) 3 ∷ allDigits (b ∷ f) ∷ (not (eqb b 48) || eqb (length (b ∷ f)) 1) ∷ []) 3
     (rw (eq-eqb b 48 e, ne-eqb (length (b ∷ f)) 1 (λ z. omega arith)))
 
-value-one : (a : ℕ) → a - 48 ≡ valueOf (a ∷ [])
-unfolding valueOf
+value-one : (a : ℕ) → a - 48 ≡ numberIn (a ∷ [])
+unfolding numberIn
 value-one a = omega arith
 
-value-two : (a b : ℕ) → valueOf (a ∷ b ∷ []) ≡ (a - 48) * 10 + (b - 48)
-unfolding valueOf
+value-two : (a b : ℕ) → numberIn (a ∷ b ∷ []) ≡ (a - 48) * 10 + (b - 48)
+unfolding numberIn
 value-two a b = omega arith
 
-value-three : (a b d : ℕ) → valueOf (a ∷ b ∷ d ∷ []) ≡ ((a - 48) * 10 + (b - 48)) * 10 + (d - 48)
-unfolding valueOf
+value-three : (a b d : ℕ) → numberIn (a ∷ b ∷ d ∷ []) ≡ ((a - 48) * 10 + (b - 48)) * 10 + (d - 48)
+unfolding numberIn
 value-three a b d = omega arith
 
 -- The field at a place is a number, or it is none, by its bytes.
 no-number : (s : List ℕ) (at : ℕ) (f : List ℕ) → fieldAt s at ≡ f → isNumber f ≡ false → isNumber (fieldAt s at) ≡ false
 no-number s at f e n = rw e n
 
-a-number : (s : List ℕ) (at : ℕ) (f : List ℕ) (v e : ℕ) → fieldAt s at ≡ f → isNumber f ≡ true → v ≡ valueOf f → e ≡ at + length f → Numbered s at v e
+a-number : (s : List ℕ) (at : ℕ) (f : List ℕ) (v e : ℕ) → fieldAt s at ≡ f → isNumber f ≡ true → v ≡ numberIn f → e ≡ at + length f → Numbered s at v e
 a-number s at f v e q n p l = record { number = rw q n; value = rw q (sym p); end = rw q (sym l) }
 
 -- By the classes A, B, D, E of the bytes at a place and after it.

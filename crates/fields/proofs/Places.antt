@@ -9,7 +9,7 @@ use lib.ListN.{length, getD, drop, drop-of-length-le, List·getD-eq-default}
 use lib.Seq.{drop-cons}
 use borrow.Author.Tests.{ne-eqb}
 use Rattle.semantics.specs.Text.{textLines, fieldsOf, field}
-use Rattle.fields.specs.Cursor.{Within, fieldsAt}
+use Rattle.fields.specs.Cursor.{InText, fieldsAt}
 
 -- the byte that is read where there is one, and 10 where there is none
 pub byte-here : (s : List ℕ) (i : ℕ) → i < length s → getD s i 0 ≡ getD s i 10
@@ -26,7 +26,7 @@ within s i h = go (decLt i (length s))
     go (no n) = absurd (h (List·getD-eq-default s 10 (omega arith)))
 
 -- a byte other than the 10 that ends the text has a byte behind it
-pub within-next : (s : List ℕ) (i : ℕ) → Within s i → (getD s i 10 ≡ 10 → ⊥) → Within s (i + 1)
+pub within-next : (s : List ℕ) (i : ℕ) → InText s i → (getD s i 10 ≡ 10 → ⊥) → InText s (i + 1)
 within-next s i w h = record { inside = go (decLt (i + 1) (length s)); ended = w .ended }
   where
     go : Dec (i + 1 < length s) → i + 1 < length s

@@ -11,7 +11,7 @@ use Rattle.semantics.specs.Text.{isNumber}
 use Rattle.fields.specs.declared.Class.{Class}
 use Rattle.fields.specs.declared.Class.the-variants.{Digit, Other}
 use Rattle.semantics.proofs.TextNumbers.{digit-range}
-use Rattle.fields.specs.Cursor.{Within, fieldAt, classOf, DigitIs, DigitAs, FirstDigit, Digits, NumberTo}
+use Rattle.fields.specs.Cursor.{InText, fieldAt, classOf, DigitIs, DigitAs, FirstDigit, Digits, NumberTo}
 use Rattle.fields.proofs.Places.{byte-here, within-next}
 use Rattle.fields.proofs.Numbers.{class-most, class-digit, class-value, none-first, one-number, none-second, none-leading, two-number, none-third, three-number, none-longer}
 
@@ -32,7 +32,7 @@ module _ (b : ℕ) {r : Class} (p : DigitAs b r) where
   no-digit e = subst (DigitAs b) e p
 
 -- the byte read at a place, and the place behind a digit
-module _ (s : List ℕ) (i : ℕ) (w : Within s i) where
+module _ (s : List ℕ) (i : ℕ) (w : InText s i) where
   class-here : classOf (getD s i 0) ≡ classOf (getD s i 10)
   class-here = let l : i < length s = w .inside in ap classOf (byte-here s i l)
 
@@ -43,11 +43,11 @@ module _ (s : List ℕ) (i : ℕ) (w : Within s i) where
     digit-class : A ≡ classOf (getD s i 10)
     digit-class = p .is ∙ class-here
 
-    pub digit-next : Within s (i + 1)
+    pub digit-next : InText s (i + 1)
     unfolding classOf
     digit-next = within-next s i w (λ e. let z : A ≡ 10 = digit-class ∙ ap classOf e in omega (arith, p .most))
 
-module _ (s : List ℕ) (at : ℕ) (w : Within s at) where
+module _ (s : List ℕ) (at : ℕ) (w : InText s at) where
   pub no-digits : 9 < classOf (getD s at 0) → isNumber (fieldAt s at) ≡ false
   no-digits o = none-first s at (classOf (getD s at 10)) refl (other-class s at w o)
 
@@ -78,7 +78,7 @@ module _ (s : List ℕ) (at : ℕ) (w : Within s at) where
         }
 
     module _ {B : ℕ} (q : DigitIs (getD s (at + 1) 0) B) where
-      pub third-place : Within s (at + 2)
+      pub third-place : InText s (at + 2)
       third-place =
           let two : at + 1 + 1 ≡ at + 2 = omega arith in
           rw two at (digit-next s (at + 1) (digit-next s at w p) q)
@@ -124,7 +124,7 @@ module _ (s : List ℕ) (at : ℕ) (w : Within s at) where
             }
 
 -- The field at a place is known to be a number.
-module _ (s : List ℕ) (at : ℕ) (w : Within s at) (n : isNumber (fieldAt s at) ≡ true) where
+module _ (s : List ℕ) (at : ℕ) (w : InText s at) (n : isNumber (fieldAt s at) ≡ true) where
   first-class : classOf (getD s at 0) ≤ 9
   first-class = go (decLt 9 (classOf (getD s at 0)))
     where

@@ -11,11 +11,11 @@ use lib.Dec.{eqb}
 use lib.ListN.{length, getD, drop}
 use borrow.Author.Tests.{eq-eqb, ne-eqb, eqb-true, eqb-false}
 use Rattle.semantics.specs.Area.{codeOf}
-use Rattle.semantics.specs.Text.{textLines, isNumber, valueOf, isLiteral, literalIn}
+use Rattle.semantics.specs.Text.{textLines, isNumber, numberIn, isLiteral, literalIn}
 use Rattle.semantics.proofs.Soundness.{both-true}
 use Rattle.fields.specs.declared.Field.{Field}
 use Rattle.fields.specs.declared.Field.the-variants.{Number, Bad}
-use Rattle.fields.specs.Cursor.{Within, fieldsAt, fieldAt, linesAfter, classOf, pick, Numbered, Digits, DigitsAt, SignIs, numberBefore, NumberTo, LiteralIs, LiteralAt, CodeTo}
+use Rattle.fields.specs.Cursor.{InText, fieldsAt, fieldAt, linesAfter, classOf, pick, Numbered, Digits, DigitsAt, SignIs, numberBefore, NumberTo, LiteralIs, LiteralAt, CodeTo}
 use Rattle.fields.proofs.Places.{byte-here, within, within-next}
 use Rattle.fields.proofs.Numbers.{field-more, field-end}
 use Rattle.fields.proofs.Fields.{some-field, Comma, Newline, comma-after, newline-after, follows}
@@ -70,22 +70,22 @@ module _ (s : List ℕ) (at : ℕ) {r : Field} (p : DigitsAt s at r) where
 -- the answers of `number_before` at a comma and at byte 10
 pub record NumberThen (s : List ℕ) (at v e : ℕ) : Type 0 where
   pub number : isNumber (fieldAt s at) ≡ true
-  pub value : valueOf (fieldAt s at) ≡ v
+  pub value : numberIn (fieldAt s at) ≡ v
   pub fields : fieldsAt (drop at s) ≡ fieldAt s at ∷ fieldsAt (drop e s)
   pub lines : linesAfter (drop at s) ≡ linesAfter (drop e s)
   pub ahead : at < e
-  pub place : Within s e
+  pub place : InText s e
 
 pub record NumberLast (s : List ℕ) (at v e : ℕ) : Type 0 where
   pub number : isNumber (fieldAt s at) ≡ true
-  pub value : valueOf (fieldAt s at) ≡ v
+  pub value : numberIn (fieldAt s at) ≡ v
   pub fields : fieldsAt (drop at s) ≡ fieldAt s at ∷ []
   pub lines : linesAfter (drop at s) ≡ textLines (drop e s)
   pub ahead : at < e
 
 -- a number, by the byte that follows it
 module _ (s : List ℕ) (at : ℕ) where
-  comma-then : Within s at → {v e : ℕ} → Numbered s at v e → getD s e 10 ≡ 44 → NumberThen s at v (e + 1)
+  comma-then : InText s at → {v e : ℕ} → Numbered s at v e → getD s e 10 ≡ 44 → NumberThen s at v (e + 1)
   comma-then p {v} {e} n b =
       let c = comma-after s at e (n .end) b in
       let g : e < length s = within s e (λ z. omega arith) in
@@ -104,7 +104,7 @@ module _ (s : List ℕ) (at : ℕ) where
       record { number = n .number; value = n .value; fields = c .fields; lines = c .lines; ahead = omega (arith, n .end) }
 
   -- a comma follows where there are more fields, byte 10 where there are none
-  pub number-more : Within s at → {v e : ℕ} → NumberTo s at v e → 2 ≤ length (fieldsAt (drop at s)) → NumberThen s at v (e + 1)
+  pub number-more : InText s at → {v e : ℕ} → NumberTo s at v e → 2 ≤ length (fieldsAt (drop at s)) → NumberThen s at v (e + 1)
   number-more p {v} {e} n l =
       ⊎-elim (λ (k : (getD s e 10 ≡ 44) × Comma s at e). comma-then p (n .numbered) (k .0))
       (λ (k : (getD s e 10 ≡ 10) × Newline s at e). absurd (omega (arith, ap length (k .1 .fields))))
@@ -122,7 +122,7 @@ module _ {r : Field} (s : List ℕ) (at m : ℕ) (a : r ≡ numberBefore s at m)
   unfolding numberBefore
   ended {v} {e} h =
       let f = fieldAt s at in
-      let w = picked-number (isNumber f && eqb (getD s (at + length f) 10) m) (valueOf f) (at + length f + 1) v e (sym a ∙ h) in
+      let w = picked-number (isNumber f && eqb (getD s (at + length f) 10) m) (numberIn f) (at + length f + 1) v e (sym a ∙ h) in
       let b = both-true (isNumber f) (eqb (getD s (at + length f) 10) m) (w .0) in
       (record { number = b .0; value = w .1; end = refl }, eqb-true (getD s (at + length f) 10) m (b .1), w .2)
 
@@ -130,7 +130,7 @@ module _ {r : Field} (s : List ℕ) (at m : ℕ) (a : r ≡ numberBefore s at m)
   unfolding numberBefore
   not-ended h =
       let f = fieldAt s at in
-      picked-bad (isNumber f && eqb (getD s (at + length f) 10) m) (valueOf f) (at + length f + 1) (sym a ∙ h)
+      picked-bad (isNumber f && eqb (getD s (at + length f) 10) m) (numberIn f) (at + length f + 1) (sym a ∙ h)
 
 -- a failed test of two, where the first held
 second-false : (t u : Bool) → (t && u) ≡ false → (t ≡ false) ⊎ (u ≡ false)
@@ -138,7 +138,7 @@ second-false true u e = inr e
 second-false false u e = inl refl
 
 module _ {r : Field} (s : List ℕ) (at : ℕ) where
-  pub number-then : Within s at → r ≡ numberBefore s at 44 → {v e : ℕ} → r ≡ Number v e → NumberThen s at v e
+  pub number-then : InText s at → r ≡ numberBefore s at 44 → {v e : ℕ} → r ≡ Number v e → NumberThen s at v e
   number-then p a {v} {e} h = let w = ended s at 44 a h in rw (w .2) at (comma-then s at p (w .0) (w .1))
 
   pub number-last : r ≡ numberBefore s at 10 → {v e : ℕ} → r ≡ Number v e → NumberLast s at v e
@@ -176,7 +176,7 @@ unfolding classOf
 newline-class = refl
 
 -- The answer of `read_literal`, by the first byte x of the field: `!` or another.
-module _ (s : List ℕ) (at : ℕ) (w : Within s at) where
+module _ (s : List ℕ) (at : ℕ) (w : InText s at) where
   byte-first : getD s at 0 ≡ getD s at 10
   byte-first = let l : at < length s = w .inside in byte-here s at l
 
@@ -197,7 +197,7 @@ module _ (s : List ℕ) (at : ℕ) (w : Within s at) where
     negated-literal {v} {e} h =
         (record { literal = sym negated-none ∙ h .number; condition = rw (negated-field, h .value); end = omega (arith, ap length negated-field, h .end) }, rw (negated-field, h .value))
 
-    negated-place : Within s (at + 1)
+    negated-place : InText s (at + 1)
     negated-place = within-next s at w (λ z. omega (arith, byte-first))
 
   module _ (n : getD s at 0 ≡ 33 → ⊥) where
@@ -219,10 +219,10 @@ module _ (s : List ℕ) (at : ℕ) (w : Within s at) where
 
   -- by what `sign` answers
   module _ {k : ℕ} (g : SignIs (getD s at 0) k) where
-    pub literal-place : Within s (at + k)
+    pub literal-place : InText s (at + k)
     literal-place = go g
       where
-        go : SignIs (getD s at 0) k → Within s (at + k)
+        go : SignIs (getD s at 0) k → InText s (at + k)
         go (inl h) = rw (h .1) (negated-place (h .0))
         go (inr h) = rw (h .1, add-zero) w
 

@@ -9,14 +9,14 @@ use lib.Dec.{eqb, leb}
 use lib.ListN.{length, getD, drop}
 use Rattle.semantics.specs.Page.{conditionOf}
 use Rattle.semantics.specs.Area.{codeOf}
-use Rattle.semantics.specs.Text.{textLines, fieldsOf, field, isDigit, isNumber, valueOf, isLiteral, literalIn}
+use Rattle.semantics.specs.Text.{textLines, fieldsOf, field, isDigit, isNumber, numberIn, isLiteral, literalIn}
 use Rattle.fields.specs.declared.Class.{Class}
 use Rattle.fields.specs.declared.Class.the-variants.{Digit, Other}
 use Rattle.fields.specs.declared.Field.{Field}
 use Rattle.fields.specs.declared.Field.the-variants.{Number, Bad}
 
 -- a place within a text whose last byte is 10
-pub record Within (s : List ℕ) (at : ℕ) : Type 0 where
+pub record InText (s : List ℕ) (at : ℕ) : Type 0 where
   pub inside : at < length s
   pub ended : getD s (length s - 1) 10 ≡ 10
 
@@ -43,7 +43,7 @@ pick false x y = y
 unfoldable pub numberBefore : List ℕ → ℕ → ℕ → Field
 numberBefore s at mark =
     let f = fieldAt s at in
-    pick (isNumber f && eqb (getD s (at + length f) 10) mark) (Number (valueOf f) (at + length f + 1)) Bad
+    pick (isNumber f && eqb (getD s (at + length f) 10) mark) (Number (numberIn f) (at + length f + 1)) Bad
 
 -- what `digit` answers for a byte: a digit's value, or that it is another byte
 pub record DigitIs (b v : ℕ) : Type 0 where
@@ -57,12 +57,12 @@ DigitAs b Other = 9 < classOf b
 -- the field at a place is a number of value v and ends at the place e
 pub record Numbered (s : List ℕ) (at v e : ℕ) : Type 0 where
   pub number : isNumber (fieldAt s at) ≡ true
-  pub value : valueOf (fieldAt s at) ≡ v
+  pub value : numberIn (fieldAt s at) ≡ v
   pub end : at + length (fieldAt s at) ≡ e
 
 -- a number whose first digit has the value a stands at a place; if it begins with `0`, the field is known to be a number
 pub record FirstDigit (s : List ℕ) (at a : ℕ) : Type 0 where
-  pub place : Within s at
+  pub place : InText s at
   pub digit : DigitIs (getD s at 0) a
   pub leads : (a ≡ 0 → ⊥) ⊎ (isNumber (fieldAt s at) ≡ true)
 
@@ -72,7 +72,7 @@ pub record Digits (s : List ℕ) (at v e : ℕ) : Type 0 where
   pub other : (classOf (getD s e 10) ≡ 10 → ⊥) → isNumber (fieldAt s at) ≡ false
   pub most : v ≤ 999
   pub ahead : at < e
-  pub place : Within s e
+  pub place : InText s e
 
 abbrev pub DigitsAt : List ℕ → ℕ → Field → Type 0
 DigitsAt s at (Number v e) = Digits s at v e
@@ -83,7 +83,7 @@ pub record NumberTo (s : List ℕ) (at v e : ℕ) : Type 0 where
   pub numbered : Numbered s at v e
   pub most : v ≤ 999
   pub ahead : at < e
-  pub place : Within s e
+  pub place : InText s e
 
 -- what `sign` answers for a byte
 abbrev pub SignIs : ℕ → ℕ → Type 0
@@ -100,7 +100,7 @@ pub record LiteralTo (s : List ℕ) (at c e : ℕ) : Type 0 where
   pub ends : classOf (getD s e 10) ≡ 10 → LiteralIs s at c e
   pub other : (classOf (getD s e 10) ≡ 10 → ⊥) → isLiteral (fieldAt s at) ≡ false
   pub ahead : at < e
-  pub place : Within s e
+  pub place : InText s e
 
 abbrev pub LiteralAt : List ℕ → ℕ → Field → Type 0
 LiteralAt s at (Number c e) = LiteralTo s at c e
@@ -111,7 +111,7 @@ pub record CodeTo (s : List ℕ) (at code e : ℕ) : Type 0 where
   pub is : codeOf (literalIn (fieldAt s at)) ≡ code
   pub end : at + length (fieldAt s at) ≡ e
   pub ahead : at < e
-  pub place : Within s e
+  pub place : InText s e
 
 -- the letter that is the first of several fields, or 0
 unfoldable pub letterThen : List (List ℕ) → ℕ

@@ -3,7 +3,7 @@
 ghost use mathlib.Core.Path.{_≡_};
 ghost use mathlib.Core.Bool.{true};
 ghost use Rattle.semantics.specs.Text.{isNumber, isLiteral};
-ghost use Rattle.fields.specs.Cursor.{classOf, fieldAt, Within, DigitAs, FirstDigit, Digits, DigitsAt, NumberTo, SignIs, LiteralAt, CodeTo, numberBefore};
+ghost use Rattle.fields.specs.Cursor.{classOf, fieldAt, InText, DigitAs, FirstDigit, Digits, DigitsAt, NumberTo, SignIs, LiteralAt, CodeTo, numberBefore};
 
 // What a byte is: a digit with its value, or another byte.
 enum Class {
@@ -59,7 +59,7 @@ fn digits_from(bytes: &[u8], at: usize, first: u32) -> Token
 
 // The digits of a number, which has no leading zero, and the place behind them. Whether the field ends there is for the caller to see.
 fn digits(bytes: &[u8], at: usize) -> Field
-    requires { ⌜ Within (now bytes) at ⌝ }
+    requires { ⌜ InText (now bytes) at ⌝ }
     ensures { λ r. ⌜ DigitsAt (now (bytes .entry)) at r ⌝ }
 {
     let Class::Digit(first) = digit(bytes[at]) else {
@@ -74,7 +74,7 @@ fn digits(bytes: &[u8], at: usize) -> Field
 
 // The number that is the whole field at a place and ends at `mark`, a comma or byte 10, and the place behind that byte.
 pub fn number_before(bytes: &[u8], at: usize, mark: u8) -> Field
-    requires { ⌜ Within (now bytes) at × (classOf mark ≡ 10) ⌝ }
+    requires { ⌜ InText (now bytes) at × (classOf mark ≡ 10) ⌝ }
     ensures { λ r. ⌜ r ≡ numberBefore (now (bytes .entry)) at mark ⌝ }
 {
     let Field::Number(value, end) = digits(bytes, at) else {
@@ -98,7 +98,7 @@ fn sign(b: u8) -> usize
 
 // The condition of the literal at a place, and the place behind its digits. Whether the field ends there is for the caller to see.
 pub fn read_literal(bytes: &[u8], at: usize) -> Field
-    requires { ⌜ Within (now bytes) at ⌝ }
+    requires { ⌜ InText (now bytes) at ⌝ }
     ensures { λ r. ⌜ LiteralAt (now (bytes .entry)) at r ⌝ }
 {
     let negated = sign(bytes[at]);
@@ -107,7 +107,7 @@ pub fn read_literal(bytes: &[u8], at: usize) -> Field
 
 // The number that is the field at a place, where the field is known to be one.
 pub fn checked_number(bytes: &[u8], at: usize) -> Token
-    requires { ⌜ Within (now bytes) at × (isNumber (fieldAt (now bytes) at) ≡ true) ⌝ }
+    requires { ⌜ InText (now bytes) at × (isNumber (fieldAt (now bytes) at) ≡ true) ⌝ }
     ensures { λ r. ⌜ NumberTo (now (bytes .entry)) at (r .value) (r .end) ⌝ }
 {
     let first = bytes[at] as u32 - 48;
@@ -116,7 +116,7 @@ pub fn checked_number(bytes: &[u8], at: usize) -> Token
 
 // The code of the literal that is the field at a place, where the field is known to be one.
 pub fn checked_literal(bytes: &[u8], at: usize) -> Token
-    requires { ⌜ Within (now bytes) at × (isLiteral (fieldAt (now bytes) at) ≡ true) ⌝ }
+    requires { ⌜ InText (now bytes) at × (isLiteral (fieldAt (now bytes) at) ≡ true) ⌝ }
     ensures { λ r. ⌜ CodeTo (now (bytes .entry)) at (r .value) (r .end) ⌝ }
 {
     let negated = sign(bytes[at]);

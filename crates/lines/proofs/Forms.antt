@@ -10,9 +10,9 @@ use lib.ListN.{length, getD, drop, length-drop, length-map}
 use borrow.Author.Tests.{ne-eqb, eqb-true, le-leb, lt-leb, leb-true}
 use Rattle.semantics.specs.Area.{every, codeOf, lineCode}
 use Rattle.semantics.specs.Page.{Reading, K, W, fact, rule, query}
-use Rattle.semantics.specs.Text.{field, isNumber, valueOf, isLetter, isOp, opIn, isReading, readingIn, literalIn, allLiterals, factForm, isFact, ruleForm, isRule, queryForm, isQuery, hasForm, lineIn}
+use Rattle.semantics.specs.Text.{field, isNumber, numberIn, isLetter, isOp, opIn, isReading, readingIn, literalIn, allLiterals, factForm, isFact, ruleForm, isRule, queryForm, isQuery, hasForm, lineIn}
 use Rattle.semantics.proofs.TestLists.{fails, passes}
-use Rattle.fields.specs.Cursor.{Within, fieldsAt, fieldAt, letterThen}
+use Rattle.fields.specs.Cursor.{InText, fieldsAt, fieldAt, letterThen}
 use Rattle.fields.proofs.Tokens.{NumberLast}
 use Rattle.fields.proofs.Fields.{some-field}
 use Rattle.fields.proofs.Letters.{LetterThen, letter-absent, letter-or}
@@ -43,8 +43,8 @@ form-size fs = go (every (factForm fs)) (every (ruleForm fs)) (every (queryForm 
     go : (t u v : Bool) → every (factForm fs) ≡ t → every (ruleForm fs) ≡ u → every (queryForm fs) ≡ v → (t || (u || v)) ≡ true
         → (length
         (lineCode
-        (cond t (fact (valueOf (field fs 1)) (valueOf (field fs 2)) (valueOf (field fs 3)))
-        (cond u (rule (valueOf (field fs 1)) (valueOf (field fs 2)) (opIn (field fs 3)) (map literalIn (drop 4 fs))) (query (readingIn (field fs 1)) (valueOf (field fs 2))))))
+        (cond t (fact (numberIn (field fs 1)) (numberIn (field fs 2)) (numberIn (field fs 3)))
+        (cond u (rule (numberIn (field fs 1)) (numberIn (field fs 2)) (opIn (field fs 3)) (map literalIn (drop 4 fs))) (query (readingIn (field fs 1)) (numberIn (field fs 2))))))
         ≡ 4 + length (drop 4 fs))
         × (length (drop 4 fs) ≤ 8)
     go true u v p q r h =
@@ -53,7 +53,7 @@ form-size fs = go (every (factForm fs)) (every (ruleForm fs)) (every (queryForm 
     go false true v p q r h = (omega (arith, length-map (map literalIn (drop 4 fs)) codeOf, length-map (drop 4 fs) literalIn), leb-true (length (drop 4 fs)) 8 (passes (ruleForm fs) 2 q))
     go false false true p q r h =
         let l : length fs ≡ 3 = eqb-true (length fs) 3 (passes (queryForm fs) 1 r) in
-        (omega (arith, length-drop 4 fs, query-size (readingIn (field fs 1)) (valueOf (field fs 2))), omega (arith, length-drop 4 fs))
+        (omega (arith, length-drop 4 fs, query-size (readingIn (field fs 1)) (numberIn (field fs 2))), omega (arith, length-drop 4 fs))
     go false false false p q r h = absurd (false≢true h)
 
 -- two numbers, and another field behind them
@@ -133,7 +133,7 @@ module _ (s : List ℕ) (at : ℕ) (k₀ : LetterThen s at 81) where
     four : at + 2 + 2 ≡ at + 4
     four = omega arith
 
-    pub query-place : Within s (at + 4)
+    pub query-place : InText s (at + 4)
     query-place = rw four at (k .place)
 
     letters : fieldsAt (drop at s) ≡ (81 ∷ []) ∷ (r ∷ []) ∷ fieldsAt (drop (at + 4) s)

@@ -11,7 +11,7 @@ use borrow.Author.Tests.{ne-eqb, eqb-true, le-leb, lt-leb}
 use Rattle.semantics.specs.Text.{isLiteral, allLiterals, literalIn}
 use Rattle.fields.specs.declared.Field.{Field}
 use Rattle.fields.specs.declared.Field.the-variants.{Number, Bad}
-use Rattle.fields.specs.Cursor.{Within, fieldsAt, fieldAt, linesAfter, classOf, LiteralTo, LiteralAt}
+use Rattle.fields.specs.Cursor.{InText, fieldsAt, fieldAt, linesAfter, classOf, LiteralTo, LiteralAt}
 use Rattle.fields.proofs.Places.{byte-here, within-next}
 use Rattle.fields.proofs.Fields.{some-field, first-here, Comma, comma-after, newline-after}
 use Rattle.fields.proofs.Numbers.{and-false, class-end}
@@ -22,12 +22,12 @@ use Rattle.lines.specs.Lines.{Ends, nearer, farIn, farWith, areLiterals,
 -- k literals stand from the place `at` to the place i
 pub record Passed (s : List ℕ) (at k i : ℕ) : Type 0 where
   pub ahead : at ≤ i
-  pub place : Within s i
+  pub place : InText s i
   pub size : length (fieldsAt (drop at s)) ≡ k + length (fieldsAt (drop i s))
   pub all : allLiterals (fieldsAt (drop at s)) ≡ allLiterals (fieldsAt (drop i s))
   pub lines : linesAfter (drop at s) ≡ linesAfter (drop i s)
 
-pub passed-none : (s : List ℕ) (at : ℕ) → Within s at → Passed s at 0 at
+pub passed-none : (s : List ℕ) (at : ℕ) → InText s at → Passed s at 0 at
 passed-none s at w = record { ahead = omega arith; place = w; size = omega arith; all = refl; lines = refl }
 
 module _ (s : List ℕ) (at : ℕ) {k i : ℕ} (w : Passed s at k i) where
@@ -42,7 +42,7 @@ module _ (s : List ℕ) (at : ℕ) {k i : ℕ} (w : Passed s at k i) where
       and-false (leb (length (fieldsAt (drop at s))) 8) (w .all ∙ rw (first-here s i (i + length (fieldAt s i)) refl, e))
 
   -- a literal, which ends at the place e
-  module _ {e : ℕ} (f : isLiteral (fieldAt s i) ≡ true) (g : i + length (fieldAt s i) ≡ e) (a : i < e) (p : Within s e) where
+  module _ {e : ℕ} (f : isLiteral (fieldAt s i) ≡ true) (g : i + length (fieldAt s i) ≡ e) (a : i < e) (p : InText s e) where
     pub passed-more : getD s e 10 ≡ 44 → Passed s at (k + 1) (e + 1)
     unfolding allLiterals
     passed-more m =
@@ -92,7 +92,7 @@ pub record Counting (s : List ℕ) (at n k far i : ℕ) : Type 0 where
   pub passed : Passed s at k i
   pub first : farIn n 0 (map literalIn (fieldsAt (drop at s))) ≡ nearer far (farIn n k (map literalIn (fieldsAt (drop i s))))
 
-pub counting-none : (s : List ℕ) (at n : ℕ) → Within s at → Counting s at n 0 0 at
+pub counting-none : (s : List ℕ) (at n : ℕ) → InText s at → Counting s at n 0 0 at
 counting-none s at n w = record { passed = passed-none s at w; first = refl }
 
 -- the answer of `read_literal` by its cases

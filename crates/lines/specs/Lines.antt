@@ -8,8 +8,8 @@ use lib.Dec.{eqb, ltb, leb}
 use lib.ListN.{length, getD, drop}
 use Rattle.semantics.specs.Grade.{Op}
 use Rattle.semantics.specs.Page.{Literal, conditionOf, Reading, Line, fact, rule, query}
-use Rattle.semantics.specs.Text.{textLines, isNumber, valueOf, allLiterals, literalIn, hasForm, lineIn}
-use Rattle.fields.specs.Cursor.{Within, fieldsAt, linesAfter}
+use Rattle.semantics.specs.Text.{textLines, isNumber, numberIn, allLiterals, literalIn, hasForm, lineIn}
+use Rattle.fields.specs.Cursor.{InText, fieldsAt, linesAfter}
 use Rattle.lines.specs.declared.Pair.{Pair}
 use Rattle.lines.specs.declared.Pair.the-variants as pair-as
 use Rattle.lines.specs.declared.Literals.{Literals}
@@ -39,11 +39,11 @@ pub record PairThen (s : List ℕ) (at v w e : ℕ) : Type 0 where
   pub fields : fieldsAt (drop at s) ≡ (getD s at 10 ∷ []) ∷ f ∷ g ∷ fieldsAt (drop e s)
   pub first : isNumber f ≡ true
   pub second : isNumber g ≡ true
-  pub value : valueOf f ≡ v
-  pub value′ : valueOf g ≡ w
+  pub value : numberIn f ≡ v
+  pub value′ : numberIn g ≡ w
   pub lines : linesAfter (drop at s) ≡ linesAfter (drop e s)
   pub ahead : at < e
-  pub place : Within s e
+  pub place : InText s e
 
 abbrev pub PairAt : List ℕ → ℕ → Pair → Type 0
 PairAt s at (pair-as.Good v w e) = PairThen s at v w e

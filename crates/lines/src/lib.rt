@@ -2,7 +2,7 @@
 // range is for the caller to refuse, who has every field at hand.
 ghost use mathlib.Core.Path.{_≡_};
 ghost use lib.ListN.{getD};
-ghost use Rattle.fields.specs.Cursor.{Within};
+ghost use Rattle.fields.specs.Cursor.{InText};
 ghost use Rattle.lines.specs.Lines.{PairLetter, PairAt, farWith, LiteralsAt, ParsedAs, kindAt, readingAt};
 use fields::Field;
 use fields::number_before;
@@ -39,7 +39,7 @@ enum Pair {
 
 // The two numbers with which a fact and a rule begin.
 fn parse_pair(bytes: &[u8], at: usize) -> Pair
-    requires { ⌜ Within (now bytes) at × PairLetter (getD (now bytes) at 10) ⌝ }
+    requires { ⌜ InText (now bytes) at × PairLetter (getD (now bytes) at 10) ⌝ }
     ensures { λ r. ⌜ PairAt (now (bytes .entry)) at r ⌝ }
 {
     if bytes[at + 1] != b',' {
@@ -56,7 +56,7 @@ fn parse_pair(bytes: &[u8], at: usize) -> Pair
 
 // The line at a place that begins with `F`.
 fn parse_fact(bytes: &[u8], at: usize, conditions: u16) -> Parsed
-    requires { ⌜ Within (now bytes) at × (getD (now bytes) at 10 ≡ 70) ⌝ }
+    requires { ⌜ InText (now bytes) at × (getD (now bytes) at 10 ≡ 70) ⌝ }
     ensures { λ r. ⌜ ParsedAs (now (bytes .entry)) at conditions r ⌝ }
 {
     let Pair::Good(condition, low, a) = parse_pair(bytes, at) else {
@@ -112,7 +112,7 @@ enum Literals {
 
 // The literals to the end of a rule's line, 1 to 8.
 fn parse_literals(bytes: &[u8], at: usize, conditions: u16) -> Literals
-    requires { ⌜ Within (now bytes) at ⌝ }
+    requires { ⌜ InText (now bytes) at ⌝ }
     ensures { λ r. ⌜ LiteralsAt (now (bytes .entry)) at conditions r ⌝ }
 {
     let mut n: usize = 0;
@@ -142,7 +142,7 @@ fn parse_literals(bytes: &[u8], at: usize, conditions: u16) -> Literals
 
 // The line at a place that begins with `R`.
 fn parse_rule(bytes: &[u8], at: usize, conditions: u16) -> Parsed
-    requires { ⌜ Within (now bytes) at × (getD (now bytes) at 10 ≡ 82) ⌝ }
+    requires { ⌜ InText (now bytes) at × (getD (now bytes) at 10 ≡ 82) ⌝ }
     ensures { λ r. ⌜ ParsedAs (now (bytes .entry)) at conditions r ⌝ }
 {
     let Pair::Good(condition, weight, a) = parse_pair(bytes, at) else {
@@ -179,7 +179,7 @@ pub fn reading_code(letter: u8) -> u16
 
 // The line at a place that begins with `Q`.
 fn parse_query(bytes: &[u8], at: usize, conditions: u16) -> Parsed
-    requires { ⌜ Within (now bytes) at × (getD (now bytes) at 10 ≡ 81) ⌝ }
+    requires { ⌜ InText (now bytes) at × (getD (now bytes) at 10 ≡ 81) ⌝ }
     ensures { λ r. ⌜ ParsedAs (now (bytes .entry)) at conditions r ⌝ }
 {
     if bytes[at + 1] != b',' {
@@ -200,7 +200,7 @@ fn parse_query(bytes: &[u8], at: usize, conditions: u16) -> Parsed
 
 // The line at a place, of a page with so many conditions.
 pub fn parse_line(bytes: &[u8], at: usize, conditions: u16) -> Parsed
-    requires { ⌜ Within (now bytes) at ⌝ }
+    requires { ⌜ InText (now bytes) at ⌝ }
     ensures { λ r. ⌜ ParsedAs (now (bytes .entry)) at conditions r ⌝ }
 {
     let letter = bytes[at];

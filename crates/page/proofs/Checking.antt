@@ -8,7 +8,7 @@ use lib.Dec.{eqb, leb}
 use lib.ListN.{length, getD, take, drop}
 use borrow.Author.Tests.{le-leb, lt-leb}
 use Rattle.semantics.specs.Area.{kind, every, allUnder, lineTests, linesOk}
-use Rattle.page.specs.Lines.{stepAt, literalsHere, entryOk, Looked}
+use Rattle.page.specs.Lines.{stepAt, literalsHere, entryOk, EntryLooked}
 use Rattle.page.proofs.Scan.{Remaining, remaining-first, under-bad, under-none, span-literals, entry-spans, entry-split, lines-bad, lines-behind, lines-last}
 
 module _ (a : List ℕ) (used count top n : ℕ) where
@@ -42,7 +42,7 @@ module _ (a : List ℕ) (used count top n : ℕ) where
     fails f = sym (s .is ∙ lines-bad top n (used - at) (count - k) a at (omega arith) f)
 
     -- what a look at it told: r, and m literals
-    module _ {r : Bool} {m : ℕ} (look : Looked top n used a at r m) where
+    module _ {r : Bool} {m : ℕ} (look : EntryLooked top n used a at r m) where
       pub checking-bad : r ≡ false → false ≡ answer
       checking-bad f = fails (whole ∙ rw (sym (look .passes) ∙ f))
 

@@ -15,7 +15,7 @@ use borrow.Author.Tests.{le-leb, lt-leb, lt-ltb, le-ltb, eq-eqb, ne-eqb, leb-tru
 use Rattle.semantics.specs.Area.{Kind, factKind, ruleKind, queryKind, noKind, kind, spanAs, span, lineAs, lineAt, every, allUnder, fieldTests, lineTests, linesOk, headTests, sound, topOf, conditionsOf, countOf, usedOf}
 use Rattle.semantics.specs.Grade.{Op, M, X, L, B, P}
 use Rattle.semantics.proofs.Soundness.{every-true, both-true}
-use Rattle.page.specs.Lines.{stepAt, EntryIn, literalsAs, literalsHere, fieldsOk, entryOk, Looked, RuleLooked}
+use Rattle.page.specs.Lines.{stepAt, EntryIn, literalsAs, literalsHere, fieldsOk, entryOk, EntryLooked, RuleLooked}
 
 -- r numbers from x on: the first of them, and those behind it
 pub part-cons : (a : List ℕ) (x r : ℕ) → x < length a → 0 < r → take r (drop x a) ≡ getD a x 0 ∷ take (r - 1) (drop (x + 1) a)
@@ -167,14 +167,14 @@ module _ (top n left : ℕ) (a : List ℕ) (at : ℕ) where
 
 -- what a look at an entry tells
 module _ (top n used : ℕ) (a : List ℕ) (at : ℕ) (l : at ≤ used) where
-  pub looked-short : used < at + 4 → {m : ℕ} {r : Bool} → r ≡ false → Looked top n used a at r m
+  pub looked-short : used < at + 4 → {m : ℕ} {r : Bool} → r ≡ false → EntryLooked top n used a at r m
   looked-short h e =
       record {
         passes = e ∙ sym (rw (lt-leb (span (drop at a)) (used - at) (omega (arith, span-at top n (used - at) a at, span-four (kind (getD a (at + 1) 0)) (getD a (at + 3) 0)))));
         literals = λ t. absurd (false≢true (sym e ∙ t));
       }
 
-  pub looked-high : n ≤ getD a at 0 → {m : ℕ} {r : Bool} → r ≡ false → Looked top n used a at r m
+  pub looked-high : n ≤ getD a at 0 → {m : ℕ} {r : Bool} → r ≡ false → EntryLooked top n used a at r m
   looked-high h e =
       record {
         passes = e ∙ sym (rw (le-ltb (getD (drop at a) 0 0) n (omega (arith, first-here a at)), and-false (leb (span (drop at a)) (used - at))));
@@ -189,7 +189,7 @@ module _ (top n used : ℕ) (a : List ℕ) (at : ℕ) (l : at ≤ used) where
         rw (lt-ltb (getD (drop at a) 0 0) n (omega (arith, first-here a at)), span-at top n (used - at) a at, getD-drop at a 1 0, getD-drop at a 2 0, getD-drop at a 3 0)
 
     pub looked-plain : at + 4 ≤ used → (getD a (at + 1) 0 < 1) ⊎ (5 < getD a (at + 1) 0) → {r : Bool}
-        → r ≡ fieldsOk top (kind (getD a (at + 1) 0)) (getD a (at + 2) 0) (getD a (at + 3) 0) → Looked top n used a at r 0
+        → r ≡ fieldsOk top (kind (getD a (at + 1) 0)) (getD a (at + 2) 0) (getD a (at + 3) 0) → EntryLooked top n used a at r 0
     looked-plain h k e =
         let four : spanAs (kind (getD a (at + 1) 0)) (getD a (at + 3) 0) ≡ 4 = ⊎-elim (λ q. span-none _ _ q) (λ q. span-over _ _ q) k in
         record {
@@ -197,7 +197,7 @@ module _ (top n used : ℕ) (a : List ℕ) (at : ℕ) (l : at ≤ used) where
           literals = λ t. omega (arith, four, span-literals (kind (getD a (at + 1) 0)) (getD a (at + 3) 0));
         }
 
-    pub looked-rule : 1 ≤ getD a (at + 1) 0 → getD a (at + 1) 0 ≤ 5 → {m : ℕ} {r : Bool} → RuleLooked top used a at r m → Looked top n used a at r m
+    pub looked-rule : 1 ≤ getD a (at + 1) 0 → getD a (at + 1) 0 ≤ 5 → {m : ℕ} {r : Bool} → RuleLooked top used a at r m → EntryLooked top n used a at r m
     looked-rule lo hi s =
         let y = getD a (at + 3) 0 in
         let q = rule-kind (getD a (at + 1) 0) lo hi .1 in

@@ -36,7 +36,7 @@ abbrev pub literalsHere : List ℕ → ℕ → ℕ
 literalsHere a at = literalsAs (kind (getD a (at + 1) 0)) (getD a (at + 3) 0)
 
 -- what a look at the entry at a place tells, where the lines end at `used`: whether it passes those tests, and how many literals it has if it does
-pub record Looked (top n used : ℕ) (a : List ℕ) (at : ℕ) (ok : Bool) (m : ℕ) : Type 0 where
+pub record EntryLooked (top n used : ℕ) (a : List ℕ) (at : ℕ) (ok : Bool) (m : ℕ) : Type 0 where
   pub passes : ok ≡ entryOk top n (used - at) (drop at a)
   pub literals : ok ≡ true → m ≡ literalsHere a at
 

@@ -7,7 +7,7 @@ ghost use lib.ListN.{length, take, drop};
 ghost use Rattle.semantics.specs.Grade.{M};
 ghost use Rattle.semantics.specs.Page.{mentions};
 ghost use Rattle.semantics.specs.Area.{sound, linesOk, kind, spanAs, firstLine, ruleKind, literalOf, lineAt};
-ghost use Rattle.page.specs.Lines.{EntryIn, Next, fieldsOk, RuleLooked, Looked, lineNames};
+ghost use Rattle.page.specs.Lines.{EntryIn, Next, fieldsOk, RuleLooked, EntryLooked, lineNames};
 
 // How many numbers an entry of the kind k takes, with y as its fourth.
 pub fn span_of(k: u16, y: u16) -> usize
@@ -114,7 +114,7 @@ fn rule_entry(a: &[u16], at: usize, used: usize, top: u16) -> Entry
 // The entry at `at`, which is to end at `used` or before: 1 to 5 is a rule.
 fn entry_at(a: &[u16], at: usize, used: usize, top: u16, n: u16) -> Entry
     requires { ⌜ (at ≤ used) × (used ≤ length (now a)) ⌝ }
-    ensures { λ r. ⌜ Looked top n used (now (a .entry)) at (r .ok) (r .literals) ⌝ }
+    ensures { λ r. ⌜ EntryLooked top n used (now (a .entry)) at (r .ok) (r .literals) ⌝ }
 {
     if used < at + 4 {
         return bad_entry();

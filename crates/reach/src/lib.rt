@@ -170,16 +170,6 @@ pub fn mark_closure(a: &[u16], queries: &[u16], marks: &mut [bool])
     mark_set(&set, a[1], marks);
 }
 
-// The same in an array of its own. A caller that holds the array saves the copies.
-pub fn closure_of(a: &[u16], queries: &[u16]) -> [bool; 512]
-    requires { ⌜ (sound (now a) ≡ true) × (allUnder (conditionsOf (now a)) (now queries) ≡ true) ⌝ }
-    ensures { λ r. ⌜ ClosureMarks (pageOf (now (a .entry))) (now (queries .entry)) r ⌝ }
-{
-    let mut marks = [false; 512];
-    mark_closure(a, queries, &mut marks);
-    marks
-}
-
 // R + top × E.
 fn bound_of(reached: u32, top: u16, edges: u32) -> u32
     requires { ⌜ (reached ≤ 512) × (top ≤ 200) × (edges ≤ 512 * 512) ⌝ }

@@ -7,7 +7,7 @@ use Prim.Native.Nat.{ℕ, suc, _≤_}
 use native.Mathlib.Omega.{arith}
 use lib.ListN.{length, getD, drop}
 use borrow.Author.Tests.{ne-eqb}
-use Rattle.semantics.specs.Text.{field, isNumber, valueOf, isLetter, headForm, isHead}
+use Rattle.semantics.specs.Text.{field, isNumber, numberIn, isLetter, headForm, isHead}
 use Rattle.semantics.proofs.TestLists.{fails}
 use Rattle.fields.specs.Cursor.{fieldsAt, fieldAt, letterThen}
 use Rattle.reader.specs.Checks.{HeadSays}
@@ -62,7 +62,7 @@ module _ (s : List ℕ) (k : LetterThen s 0 71) where
         top-fields ∙ ap (λ (fs : List (List ℕ)). (71 ∷ []) ∷ fieldAt s 2 ∷ fs) (l .fields) in
         record {
           form = ap isHead g ∙ rw (t .number, l .number);
-          top = sym (ap (λ (fs : List (List ℕ)). valueOf (field fs 1)) g ∙ t .value);
-          conditions = sym (ap (λ (fs : List (List ℕ)). valueOf (field fs 2)) g ∙ l .value);
+          top = sym (ap (λ (fs : List (List ℕ)). numberIn (field fs 1)) g ∙ t .value);
+          conditions = sym (ap (λ (fs : List (List ℕ)). numberIn (field fs 2)) g ∙ l .value);
           lines = k .lines ∙ t .lines ∙ l .lines;
         }

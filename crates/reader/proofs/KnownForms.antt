@@ -12,7 +12,7 @@ use Rattle.semantics.specs.Area.{codeOf, lineCode}
 use Rattle.semantics.specs.Page.{Line, fact, rule, query}
 use Rattle.semantics.specs.Text.{isNumber, opIn, readingIn, literalIn, allLiterals, hasForm}
 use Rattle.semantics.proofs.Soundness.{both-true}
-use Rattle.fields.specs.Cursor.{Within, fieldsAt, fieldAt, letterThen, NumberTo}
+use Rattle.fields.specs.Cursor.{InText, fieldsAt, fieldAt, letterThen, NumberTo}
 use Rattle.fields.proofs.Fields.{some-field}
 use Rattle.fields.proofs.Letters.{Plain, plain, LetterThen, letter-here, letter-gone}
 use Rattle.fields.proofs.Tokens.{NumberThen, NumberLast, number-more, number-only}
@@ -31,7 +31,7 @@ neither {P} {t} {f} h e = (go t refl, λ p. false≢true (sym (h (inr p)) ∙ e)
     go false p = absurd (false≢true (sym (h (inl p)) ∙ e))
 
 -- a letter with a comma behind it, where there is one
-letter-unless : (s : List ℕ) (at : ℕ) → Within s at → {x : ℕ} → getD s at 10 ≡ x → Plain x → (letterThen (fieldsAt (drop at s)) ≡ 0 → ⊥) → LetterThen s at x
+letter-unless : (s : List ℕ) (at : ℕ) → InText s at → {x : ℕ} → getD s at 10 ≡ x → Plain x → (letterThen (fieldsAt (drop at s)) ≡ 0 → ⊥) → LetterThen s at x
 letter-unless s at p {x} b l n = go (ℕ-discrete (getD s (at + 1) 0) 44)
   where
     go : Dec (getD s (at + 1) 0 ≡ 44) → LetterThen s at x
@@ -50,7 +50,7 @@ module _ (s : List ℕ) (at : ℕ) (w : Formed s at) where
     pair-letter : LetterThen s at (getD s at 10)
     pair-letter = first-letter refl (pair-plain p)
 
-    pub first-place : Within s (at + 2)
+    pub first-place : InText s (at + 2)
     first-place = pair-letter .place
 
     pub first-known : (isNumber (fieldAt s (at + 2)) ≡ true) × (length (fieldsAt (drop (at + 2) s)) ≡ 1 → ⊥)
@@ -62,7 +62,7 @@ module _ (s : List ℕ) (at : ℕ) (w : Formed s at) where
           let m : length (fieldsAt (drop (at + 2) s)) ≡ 1 → ⊥ = first-known .1 in
           number-more s (at + 2) first-place n (omega (arith, some-field (drop (at + 2) s)))
 
-      pub second-place : Within s (e + 1)
+      pub second-place : InText s (e + 1)
       second-place = first-then .place
 
       pub second-known : (isNumber (fieldAt s (e + 1)) ≡ true) × (length (fieldsAt (drop (e + 1) s)) ≡ 1 → ⊥)
@@ -91,7 +91,7 @@ module _ (s : List ℕ) (at : ℕ) (w : Formed s at) where
     op-letter : LetterThen s b (getD s b 10)
     op-letter = letter-unless s b (k .place) refl (kind-plain (getD s b 10) an-op) (λ z. never (no-op s at x k (zero-kind z)))
 
-    pub literals-place : Within s (b + 2)
+    pub literals-place : InText s (b + 2)
     literals-place = op-letter .place
 
     are-literals : areLiterals (fieldsAt (drop (b + 2) s)) ≡ true
@@ -122,7 +122,7 @@ module _ (s : List ℕ) (at : ℕ) (w : Formed s at) where
     query-letter : LetterThen s at 81
     query-letter = first-letter x (plain 81 (omega arith))
 
-    pub reading-place : Within s (at + 2)
+    pub reading-place : InText s (at + 2)
     reading-place = query-letter .place
 
     a-reading : readingAt (getD s (at + 2) 10) ≡ 2 → ⊥
@@ -133,7 +133,7 @@ module _ (s : List ℕ) (at : ℕ) (w : Formed s at) where
         letter-unless s (at + 2) reading-place refl (reading-plain (getD s (at + 2) 10) a-reading)
         (λ z. never (no-reading-letter s at query-letter (zero-reading z)))
 
-    pub condition-place : Within s (at + 4)
+    pub condition-place : InText s (at + 4)
     condition-place = query-place s at query-letter reading-letter
 
     pub condition-known : (isNumber (fieldAt s (at + 4)) ≡ true) × (2 ≤ length (fieldsAt (drop (at + 4) s)) → ⊥)

@@ -9,7 +9,7 @@ use lib.ListN.{length, getD, drop, set, length-set, length-map}
 use lib.Seq.{sets}
 use Rattle.semantics.specs.Text.{isLiteral, allLiterals}
 use Rattle.semantics.proofs.Soundness.{both-true}
-use Rattle.fields.specs.Cursor.{Within, fieldsAt, fieldAt, CodeTo}
+use Rattle.fields.specs.Cursor.{InText, fieldsAt, fieldAt, CodeTo}
 use Rattle.fields.proofs.Places.{byte-here}
 use Rattle.fields.proofs.Fields.{some-field, first-here, Comma, Newline, follows, newline-after}
 use Rattle.lines.proofs.LiteralFields.{Passed, passed-none, passed-more, last-size, last-ends}
@@ -24,7 +24,7 @@ pub record Putting (s : List ℕ) (at : ℕ) (area₀ : List ℕ) (start : ℕ) 
   pub same : length area ≡ length area₀
   pub put : sets area₀ start (map codeIn (fieldsAt (drop at s))) ≡ sets area end (map codeIn (fieldsAt (drop i s)))
 
-pub putting-none : (s : List ℕ) (at : ℕ) (area : List ℕ) (start : ℕ) → Within s at → Putting s at area start area start at
+pub putting-none : (s : List ℕ) (at : ℕ) (area : List ℕ) (start : ℕ) → InText s at → Putting s at area start area start at
 putting-none s at area start w = record { count = 0; passed = passed-none s at w; size = omega arith; same = refl; put = refl }
 
 module _ (s : List ℕ) (at : ℕ) (area₀ : List ℕ) (start : ℕ) {area : List ℕ} {end i : ℕ} (w : Putting s at area₀ start area end i) (all : allLiterals (fieldsAt (drop at s)) ≡ true) where

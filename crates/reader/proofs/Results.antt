@@ -11,7 +11,7 @@ use Rattle.semantics.specs.Area.{headLength, areaOf}
 use Rattle.semantics.specs.Text.{textLines, linesIn, pageIn}
 use Rattle.semantics.specs.ReadPage.{textRefusal, pageRead, usedBy, refusalOf, ReadAnswer, refusedPage, readPage, readOf}
 use Rattle.semantics.proofs.ReadLines.{good-text}
-use Rattle.fields.specs.Cursor.{Within}
+use Rattle.fields.specs.Cursor.{InText}
 use Rattle.fields.proofs.Places.{byte-here}
 use Rattle.reader.specs.declared.check.Checked.{Checked}
 use Rattle.reader.specs.declared.check.Checked.the-variants.{Page, Refused}
@@ -54,7 +54,7 @@ module _ (s area : List ℕ) {r : Checked} (q : CheckedAs (textRefusal s) s r) w
     too-short h = (rw (none-bad, used-is, lt-ltb (length area) u h), rw (none-bad, used-is, lt-ltb (length area) u h))
 
     -- the text ends with byte 10
-    text-place : Within s 0
+    text-place : InText s 0
     text-place =
         let g = good-text s none-bad in
         let m : length s ≡ 0 → ⊥ = eqb-false (length s) 0 (g .filled) in

@@ -9,7 +9,7 @@ use lib.Seq.{take-suc, getD-drop, length-take-le}
 use Rattle.semantics.specs.Text.{textLines}
 use Rattle.semantics.specs.ReadPage.{lineOf, startFrom, startOf}
 use Rattle.fields.specs.Cursor.{linesAfter}
-use Rattle.reader.specs.Shown.{LineEnd, NextLine, LineAt}
+use Rattle.reader.specs.Shown.{LineStop, NextLine, LineAt}
 use Rattle.fields.proofs.Places.{byte-here}
 use Rattle.reader.proofs.LinePlaces.{byte-past, line-here, newline-front, newline-lines, other-front, other-lines, other-start, newline-start, end-start, first-start}
 
@@ -41,7 +41,7 @@ module _ (s : List ℕ) (at i : ℕ) (w : Following s at i) where
         starts = λ k. omega (arith, w .ahead, w .starts k, other-start s i m k);
       }
 
-  line-ends : getD s i 10 ≡ 10 → LineEnd s at i
+  line-ends : getD s i 10 ≡ 10 → LineStop s at i
   line-ends e =
       record {
         line = w .line ∙ rw (newline-front s i e, append-nil (take (i - at) (drop at s)));
@@ -52,13 +52,13 @@ module _ (s : List ℕ) (at i : ℕ) (w : Following s at i) where
         starts = w .starts;
       }
 
-  pub at-newline : i < length s → getD s i 0 ≡ 10 → LineEnd s at i
+  pub at-newline : i < length s → getD s i 0 ≡ 10 → LineStop s at i
   at-newline h e = line-ends (sym (byte-here s i h) ∙ e)
 
-  pub at-end : length s ≤ i → LineEnd s at i
+  pub at-end : length s ≤ i → LineStop s at i
   at-end h = line-ends (sym (byte-past s i h))
 
-module _ (s : List ℕ) (at e : ℕ) (w : LineEnd s at e) where
+module _ (s : List ℕ) (at e : ℕ) (w : LineStop s at e) where
   pub next-line : e < length s → NextLine s at (e + 1)
   next-line h =
       record {
@@ -117,7 +117,7 @@ module _ (s : List ℕ) (number at left : ℕ) (w : Seeking s number at left) wh
         least = omega arith;
       }
 
-  pub seeking-last : left ≤ 1 → {e : ℕ} → LineEnd s at e → LineAt s number at e
+  pub seeking-last : left ≤ 1 → {e : ℕ} → LineStop s at e → LineAt s number at e
   seeking-last l {e} q =
       let k : left - 1 ≡ 0 = omega (arith, w .least) in
       record {

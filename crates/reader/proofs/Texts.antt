@@ -17,7 +17,7 @@ use Rattle.reader.specs.declared.check.Tally.{Tally}
 use Rattle.reader.specs.declared.check.Tally.the-variants.{Good, Bad}
 use Rattle.reader.specs.declared.check.Checked.{Checked}
 use Rattle.reader.specs.declared.check.Checked.the-variants.{Page, Refused}
-use Rattle.fields.specs.Cursor.{Within, fieldsAt, linesAfter}
+use Rattle.fields.specs.Cursor.{InText, fieldsAt, linesAfter}
 use Rattle.fields.proofs.Places.{byte-here}
 use Rattle.reader.specs.Checks.{faultOf, HeadSays, HeadAt, Tallied, CheckedAs}
 
@@ -94,7 +94,7 @@ module _ (s : List ℕ) where
       unfolding textRefusal
       ended m = rw (le-ltb 65535 (length s) h, ne-eqb (length s) 0 n, ← b, eq-eqb x 10 m)
 
-      pub text-place : x ≡ 10 → Within s 0
+      pub text-place : x ≡ 10 → InText s 0
       text-place m =
           let l : length s - 1 < length s = omega arith in
           record { inside = omega arith; ended = sym (byte-here s (length s - 1) l) ∙ sym b ∙ m }

@@ -8,9 +8,9 @@ use lib.Dec.{eqb, ltb, leb}
 use lib.ListN.{length, drop}
 use Rattle.semantics.specs.Area.{headLength, lineCode, lineCodes}
 use Rattle.semantics.specs.Call.{firstOf}
-use Rattle.semantics.specs.Text.{textLines, field, valueOf, isHead, lineIn, topIn, conditionsIn, linesIn}
+use Rattle.semantics.specs.Text.{textLines, field, numberIn, isHead, lineIn, topIn, conditionsIn, linesIn}
 use Rattle.semantics.specs.ReadPage.{Refusal, lineCauses, badLine}
-use Rattle.fields.specs.Cursor.{Within, fieldsAt, linesAfter}
+use Rattle.fields.specs.Cursor.{InText, fieldsAt, linesAfter}
 use Rattle.reader.specs.declared.check.Line.{Line}
 use Rattle.reader.specs.declared.check.Line.the-variants as line-as
 use Rattle.reader.specs.declared.check.Head.{Head}
@@ -56,8 +56,8 @@ LineAs s at top n (line-as.Bad number) = lineRefusal top n (fieldsAt (drop at s)
 -- the first line has its form, says top and C, and the next line begins at the place `next`
 pub record HeadSays (s : List ℕ) (t n next : ℕ) : Type 0 where
   pub form : isHead (fieldsAt s) ≡ true
-  pub top : t ≡ valueOf (field (fieldsAt s) 1)
-  pub conditions : n ≡ valueOf (field (fieldsAt s) 2)
+  pub top : t ≡ numberIn (field (fieldsAt s) 1)
+  pub conditions : n ≡ numberIn (field (fieldsAt s) 2)
   pub lines : linesAfter s ≡ textLines (drop next s)
 
 abbrev pub HeadAt : List ℕ → Head → Type 0
@@ -98,5 +98,5 @@ pub record LinesFit (s : List ℕ) (from : ℕ) (area : List ℕ) (end : ℕ) : 
   pub n : ℕ
   pub k : ℕ
   pub good : badLine top n k (textLines (drop from s)) ≡ none
-  pub text : Within s 0
+  pub text : InText s 0
   pub room : end + length (entriesOf s from) ≤ length area

@@ -7,12 +7,12 @@ use lib.ListN.{length, drop}
 use lib.Seq.{sets}
 use Rattle.semantics.specs.Area.{codeOf, lineCode}
 use Rattle.semantics.specs.Text.{literalIn, hasForm, lineIn}
-use Rattle.fields.specs.Cursor.{Within, fieldsAt}
+use Rattle.fields.specs.Cursor.{InText, fieldsAt}
 use Rattle.lines.specs.Lines.{Ends}
 
 -- a place of a text, where a line stands that has a form
 pub record Formed (s : List ℕ) (at : ℕ) : Type 0 where
-  pub place : Within s at
+  pub place : InText s at
   pub form : hasForm (fieldsAt (drop at s)) ≡ true
 
 -- and a place of an area with room for the entry of that line

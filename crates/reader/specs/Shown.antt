@@ -8,7 +8,7 @@ use Rattle.semantics.specs.ReadPage.{lineOf, startFrom, startOf}
 use Rattle.fields.specs.Cursor.{linesAfter}
 
 -- the line at a place goes up to the place e, and the lines after it are those behind byte 10
-pub record LineEnd (s : List ℕ) (at e : ℕ) : Type 0 where
+pub record LineStop (s : List ℕ) (at e : ℕ) : Type 0 where
   pub line : getD (textLines (drop at s)) 0 [] ≡ take (e - at) (drop at s)
   pub ahead : at ≤ e
   pub inside : e ≤ length s

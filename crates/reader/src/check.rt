@@ -5,7 +5,7 @@ ghost use Rattle.semantics.specs.Page.{fact};
 ghost use Rattle.semantics.specs.Area.{every, headLength};
 ghost use Rattle.semantics.specs.Text.{textLines, headRanges, rangeTests};
 ghost use Rattle.semantics.specs.ReadPage.{badLineOf, textRefusal};
-ghost use Rattle.fields.specs.Cursor.{Within};
+ghost use Rattle.fields.specs.Cursor.{InText};
 ghost use Rattle.reader.specs.Checks.{faultOf, ruleRanges, lineBy, LineAs, HeadAt, Tallied, CheckedAs};
 use fields::Field;
 use fields::number_before;
@@ -78,7 +78,7 @@ fn by_fault(fault: u16, next: usize, size: usize) -> Line
 
 // The line at a place, and its refusal: its form first, then its fields in their order. No other function refuses a line by what it says.
 fn check_line(bytes: &[u8], at: usize, top: u16, conditions: u16) -> Line
-    requires { ⌜ Within (now bytes) at ⌝ }
+    requires { ⌜ InText (now bytes) at ⌝ }
     ensures { λ r. ⌜ LineAs (now (bytes .entry)) at top conditions r ⌝ }
 {
     let parsed = parse_line(bytes, at, conditions);
@@ -116,7 +116,7 @@ pub enum Head {
 }
 
 fn parse_head(bytes: &[u8]) -> Head
-    requires { ⌜ Within (now bytes) 0 ⌝ }
+    requires { ⌜ InText (now bytes) 0 ⌝ }
     ensures { λ r. ⌜ HeadAt (now (bytes .entry)) r ⌝ }
 {
     if bytes[0] != b'G' {
@@ -153,7 +153,7 @@ pub fn head_length(conditions: u16) -> usize
 
 // The lines from a place on, which is where line 2 begins.
 fn check_lines(bytes: &[u8], from: usize, top: u16, conditions: u16) -> Tally
-    requires { ⌜ Within (now bytes) 0 ⌝ }
+    requires { ⌜ InText (now bytes) 0 ⌝ }
     ensures { λ r. ⌜ Tallied (now (bytes .entry)) from top conditions r ⌝ }
 {
     let mut at = from;
@@ -217,7 +217,7 @@ pub enum Checked {
 
 // The lines of a text.
 fn check_all(bytes: &[u8]) -> Checked
-    requires { ⌜ Within (now bytes) 0 ⌝ }
+    requires { ⌜ InText (now bytes) 0 ⌝ }
     ensures { λ r. ⌜ CheckedAs (badLineOf (textLines (now (bytes .entry)))) (now (bytes .entry)) r ⌝ }
 {
     let Head::Good {

@@ -8,7 +8,7 @@ ghost use lib.ListN.{length, getD, drop};
 ghost use lib.Seq.{sets};
 ghost use Rattle.semantics.specs.Area.{headLength};
 ghost use Rattle.semantics.specs.Text.{allLiterals};
-ghost use Rattle.fields.specs.Cursor.{Within, fieldsAt};
+ghost use Rattle.fields.specs.Cursor.{InText, fieldsAt};
 ghost use Rattle.lines.specs.Lines.{PairLetter, PairThen};
 ghost use Rattle.reader.specs.Checks.{LinesFit, entriesOf};
 ghost use Rattle.reader.specs.Entries.{Formed, LineFits, LinePut, LiteralsPut};
@@ -81,7 +81,7 @@ fn write_fact(bytes: &[u8], at: usize, area: &mut [u16], end: usize) -> Place
 
 // The literals to the end of a rule's line. Their codes are written.
 fn write_literals(bytes: &[u8], at: usize, area: &mut [u16], start: usize) -> Place
-    requires { ⌜ Within (now bytes) at × (allLiterals (fieldsAt (drop at (now bytes))) ≡ true) × (start + length (fieldsAt (drop at (now bytes))) ≤ length (now area)) ⌝ }
+    requires { ⌜ InText (now bytes) at × (allLiterals (fieldsAt (drop at (now bytes))) ≡ true) × (start + length (fieldsAt (drop at (now bytes))) ≤ length (now area)) ⌝ }
     ensures { λ r. ⌜ LiteralsPut (now (bytes .entry)) at (now (area .entry)) start (now (area .exit)) (r .next) (r .end) ⌝ }
 {
     let mut end = start;

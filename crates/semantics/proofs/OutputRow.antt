@@ -8,7 +8,7 @@ use Rattle.semantics.specs.Page.{K, W}
 use Rattle.semantics.proofs.Proper.{Proper}
 use Rattle.semantics.specs.Fields.{numberWithin, numberText}
 use Rattle.semantics.proofs.Written.{textOf}
-use Rattle.semantics.specs.Output.{queriesOf, topFields, answerFields, endFields, printed, pageOutput, Answered, IsOutput}
+use Rattle.semantics.specs.Output.{queriesOf, topFields, answerFields, endFields, printed, pageOutput, AnswersPrinted, IsOutput}
 use Rattle.semantics.proofs.Rows.{rows, page1}
 use Rattle.semantics.proofs.Bench.{bench}
 use Rattle.semantics.proofs.Outputs.{answers-exist}
@@ -35,7 +35,7 @@ output1 =
     ∷ 101 ∷ 110 ∷ 100 ∷ 44 ∷ 50 ∷ 10
     ∷ []
 
-answered1 : Answered page1 output1
+answered1 : AnswersPrinted page1 output1
 unfolding rows page1 pageOutput queriesOf numberText numberWithin
 answered1 =
     let x = answers-exist page1 proper1 in

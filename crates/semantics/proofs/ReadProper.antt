@@ -16,7 +16,7 @@ use Rattle.semantics.specs.Grade.{Op}
 use Rattle.semantics.specs.Page.{Literal, conditionOf, Reading, Line, fact, rule, query}
 use Rattle.semantics.proofs.Proper.{LiteralsBelow, InRange, AllInRange, Proper}
 use Rattle.semantics.specs.ReadPage.{Refusal, toldAt, orElse, textCauses, headCauses, lineCauses, badLine, badLineOf, textRefusal, pageRead, usedBy, areaCauses, refusalOf, ReadAnswer, refusedPage, readPage, ReadOutcome, readAs, readOf}
-use Rattle.semantics.specs.Text.{textLines, fieldsOf, field, valueOf, opIn, readingIn, literalIn, isFact, ruleForm, isRule, lineIn, headRanges, rangeTests, literalRanges, linesIn, topIn, conditionsIn, pageIn}
+use Rattle.semantics.specs.Text.{textLines, fieldsOf, field, numberIn, opIn, readingIn, literalIn, isFact, ruleForm, isRule, lineIn, headRanges, rangeTests, literalRanges, linesIn, topIn, conditionsIn, pageIn}
 use Rattle.semantics.proofs.ExactAreas.{proper-sound}
 use Rattle.semantics.proofs.ReadLines.{some-none, good-line, good-head}
 use Rattle.semantics.proofs.Soundness.{Every, every-true}
@@ -46,22 +46,22 @@ unfolding lineIn isRule
 in-range top n fs e = go (isFact fs) (isRule fs) refl e
   where
     aFact : Line
-    aFact = fact (valueOf (field fs 1)) (valueOf (field fs 2)) (valueOf (field fs 3))
+    aFact = fact (numberIn (field fs 1)) (numberIn (field fs 2)) (numberIn (field fs 3))
 
     aRule : Line
-    aRule = rule (valueOf (field fs 1)) (valueOf (field fs 2)) (opIn (field fs 3)) (map literalIn (drop 4 fs))
+    aRule = rule (numberIn (field fs 1)) (numberIn (field fs 2)) (opIn (field fs 3)) (map literalIn (drop 4 fs))
 
     aQuery : Line
-    aQuery = query (readingIn (field fs 1)) (valueOf (field fs 2))
+    aQuery = query (readingIn (field fs 1)) (numberIn (field fs 2))
 
     go : (t u : Bool) → isRule fs ≡ u → every (rangeTests top n (cond t aFact (cond u aRule aQuery))) ≡ true → InRange top n (cond t aFact (cond u aRule aQuery))
-    go true u f e = fact-in top n (valueOf (field fs 1)) (valueOf (field fs 2)) (valueOf (field fs 3)) e
+    go true u f e = fact-in top n (numberIn (field fs 1)) (numberIn (field fs 2)) (numberIn (field fs 3)) e
     go false true f e =
         let g = every-true (ruleForm fs) f in
         let s = length-map (drop 4 fs) literalIn in
-        rule-in top n (valueOf (field fs 1)) (valueOf (field fs 2)) (opIn (field fs 3)) (map literalIn (drop 4 fs))
+        rule-in top n (numberIn (field fs 1)) (numberIn (field fs 2)) (opIn (field fs 3)) (map literalIn (drop 4 fs))
         (omega (arith, leb-true 1 (length (drop 4 fs)) (g .1 .0))) (omega (arith, leb-true (length (drop 4 fs)) 8 (g .1 .1 .0))) e
-    go false false f e = query-in top n (valueOf (field fs 2)) (readingIn (field fs 1)) e
+    go false false f e = query-in top n (numberIn (field fs 2)) (readingIn (field fs 1)) e
 
 -- the lines from line k on
 lines-proper : (top n k : ℕ) (ls : List (List ℕ)) → k ≤ 1026 → badLine top n k ls ≡ none → AllInRange top n (linesIn ls) × (length (linesIn ls) + k ≤ 1026)

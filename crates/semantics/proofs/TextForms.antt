@@ -12,7 +12,7 @@ use Rattle.semantics.specs.Grade.{Op, M, X, L, B, P}
 use Rattle.semantics.specs.Page.{Literal, positive, negative, conditionOf, Reading, K, W, Line, fact, rule, query}
 use Rattle.semantics.proofs.Proper.{LiteralsBelow, InRange}
 use Rattle.semantics.specs.Area.{every}
-use Rattle.semantics.specs.Text.{field, isNumber, valueOf, isNegated, isLiteral, literalIn, allLiterals, isLetter, isOp, opIn, isReading, readingIn, headForm, isHead, factForm, isFact, ruleForm, isRule, queryForm, isQuery, hasForm, lineIn, literalRanges, rangeTests}
+use Rattle.semantics.specs.Text.{field, isNumber, numberIn, isNegated, isLiteral, literalIn, allLiterals, isLetter, isOp, opIn, isReading, readingIn, headForm, isHead, factForm, isFact, ruleForm, isRule, queryForm, isQuery, hasForm, lineIn, literalRanges, rangeTests}
 use Rattle.semantics.specs.Fields.{numberText, readingLetter}
 use Rattle.semantics.proofs.Written.{literalText, opLetter, lineFields, headFields}
 use Rattle.semantics.proofs.Soundness.{both-true, every-true}
@@ -67,12 +67,12 @@ literal-back : (f : List ℕ) → isLiteral f ≡ true → literalText (literalI
 unfolding isLiteral literalIn
 literal-back f = go (isNegated f) refl
   where
-    negated : (f : List ℕ) → isNegated f ≡ true → isNumber (drop 1 f) ≡ true → 33 ∷ numberText (valueOf (drop 1 f)) ≡ f
+    negated : (f : List ℕ) → isNegated f ≡ true → isNumber (drop 1 f) ≡ true → 33 ∷ numberText (numberIn (drop 1 f)) ≡ f
     negated [] e n = absurd (false≢true e)
     negated (b ∷ f) e n = ap₂ {C = List ℕ} (λ x xs. x ∷ xs) (sym (eqb-true b 33 e)) (number-back f n)
 
     go : (t : Bool) → isNegated f ≡ t → cond t (isNumber (drop 1 f)) (isNumber f) ≡ true
-        → literalText (cond t (negative (valueOf (drop 1 f))) (positive (valueOf f))) ≡ f
+        → literalText (cond t (negative (numberIn (drop 1 f))) (positive (numberIn f))) ≡ f
     go true e n = negated f e n
     go false e n = number-back f n
 
@@ -99,24 +99,24 @@ literals-written n m (l ∷ ls) w =
     (rw (h .0, k .0), ap₂ {C = List Literal} (λ x xs. x ∷ xs) (h .1) (k .1))
 
 -- A line of a form is the text of what it says.
-pub head-back : (fs : List (List ℕ)) → isHead fs ≡ true → headFields (valueOf (field fs 1)) (valueOf (field fs 2)) ≡ fs
+pub head-back : (fs : List (List ℕ)) → isHead fs ≡ true → headFields (numberIn (field fs 1)) (numberIn (field fs 2)) ≡ fs
 unfolding isHead
 head-back fs e = let h = every-true (headForm fs) e in go fs (eqb-true (length fs) 3 (h .1 .0)) (h .0) (h .1 .1 .0) (h .1 .1 .1 .0)
   where
     go : (fs : List (List ℕ)) → length fs ≡ 3 → isLetter 71 (field fs 0) ≡ true → isNumber (field fs 1) ≡ true → isNumber (field fs 2) ≡ true
-        → headFields (valueOf (field fs 1)) (valueOf (field fs 2)) ≡ fs
+        → headFields (numberIn (field fs 1)) (numberIn (field fs 2)) ≡ fs
     go [] l p a b = absurd (omega arith)
     go (f ∷ []) l p a b = absurd (omega arith)
     go (f ∷ g ∷ []) l p a b = absurd (omega arith)
     go (f ∷ g ∷ h ∷ []) l p a b = rw (number-back g a, number-back h b, letter-back 71 f p)
     go (f ∷ g ∷ h ∷ i ∷ fs) l p a b = absurd (omega arith)
 
-fact-back : (fs : List (List ℕ)) → isFact fs ≡ true → lineFields (fact (valueOf (field fs 1)) (valueOf (field fs 2)) (valueOf (field fs 3))) ≡ fs
+fact-back : (fs : List (List ℕ)) → isFact fs ≡ true → lineFields (fact (numberIn (field fs 1)) (numberIn (field fs 2)) (numberIn (field fs 3))) ≡ fs
 unfolding isFact
 fact-back fs e = let h = every-true (factForm fs) e in go fs (eqb-true (length fs) 4 (h .1 .0)) (h .0) (h .1 .1 .0) (h .1 .1 .1 .0) (h .1 .1 .1 .1 .0)
   where
     go : (fs : List (List ℕ)) → length fs ≡ 4 → isLetter 70 (field fs 0) ≡ true → isNumber (field fs 1) ≡ true → isNumber (field fs 2) ≡ true → isNumber (field fs 3) ≡ true
-        → lineFields (fact (valueOf (field fs 1)) (valueOf (field fs 2)) (valueOf (field fs 3))) ≡ fs
+        → lineFields (fact (numberIn (field fs 1)) (numberIn (field fs 2)) (numberIn (field fs 3))) ≡ fs
     go [] l p a b c = absurd (omega arith)
     go (f ∷ []) l p a b c = absurd (omega arith)
     go (f ∷ g ∷ []) l p a b c = absurd (omega arith)
@@ -124,7 +124,7 @@ fact-back fs e = let h = every-true (factForm fs) e in go fs (eqb-true (length f
     go (f ∷ g ∷ h ∷ i ∷ []) l p a b c = rw (number-back g a, number-back h b, number-back i c, letter-back 70 f p)
     go (f ∷ g ∷ h ∷ i ∷ j ∷ fs) l p a b c = absurd (omega arith)
 
-rule-back : (fs : List (List ℕ)) → isRule fs ≡ true → lineFields (rule (valueOf (field fs 1)) (valueOf (field fs 2)) (opIn (field fs 3)) (map literalIn (drop 4 fs))) ≡ fs
+rule-back : (fs : List (List ℕ)) → isRule fs ≡ true → lineFields (rule (numberIn (field fs 1)) (numberIn (field fs 2)) (opIn (field fs 3)) (map literalIn (drop 4 fs))) ≡ fs
 unfolding isRule
 rule-back fs e =
     let h = every-true (ruleForm fs) e in
@@ -132,19 +132,19 @@ rule-back fs e =
   where
     go : (fs : List (List ℕ)) → 1 ≤ length (drop 4 fs) → isLetter 82 (field fs 0) ≡ true → isNumber (field fs 1) ≡ true → isNumber (field fs 2) ≡ true
         → isOp (field fs 3) ≡ true → allLiterals (drop 4 fs) ≡ true
-        → lineFields (rule (valueOf (field fs 1)) (valueOf (field fs 2)) (opIn (field fs 3)) (map literalIn (drop 4 fs))) ≡ fs
+        → lineFields (rule (numberIn (field fs 1)) (numberIn (field fs 2)) (opIn (field fs 3)) (map literalIn (drop 4 fs))) ≡ fs
     go [] l p a b o w = absurd (omega arith)
     go (f ∷ []) l p a b o w = absurd (omega arith)
     go (f ∷ g ∷ []) l p a b o w = absurd (omega arith)
     go (f ∷ g ∷ h ∷ []) l p a b o w = absurd (omega arith)
     go (f ∷ g ∷ h ∷ i ∷ fs) l p a b o w = rw (number-back g a, number-back h b, op-back i o, literals-back fs w, letter-back 82 f p)
 
-query-back : (fs : List (List ℕ)) → isQuery fs ≡ true → lineFields (query (readingIn (field fs 1)) (valueOf (field fs 2))) ≡ fs
+query-back : (fs : List (List ℕ)) → isQuery fs ≡ true → lineFields (query (readingIn (field fs 1)) (numberIn (field fs 2))) ≡ fs
 unfolding isQuery
 query-back fs e = let h = every-true (queryForm fs) e in go fs (eqb-true (length fs) 3 (h .1 .0)) (h .0) (h .1 .1 .0) (h .1 .1 .1 .0)
   where
     go : (fs : List (List ℕ)) → length fs ≡ 3 → isLetter 81 (field fs 0) ≡ true → isReading (field fs 1) ≡ true → isNumber (field fs 2) ≡ true
-        → lineFields (query (readingIn (field fs 1)) (valueOf (field fs 2))) ≡ fs
+        → lineFields (query (readingIn (field fs 1)) (numberIn (field fs 2))) ≡ fs
     go [] l p a b = absurd (omega arith)
     go (f ∷ []) l p a b = absurd (omega arith)
     go (f ∷ g ∷ []) l p a b = absurd (omega arith)
@@ -153,9 +153,9 @@ query-back fs e = let h = every-true (queryForm fs) e in go fs (eqb-true (length
 
 -- Which form a line has.
 pub data Form (fs : List (List ℕ)) : Type 0 where
-  a-fact : isFact fs ≡ true → lineIn fs ≡ fact (valueOf (field fs 1)) (valueOf (field fs 2)) (valueOf (field fs 3)) → Form fs
-  a-rule : isRule fs ≡ true → lineIn fs ≡ rule (valueOf (field fs 1)) (valueOf (field fs 2)) (opIn (field fs 3)) (map literalIn (drop 4 fs)) → Form fs
-  a-query : isQuery fs ≡ true → lineIn fs ≡ query (readingIn (field fs 1)) (valueOf (field fs 2)) → Form fs
+  a-fact : isFact fs ≡ true → lineIn fs ≡ fact (numberIn (field fs 1)) (numberIn (field fs 2)) (numberIn (field fs 3)) → Form fs
+  a-rule : isRule fs ≡ true → lineIn fs ≡ rule (numberIn (field fs 1)) (numberIn (field fs 2)) (opIn (field fs 3)) (map literalIn (drop 4 fs)) → Form fs
+  a-query : isQuery fs ≡ true → lineIn fs ≡ query (readingIn (field fs 1)) (numberIn (field fs 2)) → Form fs
 
 form-of : (fs : List (List ℕ)) → hasForm fs ≡ true → Form fs
 unfolding hasForm lineIn
@@ -249,8 +249,8 @@ pub in-range : (top n : ℕ) (fs : List (List ℕ)) → hasForm fs ≡ true → 
 in-range top n fs e = go (form-of fs e)
   where
     go : Form fs → every (rangeTests top n (lineIn fs)) ≡ true → InRange top n (lineIn fs)
-    go (a-fact h l) r = rw l (fact-in top n (valueOf (field fs 1)) (valueOf (field fs 2)) (valueOf (field fs 3)) (rw l at r))
+    go (a-fact h l) r = rw l (fact-in top n (numberIn (field fs 1)) (numberIn (field fs 2)) (numberIn (field fs 3)) (rw l at r))
     go (a-rule h l) r =
         let s = rule-size fs h in
-        rw l (rule-in top n (valueOf (field fs 1)) (valueOf (field fs 2)) (opIn (field fs 3)) (map literalIn (drop 4 fs)) (s .0) (s .1) (rw l at r))
-    go (a-query h l) r = let c = valueOf (field fs 2) in rw l (ltb-true c n (both-true (ltb c n) true (rw l at r) .0))
+        rw l (rule-in top n (numberIn (field fs 1)) (numberIn (field fs 2)) (opIn (field fs 3)) (map literalIn (drop 4 fs)) (s .0) (s .1) (rw l at r))
+    go (a-query h l) r = let c = numberIn (field fs 2) in rw l (ltb-true c n (both-true (ltb c n) true (rw l at r) .0))

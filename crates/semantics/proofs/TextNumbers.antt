@@ -8,7 +8,7 @@ use native.Mathlib.Decide.{decLt}
 use lib.Dec.{eqb, ltb, leb}
 use lib.ListN.{length, getD, length-append}
 use borrow.Author.Tests.{ne-eqb, eqb-false, not-true, le-leb, leb-true, lt-ltb, le-ltb}
-use Rattle.semantics.specs.Text.{isDigit, allDigits, isNumber, valueFrom, valueOf}
+use Rattle.semantics.specs.Text.{isDigit, allDigits, isNumber, valueFrom, numberIn}
 use Rattle.semantics.specs.Fields.{digit, numberWithin, numberText}
 use Rattle.semantics.proofs.Soundness.{both-true, every-true}
 use Rattle.semantics.proofs.TextParts.{without}
@@ -77,8 +77,8 @@ value-within (suc k) n h =
       | no l ↦ rw (le-ltb n 10 (omega arith)) (omega (arith, value-on 0 (numberWithin k (n / 10)) (digit (n % 10)), value-within k (n / 10) (omega arith)))
     ]
 
-pub number-value : (n : ℕ) → valueOf (numberText n) ≡ n
-unfolding valueOf numberText
+pub number-value : (n : ℕ) → numberIn (numberText n) ≡ n
+unfolding numberIn numberText
 number-value n = value-within n n (omega arith)
 
 -- ten times as large, a digit more
@@ -126,7 +126,7 @@ module _ (n : ℕ) (h : n < 1000) where
           rw e
           (three-digits (digit (n / 100)) (digit (n / 10 % 10)) (digit (n % 10)) (low (n / 100) (omega arith)) (low (n / 10 % 10) (omega arith)) (low (n % 10) (omega arith)) (λ z. omega arith))
 
-  pub written-value : valueOf (numberText n) ≡ n
+  pub written-value : numberIn (numberText n) ≡ n
   written-value = number-value n
 
   -- it has no byte below `0` or above `9`
@@ -204,8 +204,8 @@ or-second : (t : Bool) → (t || false) ≡ true → t ≡ true
 or-second true e = refl
 or-second false e = e
 
-pub number-back : (f : List ℕ) → isNumber f ≡ true → numberText (valueOf f) ≡ f
-unfolding valueOf
+pub number-back : (f : List ℕ) → isNumber f ≡ true → numberText (numberIn f) ≡ f
+unfolding numberIn
 number-back f n = let w = number-field f n in go f (w .least) (w .most) (w .digits) (w .leads)
   where
     go : (f : List ℕ) → 1 ≤ length f → length f ≤ 3 → allDigits f ≡ true → (not (eqb (getD f 0 0) 48) || eqb (length f) 1) ≡ true → numberText (valueFrom 0 f) ≡ f
@@ -220,8 +220,8 @@ number-back f n = let w = number-field f n in go f (w .least) (w .most) (w .digi
         three-back a (p .0) (eqb-false a 48 (not-true (eqb a 48) (or-second (not (eqb a 48)) z))) b (q .0) c (both-true (isDigit c) true (q .1) .0)
     go (a ∷ b ∷ c ∷ d ∷ f) l m e z = absurd (omega arith)
 
-pub value-most : (f : List ℕ) → isNumber f ≡ true → valueOf f ≤ 999
-unfolding valueOf
+pub value-most : (f : List ℕ) → isNumber f ≡ true → numberIn f ≤ 999
+unfolding numberIn
 value-most f n = let w = number-field f n in go f (w .most) (w .digits)
   where
     go : (f : List ℕ) → length f ≤ 3 → allDigits f ≡ true → valueFrom 0 f ≤ 999

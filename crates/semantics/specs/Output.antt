@@ -66,7 +66,7 @@ pageOutput page A =
 
 -- What is printed for a page that is read: the page has answers, and they are printed. (It has exactly one reading of each kind: `plain-one`,
 -- `closed-one`.)
-pub record Answered (page : Page) (output : List ℕ) : Type 0 where
+pub record AnswersPrinted (page : Page) (output : List ℕ) : Type 0 where
   pub answers : Answers
   pub are : AreAnswers page answers
   pub is : output ≡ pageOutput page answers
@@ -74,7 +74,7 @@ pub record Answered (page : Page) (output : List ℕ) : Type 0 where
 -- "A refused page prints only `refused,number,line`."
 abbrev pub PrintedAs : Option Refusal → Page → List ℕ → Type 0
 PrintedAs (some r) page output = output ≡ printed (refusalFields r ∷ [])
-PrintedAs none page output = Answered page output
+PrintedAs none page output = AnswersPrinted page output
 
 -- The output for a text. Every text has exactly one: `output-exists`, `output-one`.
 unfoldable pub IsOutput : List ℕ → List ℕ → Type 0

@@ -44,8 +44,8 @@ abbrev pub valueFrom : ℕ → List ℕ → ℕ
 valueFrom v [] = v
 valueFrom v (d ∷ f) = valueFrom (10 * v + (d - 48)) f
 
-unfoldable pub valueOf : List ℕ → ℕ
-valueOf f = valueFrom 0 f
+unfoldable pub numberIn : List ℕ → ℕ
+numberIn f = valueFrom 0 f
 
 -- "A literal is a condition number, or `!` and a number for its negation."
 abbrev pub isNegated : List ℕ → Bool
@@ -55,7 +55,7 @@ unfoldable pub isLiteral : List ℕ → Bool
 isLiteral f = cond (isNegated f) (isNumber (drop 1 f)) (isNumber f)
 
 unfoldable pub literalIn : List ℕ → Literal
-literalIn f = cond (isNegated f) (negative (valueOf (drop 1 f))) (positive (valueOf f))
+literalIn f = cond (isNegated f) (negative (numberIn (drop 1 f))) (positive (numberIn f))
 
 unfoldable pub allLiterals : List (List ℕ) → Bool
 allLiterals [] = true
@@ -123,9 +123,9 @@ hasForm fs = isFact fs || (isRule fs || isQuery fs)
 -- what such a line says
 unfoldable pub lineIn : List (List ℕ) → Line
 lineIn fs =
-    cond (isFact fs) (fact (valueOf (field fs 1)) (valueOf (field fs 2)) (valueOf (field fs 3)))
-    (cond (isRule fs) (rule (valueOf (field fs 1)) (valueOf (field fs 2)) (opIn (field fs 3)) (map literalIn (drop 4 fs)))
-    (query (readingIn (field fs 1)) (valueOf (field fs 2))))
+    cond (isFact fs) (fact (numberIn (field fs 1)) (numberIn (field fs 2)) (numberIn (field fs 3)))
+    (cond (isRule fs) (rule (numberIn (field fs 1)) (numberIn (field fs 2)) (opIn (field fs 3)) (map literalIn (drop 4 fs)))
+    (query (readingIn (field fs 1)) (numberIn (field fs 2))))
 
 -- The ranges, in the order of the fields.
 -- top 1 to 200, C 1 to 512
@@ -144,10 +144,10 @@ rangeTests top n (query r c) = ltb c n ∷ []
 
 -- The page of a text with these lines: top and C of the first line, and the lines after it.
 abbrev pub topIn : List (List ℕ) → ℕ
-topIn ls = valueOf (field (fieldsOf (getD ls 0 [])) 1)
+topIn ls = numberIn (field (fieldsOf (getD ls 0 [])) 1)
 
 abbrev pub conditionsIn : List (List ℕ) → ℕ
-conditionsIn ls = valueOf (field (fieldsOf (getD ls 0 [])) 2)
+conditionsIn ls = numberIn (field (fieldsOf (getD ls 0 [])) 2)
 
 unfoldable pub linesIn : List (List ℕ) → List Line
 linesIn [] = []

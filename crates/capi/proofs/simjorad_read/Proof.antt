@@ -7,7 +7,7 @@ use mir.Syntax.{w32}
 use Rattle.semantics.specs.ReadPage.{refusedPage, readPage, readOf}
 use Rattle.semantics.proofs.ReadProper.{read-good, read-small}
 use Rattle.reader.specs.Answers.{answerOf}
-use Rattle.capi.specs.Codes.{readCode, lineCode}
+use Rattle.capi.specs.Codes.{readCode, lineTold}
 use Rattle.capi.proofs.Signs.{returned}
 use borrow.Author.Needs.{needs}
 use Rattle.capi.proofs.simjorad_read.Statement.{statement}
@@ -57,7 +57,7 @@ same-length c = search needs
 returns : tie.Need-returns
 returns c =
     let e = refused-as (c .before) in
-    (returned (c .minus .result) (c .minus .ok) ∙ c .minus .ensures ∙ ap readCode e, (c .before .before .before .before .before .before .read-page .ensures .1, ap lineCode e))
+    (returned (c .minus .result) (c .minus .ok) ∙ c .minus .ensures ∙ ap readCode e, (c .before .before .before .before .before .before .read-page .ensures .1, ap lineTold e))
 
 same-length-2 : tie.Need-same-length-2
 same-length-2 c = search needs
@@ -65,7 +65,7 @@ same-length-2 c = search needs
 returns-2 : tie.Need-returns-2
 returns-2 c =
     let e = read-as c in
-    (toZ-pos w32 {n = c .before .answer2 .given .0 .0} (omega (arith, used-short c)) ∙ ap readCode e, (c .before .before .before .before .before .read-page .ensures .1, ap lineCode e))
+    (toZ-pos w32 {n = c .before .answer2 .given .0 .0} (omega (arith, used-short c)) ∙ ap readCode e, (c .before .before .before .before .before .read-page .ensures .1, ap lineTold e))
 
 pub simjorad-read-spec : {M : Type 1} → statement M
 simjorad-read-spec =

@@ -7,7 +7,7 @@ use native.Mathlib.Omega.{arith}
 use lib.ListN.{getD, drop}
 use Rattle.semantics.specs.Page.{query}
 use Rattle.semantics.specs.Text.{readingIn}
-use Rattle.fields.specs.Cursor.{Within, fieldsAt}
+use Rattle.fields.specs.Cursor.{InText, fieldsAt}
 use Rattle.fields.proofs.Places.{byte-here}
 use Rattle.fields.proofs.Letters.{LetterThen, plain, letter-next, letter-here, letter-gone}
 use Rattle.fields.proofs.Tokens.{NumberLast, number-last, no-number-last, newline-class}
@@ -27,7 +27,7 @@ byte-two c = byte-here (c .before .before .before .args .bytes .now) (c .before 
 a-reading : (c : tie.Else2) → readingAt (getD (c .before .before .before .before .before .before .args .bytes .now) (c .before .before .before .before .before .before .args .at + 2) 0) ≡ 2 → ⊥
 a-reading c e = c .if2 .left (c .before .reading-code .ensures ∙ e)
 
-reading-next : (c : tie.Else2) → Within (c .before .before .before .before .before .before .args .bytes .now) (c .before .before .before .before .before .before .args .at + 2 + 1)
+reading-next : (c : tie.Else2) → InText (c .before .before .before .before .before .before .args .bytes .now) (c .before .before .before .before .before .before .args .at + 2 + 1)
 reading-next c =
     let r = getD (c .before .before .before .before .before .before .args .bytes .now) (c .before .before .before .before .before .before .args .at + 2) 0 in
     letter-next (c .before .before .before .before .before .before .args .bytes .now) (c .before .before .before .before .before .before .args .at + 2) (the-letter (c .before .before .before) .place) (sym (byte-two (c .before .before .before))) (reading-plain r (a-reading c))
