@@ -5,7 +5,7 @@ ghost use lib.ListN.{length, take, drop};
 ghost use Rattle.semantics.specs.ReadPage.{readOf, lineOf, startOf};
 ghost use Rattle.semantics.specs.Operation.{openOf, evaluateOf, driveOf, valueOf, ClosedOf, driveWorkspace, closedWorkspace};
 ghost use Rattle.run.specs.Answers.{statusIf, driveAnswerOf};
-ghost use Rattle.closed.specs.Answer.{closedRefusal};
+ghost use Rattle.closed.specs.Answer.{refusalTold};
 ghost use Rattle.capi.specs.Codes.{minus as Codes·minus, statusCode, answerCode, takenOr, intervalOr, openCode, countsOr, readCode, lineTold, closedCode, closedRefusal};
 use closed::ClosedAnswer;
 use run::DriveAnswer;
@@ -182,7 +182,7 @@ pub extern "C" fn simjorad_value(
 
 // What a closed reading answers: 0, or minus a refusal.
 fn closed_code(answer: ClosedAnswer) -> i32
-    ensures { λ r. ⌜ r ≡ closedCode (closedRefusal answer) ⌝ }
+    ensures { λ r. ⌜ r ≡ closedCode (refusalTold answer) ⌝ }
 {
     match answer {
         ClosedAnswer::Refused(k) => minus(k),

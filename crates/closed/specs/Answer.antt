@@ -12,9 +12,9 @@ use Rattle.closed.specs.declared.ClosedAnswer.{ClosedAnswer}
 use Rattle.closed.specs.declared.ClosedAnswer.the-variants.{Refused, Done}
 
 -- the number of a refusal, or none where the call did its work
-abbrev pub closedRefusal : ClosedAnswer → Option ℕ
-closedRefusal (Refused k) = some k
-closedRefusal Done = none
+abbrev pub refusalTold : ClosedAnswer → Option ℕ
+refusalTold (Refused k) = some k
+refusalTold Done = none
 
 -- the answer is the first cause that holds, or none
 pub record FirstCause (answer : Option ℕ) (a qs s w : List ℕ) : Type 0 where

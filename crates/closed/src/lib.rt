@@ -8,7 +8,7 @@ ghost use Rattle.semantics.specs.Operation.{ends, indexLength, usedWorkspace, c
 ghost use Rattle.settle.specs.Scratch.{held};
 ghost use Rattle.settle.specs.Waiting.{MaybeIndex};
 ghost use Rattle.closed.specs.Solving.{Begun, SolveReady, Solved};
-ghost use Rattle.closed.specs.Answer.{closedRefusal, FirstCause, AnswersWritten};
+ghost use Rattle.closed.specs.Answer.{refusalTold, FirstCause, AnswersWritten};
 
 // The low ends are 0, and the reached conditions are marked.
 fn begin(scratch: &mut [u16], n: u16, marks: &[bool])
@@ -58,7 +58,7 @@ pub enum ClosedAnswer {
 
 // The first cause of a refusal, if there is one.
 fn refusal(page: &[u16], queries: &[u16], scratch: &[u16], answers: &[u16]) -> ClosedAnswer
-    ensures { λ r. ⌜ FirstCause (closedRefusal r) (now (page .entry)) (now (queries .entry)) (now (scratch .entry)) (now (answers .entry)) ⌝ }
+    ensures { λ r. ⌜ FirstCause (refusalTold r) (now (page .entry)) (now (queries .entry)) (now (scratch .entry)) (now (answers .entry)) ⌝ }
 {
     if !page::page_sound(page) {
         return ClosedAnswer::Refused(10);
@@ -96,7 +96,7 @@ pub fn closed_reading(
     scratch: &mut [u16],
     answers: &mut [u16],
 ) -> ClosedAnswer
-    ensures { λ r. ⌜ ClosedOf (closedRefusal r) (now (page .entry)) (now (queries .entry)) (now (scratch .entry)) (now (answers .entry)) (now (scratch .exit)) (now (answers .exit)) ⌝ }
+    ensures { λ r. ⌜ ClosedOf (refusalTold r) (now (page .entry)) (now (queries .entry)) (now (scratch .entry)) (now (answers .entry)) (now (scratch .exit)) (now (answers .exit)) ⌝ }
 {
     let refused = refusal(page, queries, scratch, answers);
     if let ClosedAnswer::Refused(k) = refused {
@@ -143,7 +143,7 @@ pub fn closed_indexed(
     answers: &mut [u16],
     workspace: &mut [u16],
 ) -> ClosedAnswer
-    ensures { λ r. ⌜ ClosedOf (closedRefusal r) (now (page .entry)) (now (queries .entry)) (now (scratch .entry)) (now (answers .entry)) (now (scratch .exit)) (now (answers .exit)) × (now (workspace .exit) ≡ closedWorkspace (now (page .entry)) (now (queries .entry)) (now (scratch .entry)) (now (answers .entry)) (now (workspace .entry))) ⌝ }
+    ensures { λ r. ⌜ ClosedOf (refusalTold r) (now (page .entry)) (now (queries .entry)) (now (scratch .entry)) (now (answers .entry)) (now (scratch .exit)) (now (answers .exit)) × (now (workspace .exit) ≡ closedWorkspace (now (page .entry)) (now (queries .entry)) (now (scratch .entry)) (now (answers .entry)) (now (workspace .entry))) ⌝ }
 {
     let refused = refusal(page, queries, scratch, answers);
     if let ClosedAnswer::Refused(k) = refused {
