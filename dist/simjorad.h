@@ -1,21 +1,45 @@
 /*
- * simjorad.h: the rule-page engine, for the controller of the arm processor.
+ * simjorad.h: the rule-page engine, for the controller of the arm processor. The rules are in docs/RULES.md.
  *
- * C99, nothing needed but stdint and stddef. Compile simjorad.c (dist/) with your program, or link with libcapi.a on x86-64: both ask the
- * host for memcpy and memset only.
+ * Target. The header is C99 and needs stdint and stddef only. Compile simjorad.c (dist/) with your program, on any processor, or link with
+ * libcapi.a on x86-64 (Linux, System V calls): both ask the host for memcpy and memset only.
  *
- * A slice is a pointer and a count of ELEMENTS (not bytes). NULL with a count of 0 is a legal empty slice.
- * A call returns a result of 0 or more, or minus the number of its refusal. A refused call changes nothing
- * that was lent to it, and no out-parameter but the line of simjorad_read. No call keeps anything between calls, allocates or blocks.
+ * Slices. A slice is a pointer and a count of ELEMENTS (not bytes). NULL with a count of 0 is a legal empty slice. Numbers of an area are
+ * uint16_t as the processor has them: aligned for uint16_t, in its own byte order, so an area does not travel to a machine with
+ * another order. A slice that is const is only read: it may lie in read-only memory, and const slices may overlap (a query list may
+ * lie inside the page area). A slice that a call writes, and each out-parameter, must share no number with another slice or
+ * out-parameter of that call; this duty of the caller and these declarations are all that no proof covers.
+ *
+ * Results. A call returns a result of 0 or more, or minus the number of its refusal. A refused call changes nothing that was lent to
+ * it and no out-parameter, with one exception: *line of simjorad_read is set by every call. Out-parameters must not be NULL.
+ *
+ * Calls. No call keeps anything between calls, allocates or blocks. Calls on different areas may run at the same time. On one run
+ * area make one call at a time: there is no lock. A page area may be read by several calls at once.
+ *
+ * Runs. A run belongs to the page area that it was opened on. Give it to no other: its numbers would be taken for those of the other
+ * page, and only what is not sound is refused. A fact may be changed in place in a page area (low <= high <= top); that voids every run
+ * opened on it, and whatever was permitted on them: open again.
+ *
+ * Allowance. No run takes more evaluations than the bound that its opening returned. Pass that bound, or less, as the allowance of a
+ * drive, not the largest number: on a run area that was damaged or belongs to another page, and is sound by chance, a drive may
+ * never come to rest.
+ *
+ * Cost. Every call that is lent a page area first scans it, and a run area too, to see that they are sound. Then:
+ *   read             two passes over the text
+ *   show_line        one pass over the text, up to the line
+ *   open             one scan of the page for each reached condition
+ *   evaluate         a scan of the page for the lines of the condition, and one for its dependants if it changed
+ *   drive            as evaluate, for each evaluation; the areas are checked once
+ *   drive_indexed    an index is built by a few scans; then each evaluation looks at the lines of the condition and at its dependants only
+ *   value            no more than the check
+ *   closed           scans of the page until nothing changes, which can be many
+ *   closed_indexed   an index, then only the lines of what waits
  *
  * simjorad_drive_indexed and simjorad_closed_indexed give the same answers and the same areas as simjorad_drive and
  * simjorad_closed. They are lent one more slice, a workspace, for an index of the page's lines: with room for it they take
  * fewer steps, without room they go through the lines as the other two do. Building the index takes about as long as a few evaluations,
  * so a drive of a few evaluations is faster without it. A workspace holds nothing between calls: its content before a call
  * does not matter, and one workspace may serve every page.
- *
- * What no proof covers: these declarations, and the caller's duty that a slice which a call writes
- * (and each out-parameter) shares no number with another slice or out-parameter lent to that call.
  */
 #ifndef SIMJORAD_H
 #define SIMJORAD_H
@@ -26,6 +50,30 @@
 #ifdef __cplusplus
 extern "C" {
 #endif
+
+/*
+ * SIMJORAD_VERSION is raised whenever a number, a length, a call or its meaning changes in this header (the figures of stack are
+ * measurements and do not count). SIMJORAD_LAYOUT is raised whenever the layout of a page area or a run area changes: an area that was
+ * kept under another layout must be read or opened again.
+ */
+#define SIMJORAD_VERSION 1
+#define SIMJORAD_LAYOUT 1
+
+/*
+ * Layout 1.
+ *
+ * Page area: top, C, count of lines after the first, used length (these four counted in it); then the lines in page order:
+ *   fact     condition, 0, low, high
+ *   rule     condition, kind, weight, n, then n literals; kinds 1 to 5 are M, X, L, B, P; a literal is 2 * condition, plus 1 if negated
+ *   query    condition, 6, 0 for K or 1 for W, 0
+ * It is sound if it is at least as long as its four head numbers and its used length, every field is in range, no fact has low
+ * above high, it has at most SIMJORAD_LINES_MAX lines and they fill exactly the used length.
+ *
+ * Run area: low, high, mark for each condition in turn. Mark 0 is not reached, 1 reached, 2 reached and waiting. It is sound if
+ * low <= high <= top, marks are 0 to 2, and a condition with mark 0 holds 0 and top.
+ *
+ * Numbers past these parts are neither read nor written.
+ */
 
 /* Limits. */
 #define SIMJORAD_TOP_MAX 200          /* the greatest grade of a page */
@@ -52,13 +100,13 @@ extern "C" {
  */
 #define SIMJORAD_STACK_READ 384
 #define SIMJORAD_STACK_SHOW_LINE 64
-#define SIMJORAD_STACK_OPEN 1920
+#define SIMJORAD_STACK_OPEN 1280
 #define SIMJORAD_STACK_EVALUATE 1472
 #define SIMJORAD_STACK_DRIVE 1600
 #define SIMJORAD_STACK_DRIVE_INDEXED 1664
-#define SIMJORAD_STACK_VALUE 128
-#define SIMJORAD_STACK_CLOSED 1920
-#define SIMJORAD_STACK_CLOSED_INDEXED 1984
+#define SIMJORAD_STACK_VALUE 192
+#define SIMJORAD_STACK_CLOSED 1280
+#define SIMJORAD_STACK_CLOSED_INDEXED 1344
 
 /* Refusals, each with its cause. */
 #define SIMJORAD_TEXT_TOO_LONG 1      /* more than 65,535 bytes */
@@ -80,8 +128,8 @@ extern "C" {
 
 /*
  * Read a page: the text becomes a page area. Returns the used length (4 or more), or minus 1, 2, 5, 3, 4 or 6.
- * On refusal *line becomes the line's number from 1 for 3, 4 and 5, and 0 for 1, 2 and 6; a page that is read leaves 0 there.
- * Writes the used length of area, and nothing of it on refusal.
+ * Sets *line, also on refusal: to the line's number for 3, 4 and 5 (lines count from 1, and the G line is 1), and to 0 for 1, 2 and 6 and for
+ * a page that is read. Writes the used length of area, and nothing of it on refusal.
  */
 int32_t simjorad_read(const uint8_t *text, size_t text_length, uint16_t *area, size_t area_length, uint32_t *line);
 
@@ -92,15 +140,15 @@ int32_t simjorad_read(const uint8_t *text, size_t text_length, uint16_t *area, s
 size_t simjorad_show_line(const uint8_t *text, size_t text_length, size_t number, size_t *start);
 
 /*
- * Open a run. Returns 0, or minus 10, 11, 12 or 13. Sets *reached to R, *edges to E and *bound to R + top * E.
- * Writes the first 3 * C numbers of run.
+ * Open a run. Returns 0, or minus 10, 11, 12 or 13. Sets *reached to R, *edges to E and *bound to R + top * E, which no run on this
+ * opening ever takes more evaluations than. Writes the first 3 * C numbers of run. Repeated queries are allowed.
  */
 int32_t simjorad_open(const uint16_t *page, size_t page_length, const uint16_t *queries, size_t queries_length,
                       uint16_t *run, size_t run_length, uint32_t *reached, uint32_t *edges, uint32_t *bound);
 
 /*
- * Evaluate a condition that waits. Returns 1 if its interval changed, 0 if not, or minus 10, 14, 15 or 16.
- * Writes among the first 3 * C numbers of run.
+ * Evaluate a condition that waits. Returns 1 if its interval changed, 0 if not, or minus 10, 14, 15 or 16. That it does not wait (16)
+ * is no fault: it is up to date. Writes among the first 3 * C numbers of run.
  */
 int32_t simjorad_evaluate(const uint16_t *page, size_t page_length, uint16_t *run, size_t run_length, uint32_t condition);
 
@@ -122,7 +170,7 @@ int32_t simjorad_drive_indexed(const uint16_t *page, size_t page_length, uint16_
 
 /*
  * Value: the interval that a reached condition holds. Returns 1 if the whole run is at rest, 0 if not,
- * or minus 10, 14, 15 or 17. Sets *low and *high.
+ * or minus 10, 14, 15 or 17. Sets *low and *high. On a run that is not at rest the low end may still rise and the high end fall.
  */
 int32_t simjorad_value(const uint16_t *page, size_t page_length, const uint16_t *run, size_t run_length, uint32_t condition,
                        uint16_t *low, uint16_t *high);
