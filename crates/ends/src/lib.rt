@@ -9,13 +9,14 @@ ghost use Rattle.semantics.specs.Grade.{Op, lower, upper, combine};
 ghost use Rattle.semantics.specs.RunArea.{intervalAt};
 ghost use Rattle.page.specs.Graded.{Graded, RuleAt};
 ghost use Rattle.page.specs.Places.{LineOf};
-ghost use Rattle.value.specs.Table.{EndTable};
+ghost use Rattle.value.specs.Table.{side, Grades, EndTable};
 ghost use Rattle.value.specs.LineEnds.{Folded, RuleEnd, LineEnd};
 ghost use Rattle.ends.specs.Mirror.{flip, mirrored, Mirrored, BothFoldable};
 use value::End;
 use value::Ends;
-use value::combine;
 use value::divided;
+use value::maximum;
+use value::minimum;
 
 // The low end of every literal at the intervals held.
 pub fn fill(run: &[u16], n: u16, top: u16, values: &mut [u8])
@@ -48,6 +49,20 @@ fn high_of(values: &[u8], code: u16, top: u16) -> u16
 {
     let at = (code ^ 1) as usize;
     top - values[at] as u16
+}
+
+// What the op of the kind k makes of two grades, at one end: 1 to 5 are M, X, L, B, P.
+fn combine(k: u16, p: u16, q: u16, top: u16, end: End) -> u16
+    requires { ⌜ (1 ≤ k) × (k ≤ 5) × (1 ≤ top) × (top ≤ 200) × (p ≤ top) × (q ≤ top) ⌝ }
+    ensures { λ r. ⌜ ((op : Op) → kind k ≡ ruleKind op → r ≡ combine top op (side end) p q) ⌝ }
+{
+    match k {
+        1 => minimum(p, q),
+        2 => maximum(p, q),
+        3 => maximum(p + q, top) - top,
+        4 => minimum(p + q, top),
+        _ => divided(p * q, top, end),
+    }
 }
 
 // The op of the kind k over the ends of literals, from left to right.

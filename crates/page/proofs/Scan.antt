@@ -1,21 +1,21 @@
 -- What the soundness of an area says of the numbers from a place on, in the code's own terms: literals, kinds, one entry, the entries
 -- still to come, and the head. Assumes nothing.
-use mathlib.Core.Path.{_≡_, refl, sym, _∙_, ap, ap₂}
+use mathlib.Core.Path.{_≡_, refl, sym, _∙_, ap}
 use mathlib.Core.Logic.{_⊎_, inl, inr, ⊎-elim}
 use mathlib.Core.Bool.{Bool, true, false, _&&_, and-true, and-false, false≢true}
 use mathlib.Core.List.{List, [], _∷_}
 use Prim.Native.Nat.{ℕ, zero, suc, _+_, _*_, _-_, _≤_, _<_}
 use native.Mathlib.Numerals.{add-one}
-use native.Mathlib.Decide.{ℕ-discrete, decLe}
+use native.Mathlib.Decide.{ℕ-discrete}
 use native.Mathlib.Omega.{arith}
-use lib.Dec.{eqb, ltb, leb}
+use lib.Dec.{eqb, leb}
 use lib.ListN.{length, getD, take, drop, List·getD-eq-default}
 use lib.Seq.{getD-drop, drop-drop, drop-cons}
-use borrow.Author.Tests.{le-leb, lt-leb, lt-ltb, le-ltb, eq-eqb, ne-eqb, leb-true, ltb-true, eqb-true, eqb-false}
+use borrow.Author.Tests.{le-leb, lt-leb, lt-ltb, le-ltb, eq-eqb, ne-eqb, leb-true, leb-false, ltb-true, eqb-true, eqb-false}
 use Rattle.semantics.specs.Area.{Kind, factKind, ruleKind, queryKind, noKind, kind, spanAs, span, lineAs, lineAt, every, allUnder, fieldTests, lineTests, linesOk, headTests, sound, topOf, conditionsOf, countOf, usedOf}
 use Rattle.semantics.specs.Grade.{Op, M, X, L, B, P}
 use Rattle.semantics.proofs.Soundness.{every-true, both-true}
-use Rattle.page.specs.Lines.{stepAt, EntryIn, literalsAs, literalsHere, fieldsOk, entryOk, EntryLooked, RuleLooked}
+use Rattle.page.specs.Lines.{stepAt, EntryIn}
 
 -- r numbers from x on: the first of them, and those behind it
 pub part-cons : (a : List ℕ) (x r : ℕ) → x < length a → 0 < r → take r (drop x a) ≡ getD a x 0 ∷ take (r - 1) (drop (x + 1) a)
@@ -55,8 +55,16 @@ pub under-none : (a : List ℕ) (limit r : ℕ) → r ≡ 0 → allUnder limit (
 unfolding allUnder
 under-none a limit r e = rw e
 
-pub under-next : (a : List ℕ) (from m limit : ℕ) {j : ℕ} → Remaining (allUnder limit) a from m j → j < m → getD a (from + j) 0 < limit → Remaining (allUnder limit) a from m (j + 1)
-under-next a from m limit {j} s l h = remaining-next (allUnder limit) a from m s l (under-ok a (from + j) limit (omega (arith, s .in-area)) (m - j) (omega arith) h)
+-- the scan of literals: all m lie under the limit exactly when it ends at m
+module _ (a : List ℕ) (from m limit : ℕ) {j : ℕ} (s : Remaining (allUnder limit) a from m j) where
+  pub under-next : j < m → getD a (from + j) 0 < limit → Remaining (allUnder limit) a from m (j + 1)
+  under-next l h = remaining-next (allUnder limit) a from m s l (under-ok a (from + j) limit (omega arith) (m - j) (omega arith) h)
+
+  pub under-break : j < m → limit ≤ getD a (from + j) 0 → eqb j m ≡ allUnder limit (take m (drop from a))
+  under-break l h = ne-eqb j m (λ e. omega arith) ∙ sym (s .is ∙ under-bad a (from + j) limit (omega arith) (m - j) (omega arith) h)
+
+  pub under-last : m ≤ j → eqb j m ≡ allUnder limit (take m (drop from a))
+  under-last h = eq-eqb j m (omega arith) ∙ sym (s .is ∙ under-none (drop (from + j) a) limit (m - j) (omega arith))
 
 -- the kinds: 0 a fact, 1 to 5 a rule, 6 a query, no other
 pub rule-kind : (k : ℕ) → 1 ≤ k → k ≤ 5 → (op : Op) × (kind k ≡ ruleKind op)
@@ -110,39 +118,45 @@ every-fails [] i e = absurd (false≢true (sym e))
 every-fails (t ∷ ts) zero e = rw e
 every-fails (t ∷ ts) (suc i) e = rw (every-fails ts i e, and-false t)
 
--- an entry takes its four numbers and its literals
-pub span-literals : (t : Kind) (y : ℕ) → spanAs t y ≡ 4 + literalsAs t y
-span-literals factKind y = refl
-span-literals (ruleKind op) y = refl
-span-literals queryKind y = refl
-span-literals noKind y = refl
+-- the fields of a rule: the first four tests, and then its literals
+module _ (top n x y : ℕ) (lits : List ℕ) where
+  abbrev rule-tests : List Bool
+  rule-tests = fieldTests top n (ruleKind M) x y lits
 
--- the numbers of an entry, by its kind
-module _ (top k x y : ℕ) where
-  abbrev ok : Bool
-  ok = fieldsOk top (kind k) x y
+  pub rule-fails : (i : ℕ) → getD rule-tests i true ≡ false → every rule-tests ≡ false
+  rule-fails = every-fails rule-tests
 
-  pub fact-fails : k ≡ 0 → y < x → ok ≡ false
-  fact-fails e l = rw (fact-kind k e, lt-leb x y l)
+  pub literals-decide : {r : Bool} → 1 ≤ x → x ≤ top → 1 ≤ y → y ≤ 8 → r ≡ allUnder (2 * n) lits → r ≡ every rule-tests
+  literals-decide a b c d e = rw (le-leb 1 x a, le-leb x top b, le-leb 1 y c, le-leb y 8 d, and-true (allUnder (2 * n) lits)) e
 
-  pub fact-decides : k ≡ 0 → x ≤ y → leb y top ≡ ok
-  fact-decides e l = rw (fact-kind k e, le-leb x y l)
+-- the fields of an entry, by its kind
+module _ (top n k x y : ℕ) (lits : List ℕ) where
+  pub fields-fact : k ≡ 0 → every (fieldTests top n (kind k) x y lits) ≡ (leb x y && (leb y top && true))
+  fields-fact e = rw (fact-kind k e)
 
-  pub rule-decides : {r : Bool} → 1 ≤ k → k ≤ 5 → r ≡ fieldsOk top (ruleKind M) x y → r ≡ ok
-  rule-decides l h e = e ∙ sym (rw (rule-kind k l h .1))
+  pub fact-fails : k ≡ 0 → y < x → every (fieldTests top n (kind k) x y lits) ≡ false
+  fact-fails e l = fields-fact e ∙ rw (lt-leb x y l)
 
-  pub query-fails : k ≡ 6 → 1 < x → ok ≡ false
-  query-fails e l = rw (query-kind k e, lt-leb x 1 l)
+  pub fact-decides : k ≡ 0 → x ≤ y → leb y top ≡ every (fieldTests top n (kind k) x y lits)
+  fact-decides e l = sym (fields-fact e ∙ rw (le-leb x y l, and-true (leb y top)))
 
-  pub query-decides : k ≡ 6 → x ≤ 1 → eqb y 0 ≡ ok
-  query-decides e l = rw (query-kind k e, le-leb x 1 l)
+  pub fields-rule : 1 ≤ k → k ≤ 5 → every (fieldTests top n (kind k) x y lits) ≡ every (fieldTests top n (ruleKind M) x y lits)
+  fields-rule l h = rw (rule-kind k l h .1)
 
-  pub none-decides : 6 < k → ok ≡ false
-  none-decides l = rw (other-kind k l)
+  pub rule-decides : {r : Bool} → 1 ≤ k → k ≤ 5 → r ≡ every (fieldTests top n (ruleKind M) x y lits) → r ≡ every (fieldTests top n (kind k) x y lits)
+  rule-decides l h e = e ∙ sym (fields-rule l h)
 
--- an entry of no kind has no sound fields
-pub fields-none : (top n k x y : ℕ) (lits : List ℕ) → 6 < k → every (fieldTests top n (kind k) x y lits) ≡ false
-fields-none top n k x y lits l = rw (other-kind k l)
+  pub fields-query : k ≡ 6 → every (fieldTests top n (kind k) x y lits) ≡ (leb x 1 && (eqb y 0 && true))
+  fields-query e = rw (query-kind k e)
+
+  pub query-fails : k ≡ 6 → 1 < x → every (fieldTests top n (kind k) x y lits) ≡ false
+  query-fails e l = fields-query e ∙ rw (lt-leb x 1 l)
+
+  pub query-decides : k ≡ 6 → x ≤ 1 → eqb y 0 ≡ every (fieldTests top n (kind k) x y lits)
+  query-decides e l = sym (fields-query e ∙ rw (le-leb x 1 l, and-true (eqb y 0)))
+
+  pub fields-none : 6 < k → every (fieldTests top n (kind k) x y lits) ≡ false
+  fields-none l = rw (other-kind k l)
 
 -- the line at a place
 module _ (a : List ℕ) (at : ℕ) where
@@ -153,120 +167,66 @@ module _ (a : List ℕ) (at : ℕ) where
       ≡ lineAs (kind (getD a (at + 1) 0)) (getD a at 0) (getD a (at + 2) 0) (getD a (at + 3) 0) (take (getD a (at + 3) 0) (drop (at + 4) a))
   line-at = rw (first-here, getD-drop at a 1 0, getD-drop at a 2 0, getD-drop at a 3 0, drop-drop 4 at a)
 
--- the tests of the entry at a place, its literals apart
+pub span-short : (k y : ℕ) → (1 ≤ k → 6 ≤ k) → spanAs (kind k) y ≡ 4
+span-short k y f =
+    elim (ℕ-discrete k 0) [
+      | yes e ↦ span-none k y (omega arith)
+      | no e ↦ span-over k y (omega (arith, f (omega arith)))
+    ]
+
+-- the tests of the entry at a place
 module _ (top n left : ℕ) (a : List ℕ) (at : ℕ) where
   abbrev tests : Bool
-  tests = entryOk top n left (drop at a)
+  tests = every (lineTests top n left (drop at a))
 
   pub span-at : span (drop at a) ≡ spanAs (kind (getD a (at + 1) 0)) (getD a (at + 3) 0)
   unfolding span
   span-at = rw (getD-drop at a 1 0, getD-drop at a 3 0)
 
-  pub entry-spans : tests ≡ true → spanAs (kind (getD a (at + 1) 0)) (getD a (at + 3) 0) ≤ left
-  entry-spans e = omega (arith, span-at, leb-true (span (drop at a)) left (both-true (leb (span (drop at a)) left) _ e .0))
+  pub entry-short : left < 4 → tests ≡ false
+  entry-short l = rw (lt-leb (span (drop at a)) left (omega (arith, span-at, span-four (kind (getD a (at + 1) 0)) (getD a (at + 3) 0))))
 
--- what a look at an entry tells
-module _ (top n used : ℕ) (a : List ℕ) (at : ℕ) (l : at ≤ used) where
-  pub looked-short : used < at + 4 → {m : ℕ} {r : Bool} → r ≡ false → EntryLooked top n used a at r m
-  looked-short h e =
-      record {
-        passes = e ∙ sym (rw (lt-leb (span (drop at a)) (used - at) (omega (arith, span-at top n (used - at) a at, span-four (kind (getD a (at + 1) 0)) (getD a (at + 3) 0)))));
-        literals = λ t. absurd (false≢true (sym e ∙ t));
-      }
+  pub entry-long : left < spanAs (kind (getD a (at + 1) 0)) (getD a (at + 3) 0) → tests ≡ false
+  entry-long l = rw (lt-leb (span (drop at a)) left (omega (arith, span-at)))
 
-  pub looked-high : n ≤ getD a at 0 → {m : ℕ} {r : Bool} → r ≡ false → EntryLooked top n used a at r m
-  looked-high h e =
-      record {
-        passes = e ∙ sym (rw (le-ltb (getD (drop at a) 0 0) n (omega (arith, first-here a at)), and-false (leb (span (drop at a)) (used - at))));
-        literals = λ t. absurd (false≢true (sym e ∙ t));
-      }
+  pub entry-high : n ≤ getD a at 0 → tests ≡ false
+  entry-high h = every-fails (lineTests top n left (drop at a)) 1 (le-ltb (getD (drop at a) 0 0) n (omega (arith, first-here a at)))
 
-  module _ (below : getD a at 0 < n) where
-    -- by the span and the numbers
-    by-fields : entryOk top n (used - at) (drop at a)
-        ≡ (leb (spanAs (kind (getD a (at + 1) 0)) (getD a (at + 3) 0)) (used - at) && fieldsOk top (kind (getD a (at + 1) 0)) (getD a (at + 2) 0) (getD a (at + 3) 0))
-    by-fields =
-        rw (lt-ltb (getD (drop at a) 0 0) n (omega (arith, first-here a at)), span-at top n (used - at) a at, getD-drop at a 1 0, getD-drop at a 2 0, getD-drop at a 3 0)
+  module _ (fits : spanAs (kind (getD a (at + 1) 0)) (getD a (at + 3) 0) ≤ left) where
+    pub entry-fields : getD a at 0 < n
+        → tests ≡ every (fieldTests top n (kind (getD a (at + 1) 0)) (getD a (at + 2) 0) (getD a (at + 3) 0) (take (getD a (at + 3) 0) (drop (at + 4) a)))
+    entry-fields h =
+        rw (
+          le-leb (span (drop at a)) left (omega (arith, span-at)),
+          lt-ltb (getD (drop at a) 0 0) n (omega (arith, first-here a at)),
+          getD-drop at a 1 0,
+          getD-drop at a 2 0,
+          getD-drop at a 3 0,
+          drop-drop 4 at a,
+        )
 
-    pub looked-plain : at + 4 ≤ used → (getD a (at + 1) 0 < 1) ⊎ (5 < getD a (at + 1) 0) → {r : Bool}
-        → r ≡ fieldsOk top (kind (getD a (at + 1) 0)) (getD a (at + 2) 0) (getD a (at + 3) 0) → EntryLooked top n used a at r 0
-    looked-plain h k e =
-        let four : spanAs (kind (getD a (at + 1) 0)) (getD a (at + 3) 0) ≡ 4 = ⊎-elim (λ q. span-none _ _ q) (λ q. span-over _ _ q) k in
-        record {
-          passes = e ∙ sym (by-fields ∙ rw (le-leb (spanAs (kind (getD a (at + 1) 0)) (getD a (at + 3) 0)) (used - at) (omega (arith, four))));
-          literals = λ t. omega (arith, four, span-literals (kind (getD a (at + 1) 0)) (getD a (at + 3) 0));
-        }
+    pub fields-decide : {r : Bool} → getD a at 0 < n
+        → r ≡ every (fieldTests top n (kind (getD a (at + 1) 0)) (getD a (at + 2) 0) (getD a (at + 3) 0) (take (getD a (at + 3) 0) (drop (at + 4) a))) → r ≡ tests
+    fields-decide h e = e ∙ sym (entry-fields h)
 
-    pub looked-rule : 1 ≤ getD a (at + 1) 0 → getD a (at + 1) 0 ≤ 5 → {m : ℕ} {r : Bool} → RuleLooked top used a at r m → EntryLooked top n used a at r m
-    looked-rule lo hi s =
-        let y = getD a (at + 3) 0 in
-        let q = rule-kind (getD a (at + 1) 0) lo hi .1 in
-        record {
-          passes = s .passes ∙ sym (by-fields ∙ rw q (ap (λ (b : Bool). b && fieldsOk top (ruleKind M) (getD a (at + 2) 0) y) (leb-shift y)));
-          literals = λ t. s .literals t ∙ sym (rw q);
-        }
-      where
-        leb-go : (b c d e : ℕ) → (b ≤ c → d ≤ e) → (d ≤ e → b ≤ c) → (t : Bool) → leb b c ≡ t → t ≡ leb d e
-        leb-go b c d e f g true h = sym (le-leb d e (f (leb-true b c h)))
-        leb-go b c d e f g false h = sym (elim (decLe d e) [
-          | yes w ↦ absurd (false≢true (sym h ∙ le-leb b c (g w)))
-          | no w ↦ lt-leb d e (omega (arith, w))
-        ])
+-- the entry at a place where the numbers end at `used`: a rule whose head is in range, and any other entry
+module _ (top n used : ℕ) (a : List ℕ) (at : ℕ) (o : at + 4 ≤ used) (b : getD a at 0 < n) {r : Bool} where
+  pub rule-entry : 1 ≤ getD a (at + 1) 0 → getD a (at + 1) 0 ≤ 5
+      → r ≡ (leb (at + 4 + getD a (at + 3) 0) used && every (fieldTests top n (ruleKind M) (getD a (at + 2) 0) (getD a (at + 3) 0) (take (getD a (at + 3) 0) (drop (at + 4) a))))
+      → r ≡ every (lineTests top n (used - at) (drop at a))
+  rule-entry l h e = go (leb (at + 4 + getD a (at + 3) 0) used) refl
+    where
+      z : spanAs (kind (getD a (at + 1) 0)) (getD a (at + 3) 0) ≡ 4 + getD a (at + 3) 0
+      z = span-rule (getD a (at + 1) 0) (getD a (at + 3) 0) l h
 
-        leb-shift : (y : ℕ) → leb (4 + y) (used - at) ≡ leb (at + 4 + y) used
-        leb-shift y = leb-go (4 + y) (used - at) (at + 4 + y) used (λ w. omega arith) (λ w. omega arith) (leb (4 + y) (used - at)) refl
+      go : (t : Bool) → leb (at + 4 + getD a (at + 3) 0) used ≡ t → r ≡ every (lineTests top n (used - at) (drop at a))
+      go true t = fields-decide top n (used - at) a at (omega (arith, leb-true (at + 4 + getD a (at + 3) 0) used t, z)) b (rule-decides top n (getD a (at + 1) 0) (getD a (at + 2) 0) (getD a (at + 3) 0) _ l h (rw t at e))
+      go false t = rw t at e ∙ sym (entry-long top n (used - at) a at (omega (arith, leb-false (at + 4 + getD a (at + 3) 0) used t, z)))
 
--- the tests of an entry: those of its numbers, and its literals
-and-assoc : (a b c : Bool) → (a && (b && c)) ≡ ((a && b) && c)
-and-assoc true b c = refl
-and-assoc false b c = refl
-
-numbers-out : (a b c d e : Bool) → (a && (b && (c && (d && (e && true))))) ≡ ((a && (b && c)) && (d && e))
-numbers-out false b c d e = refl
-numbers-out true false c d e = refl
-numbers-out true true false d e = refl
-numbers-out true true true d e = ap (λ (t : Bool). d && t) (and-true e)
-
-two-out : (a b : Bool) → (a && (b && true)) ≡ ((a && b) && true)
-two-out a b = and-assoc a b true
-
-fields-split : (top n : ℕ) (t : Kind) (x y : ℕ) (rest : List ℕ)
-    → every (fieldTests top n t x y (take y rest)) ≡ (fieldsOk top t x y && (leb (literalsAs t y) 8 && allUnder (2 * n) (take (literalsAs t y) rest)))
-unfolding allUnder
-fields-split top n factKind x y rest = two-out (leb x y) (leb y top)
-fields-split top n (ruleKind op) x y rest = numbers-out (leb 1 x) (leb x top) (leb 1 y) (leb y 8) (allUnder (2 * n) (take y rest))
-fields-split top n queryKind x y rest = two-out (leb x 1) (eqb y 0)
-fields-split top n noKind x y rest = refl
-
-pub entry-split : (top n left : ℕ) (a : List ℕ) (at : ℕ)
-    → every (lineTests top n left (drop at a))
-    ≡ (entryOk top n left (drop at a) && (leb (literalsHere a at) 8 && allUnder (2 * n) (take (literalsHere a at) (drop (at + 4) a))))
-entry-split top n left a at =
-    let p = drop at a in
-    let m = literalsAs (kind (getD p 1 0)) (getD p 3 0) in
-    let f = fieldsOk top (kind (getD p 1 0)) (getD p 2 0) (getD p 3 0) in
-    ap (λ (b : Bool). leb (span p) left && (ltb (getD p 0 0) n && b)) (fields-split top n (kind (getD p 1 0)) (getD p 2 0) (getD p 3 0) (drop 4 p))
-    ∙ ap (λ (b : Bool). leb (span p) left && b) (and-assoc (ltb (getD p 0 0) n) f (leb m 8 && allUnder (2 * n) (take m (drop 4 p))))
-    ∙ and-assoc (leb (span p) left) (ltb (getD p 0 0) n && f) (leb m 8 && allUnder (2 * n) (take m (drop 4 p)))
-    ∙ ap (λ (l : List ℕ). entryOk top n left p && (leb m 8 && allUnder (2 * n) (take m l))) (drop-drop 4 at a)
-    ∙ ap (λ (k : ℕ). entryOk top n left p && (leb k 8 && allUnder (2 * n) (take k (drop (at + 4) a)))) same
-  where
-    same : literalsAs (kind (getD (drop at a) 1 0)) (getD (drop at a) 3 0) ≡ literalsHere a at
-    same = rw (getD-drop at a 1 0, getD-drop at a 3 0)
-
--- the same for an entry that lies within what is left, its condition below C: the fields decide
-pub entry-fields : (top n left : ℕ) (a : List ℕ) (at : ℕ) → spanAs (kind (getD a (at + 1) 0)) (getD a (at + 3) 0) ≤ left → getD a at 0 < n
-    → every (lineTests top n left (drop at a))
-    ≡ every (fieldTests top n (kind (getD a (at + 1) 0)) (getD a (at + 2) 0) (getD a (at + 3) 0) (take (getD a (at + 3) 0) (drop (at + 4) a)))
-entry-fields top n left a at fits h =
-    rw (
-      le-leb (span (drop at a)) left (omega (arith, span-at top n left a at)),
-      lt-ltb (getD (drop at a) 0 0) n (omega (arith, first-here a at)),
-      getD-drop at a 1 0,
-      getD-drop at a 2 0,
-      getD-drop at a 3 0,
-      drop-drop 4 at a,
-    )
+  pub short-entry : (1 ≤ getD a (at + 1) 0 → 6 ≤ getD a (at + 1) 0)
+      → r ≡ every (fieldTests top n (kind (getD a (at + 1) 0)) (getD a (at + 2) 0) (getD a (at + 3) 0) (take (getD a (at + 3) 0) (drop (at + 4) a)))
+      → r ≡ every (lineTests top n (used - at) (drop at a))
+  short-entry f e = fields-decide top n (used - at) a at (omega (arith, span-short (getD a (at + 1) 0) (getD a (at + 3) 0) f)) b e
 
 -- an entry that passes its tests lies in the area, and its condition is below C
 pub entry-fits : (top n left : ℕ) (a : List ℕ) (at : ℕ) → every (lineTests top n left (drop at a)) ≡ true → spanAs (kind (getD a (at + 1) 0)) (getD a (at + 3) 0) ≤ left

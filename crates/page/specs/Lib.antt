@@ -5,3 +5,5 @@ pub mod Lines
 pub mod Places
 -- the body value, step by step
 pub mod Graded
+-- the check of one entry
+pub mod Checks

@@ -1,13 +1,14 @@
 // Code on raw page areas (document 01, "Areas"): a cursor over the lines, soundness, and which condition an R line names.
 ghost use mathlib.Core.Path.{_≡_};
 ghost use mathlib.Core.Bool.{false};
-ghost use mathlib.Core.List.{map};
-ghost use Prim.Native.Nat.{_≤_, _<_, _+_, _-_};
+ghost use mathlib.Core.List.{List, map};
+ghost use Prim.Native.Nat.{ℕ, _≤_, _<_, _+_, _-_};
 ghost use lib.ListN.{length, take, drop};
 ghost use Rattle.semantics.specs.Grade.{M};
 ghost use Rattle.semantics.specs.Page.{mentions};
-ghost use Rattle.semantics.specs.Area.{sound, linesOk, kind, spanAs, firstLine, ruleKind, literalOf, lineAt};
-ghost use Rattle.page.specs.Lines.{EntryIn, Next, fieldsOk, RuleLooked, EntryLooked, lineNames};
+ghost use Rattle.semantics.specs.Area.{sound, linesOk, lineTests, fieldTests, every, allUnder, kind, spanAs, firstLine, ruleKind, literalOf, lineAt};
+ghost use Rattle.page.specs.Lines.{EntryIn, Next, lineNames};
+ghost use Rattle.page.specs.Checks.{Passes, RulePasses};
 
 // How many numbers an entry of the kind k takes, with y as its fourth.
 pub fn span_of(k: u16, y: u16) -> usize
@@ -46,24 +47,25 @@ impl Cursor {
     }
 }
 
-// An entry that is looked at: whether its numbers are in range, its literals apart, and how many literals it has if they are.
-struct Entry {
-    ok: bool,
-    literals: u16,
-}
-
-fn bad_entry() -> Entry
-    ensures { λ r. ⌜ r .ok ≡ false ⌝ }
+// Whether the m literals from `from` on lie under the limit. The scan leaves at the first that does not.
+fn literals_ok(a: &[u16], from: usize, m: u16, limit: u16) -> bool
+    requires { ⌜ from + m ≤ length (now a) ⌝ }
+    ensures { λ r. ⌜ r ≡ allUnder limit (take m (drop from (now (a .entry)))) ⌝ }
 {
-    Entry {
-        ok: false,
-        literals: 0,
+    let mut j: u16 = 0;
+    'scan: while j < m {
+        if limit <= a[from + j as usize] {
+            break 'scan;
+        }
+        j += 1;
     }
+    j == m
 }
 
-// Whether the numbers of a rule are in range: weight x 1 to top, and at least one literal.
-fn rule_ok(x: u16, y: u16, top: u16) -> bool
-    ensures { λ r. ⌜ r ≡ fieldsOk top (ruleKind M) x y ⌝ }
+// Whether the fields of a rule are in range: weight x 1 to top, 1 to 8 literals, each of a condition below C, which is n.
+fn rule_ok(a: &[u16], from: usize, x: u16, y: u16, top: u16, n: u16) -> bool
+    requires { ⌜ (from + y ≤ length (now a)) × (n ≤ 512) ⌝ }
+    ensures { λ r. ⌜ r ≡ every (fieldTests top n (ruleKind M) x y (take y (drop from (now (a .entry))))) ⌝ }
 {
     if x < 1 {
         return false;
@@ -71,13 +73,19 @@ fn rule_ok(x: u16, y: u16, top: u16) -> bool
     if top < x {
         return false;
     }
-    1 <= y
+    if y < 1 {
+        return false;
+    }
+    if 8 < y {
+        return false;
+    }
+    literals_ok(a, from, y, 2 * n)
 }
 
-// Whether the numbers of an entry without literals are in range: 0 is a fact, 6 a query, and no other is a kind.
+// Whether the fields of an entry without literals are in range: 0 is a fact, 6 a query, and no other is a kind.
 fn short_ok(k: u16, x: u16, y: u16, top: u16) -> bool
     requires { ⌜ (1 ≤ k → 6 ≤ k) ⌝ }
-    ensures { λ r. ⌜ r ≡ fieldsOk top (kind k) x y ⌝ }
+    ensures { λ r. ⌜ ((n : ℕ) (codes : List ℕ) → r ≡ every (fieldTests top n (kind k) x y codes)) ⌝ }
 {
     match k {
         0 => {
@@ -96,73 +104,73 @@ fn short_ok(k: u16, x: u16, y: u16, top: u16) -> bool
     }
 }
 
-// The rule at `at`, which is to end at `used` or before.
-fn rule_entry(a: &[u16], at: usize, used: usize, top: u16) -> Entry
-    requires { ⌜ (at + 4 ≤ used) × (used ≤ length (now a)) ⌝ }
-    ensures { λ r. ⌜ RuleLooked top used (now (a .entry)) at (r .ok) (r .literals) ⌝ }
+// Whether an entry passes its tests, and the place behind it if it does.
+struct Passed {
+    passes: bool,
+    to: usize,
+}
+
+fn fails() -> Passed
+    ensures { λ r. ⌜ r .passes ≡ false ⌝ }
 {
-    let y = a[at + 3];
-    if used < at + 4 + y as usize {
-        return bad_entry();
-    }
-    Entry {
-        ok: rule_ok(a[at + 2], y, top),
-        literals: y,
+    Passed {
+        passes: false,
+        to: 0,
     }
 }
 
-// The entry at `at`, which is to end at `used` or before: 1 to 5 is a rule.
-fn entry_at(a: &[u16], at: usize, used: usize, top: u16, n: u16) -> Entry
-    requires { ⌜ (at ≤ used) × (used ≤ length (now a)) ⌝ }
-    ensures { λ r. ⌜ EntryLooked top n used (now (a .entry)) at (r .ok) (r .literals) ⌝ }
+// Whether the rule at `at` with y literals ends at `used` or before, with every field after its kind in range.
+fn rule_passes(a: &[u16], at: usize, used: usize, y: u16, top: u16, n: u16) -> Passed
+    requires { ⌜ (at + 4 ≤ used) × (used ≤ length (now a)) × (n ≤ 512) ⌝ }
+    ensures { λ r. ⌜ RulePasses top n (now (a .entry)) at used y (r .passes) (r .to) ⌝ }
+{
+    let to = at + 4 + y as usize;
+    if used < to {
+        return fails();
+    }
+    Passed {
+        passes: rule_ok(a, at + 4, a[at + 2], y, top, n),
+        to,
+    }
+}
+
+// Whether the entry at `at` ends at `used` or before, with every field in range: 1 to 5 is a rule.
+fn entry_passes(a: &[u16], at: usize, used: usize, top: u16, n: u16) -> Passed
+    requires { ⌜ (at ≤ used) × (used ≤ length (now a)) × (n ≤ 512) ⌝ }
+    ensures { λ r. ⌜ Passes top n (now (a .entry)) at used (r .passes) (r .to) ⌝ }
 {
     if used < at + 4 {
-        return bad_entry();
+        return fails();
     }
     if n <= a[at] {
-        return bad_entry();
+        return fails();
     }
     let k = a[at + 1];
+    let y = a[at + 3];
     match k {
-        1..=5 => rule_entry(a, at, used, top),
-        _ => Entry {
-            ok: short_ok(k, a[at + 2], a[at + 3], top),
-            literals: 0,
+        1..=5 => rule_passes(a, at, used, y, top, n),
+        _ => Passed {
+            passes: short_ok(k, a[at + 2], y, top),
+            to: at + 4,
         },
     }
 }
 
-// Whether the numbers from where the lines begin up to `used` are exactly `count` entries, each of them sound. The first literal that is
-// not below the limit ends the scan of the lines.
+// Whether the numbers from where the lines begin up to `used` are exactly `count` entries.
 fn lines_ok(a: &[u16], used: usize, count: u16, top: u16, n: u16) -> bool
     requires { ⌜ (used ≤ length (now a)) × (firstLine (now a) ≤ used) × (n ≤ 512) ⌝ }
     ensures { λ r. ⌜ r ≡ linesOk top n count (used - firstLine (now (a .entry))) (drop (firstLine (now (a .entry))) (now (a .entry))) ⌝ }
 {
     let mut line = Cursor::first(a);
-    'lines: while line.passed < count {
-        let at = line.at;
-        let entry = entry_at(a, at, used, top, n);
-        if !entry.ok {
+    while line.passed < count {
+        let entry = entry_passes(a, line.at, used, top, n);
+        if !entry.passes {
             return false;
-        }
-        let m = entry.literals;
-        if 8 < m {
-            return false;
-        }
-        let mut j: u16 = 0;
-        while j < m {
-            if 2 * n <= a[at + 4 + j as usize] {
-                break 'lines;
-            }
-            j += 1;
         }
         line = Cursor {
-            at: at + 4 + m as usize,
+            at: entry.to,
             passed: line.passed + 1,
         };
-    }
-    if line.passed < count {
-        return false;
     }
     line.at == used
 }

@@ -2,16 +2,15 @@
 -- Assumes nothing.
 use mathlib.Core.Path.{_≡_, refl, sym, _∙_, ap, subst}
 use mathlib.Core.List.{List, [], _∷_, foldl}
-use Prim.Native.Nat.{ℕ, suc, _+_, _*_, _-_, _≤_, _<_, min, max}
+use Prim.Native.Nat.{ℕ, suc, _+_, _-_, _≤_, _<_, min, max}
 use native.Mathlib.Numerals.{add-one}
 use native.Mathlib.Omega.{arith}
-use lib.ListN.{length, getD, drop, drop-of-length-le}
-use lib.Seq.{drop-cons}
+use lib.ListN.{length, getD, drop, drop-of-length-le, length-take, length-drop}
+use lib.Seq.{drop-cons, getD-take, getD-drop}
 use Rattle.semantics.specs.Area.{kind, ruleKind}
-use Rattle.semantics.specs.Grade.{End, Op, M, X, L, B, P, combine, divided}
+use Rattle.semantics.specs.Grade.{End, Op, M, X, L, B, P, combine}
 use Rattle.semantics.proofs.Ops.{combine-bounded}
-use Rattle.page.proofs.Scan.{rule-kind}
-use Rattle.value.specs.LineEnds.{numbersOf, Foldable, Folded}
+use Rattle.value.specs.LineEnds.{slice, numbersOf, Listed, Foldable, Folded, excess, bounded, product}
 
 module _ (f : ℕ → ℕ → ℕ) (codes values : List ℕ) (first : ℕ) where
   -- the state after j literals
@@ -28,6 +27,49 @@ module _ (f : ℕ → ℕ → ℕ) (codes values : List ℕ) (first : ℕ) where
   pub folding-last : {r j : ℕ} → Folding r j → length codes ≤ j → Folded f codes values first r
   folding-last {r} {j} s l = record { is = sym (s .is ∙ rw (drop-of-length-le codes l)) }
 
+-- the same over a part of a list, where the next literal stands at j
+module _ (f : ℕ → ℕ → ℕ) (a : List ℕ) (from to : ℕ) (values : List ℕ) (first : ℕ) where
+  pub record FoldingAt (r j : ℕ) : Type 0 where
+    pub begun : from ≤ j
+    pub within : j ≤ to
+    pub inside : to ≤ length a
+    pub folding : Folding f (slice a from to) values first r (j - from)
+
+  slice-length : to ≤ length a → length (slice a from to) ≡ to - from
+  slice-length l = simp (length-take, length-drop) (omega arith)
+
+  pub folding-at-first : from ≤ to → to ≤ length a → FoldingAt first from
+  folding-at-first o l =
+      let z : from - from ≡ 0 = omega arith in
+      record { begun = omega arith; within = o; inside = l; folding = rw z (folding-first f (slice a from to) values first) }
+
+  module _ {r j : ℕ} (v : FoldingAt r j) where
+    here : j < to → j - from < length (slice a from to)
+    here l = omega (arith, slice-length (v .inside), v .begun)
+
+    code-here : j < to → getD (slice a from to) (j - from) 0 ≡ getD a j 0
+    code-here l =
+        getD-take (to - from) (drop from a) (j - from) 0 (omega (arith, v .begun)) ∙ getD-drop from a (j - from) 0 ∙ ap (λ (i : ℕ). getD a i 0) (omega (arith, v .begun))
+
+    pub listed-here : Listed (slice a from to) values → j < to → getD a j 0 < length values
+    listed-here h l = rw (← code-here l) (h (j - from) (here l))
+
+    pub grade-here : {top : ℕ} → Foldable top (slice a from to) values first → j < to → getD values (getD a j 0) 0 ≤ top
+    grade-here h l = rw (← code-here l) (h .grades (j - from) (here l))
+
+    pub folding-at-next : {r′ : ℕ} → j < to → r′ ≡ f r (getD values (getD a j 0) 0) → FoldingAt r′ (j + 1)
+    folding-at-next l h =
+        let z : j + 1 - from ≡ j - from + 1 = omega (arith, v .begun) in
+        record {
+          begun = omega (arith, v .begun);
+          within = omega arith;
+          inside = v .inside;
+          folding = rw z (folding-next f (slice a from to) values first (v .folding) (here l) (h ∙ ap (λ (k : ℕ). f r (getD values k 0)) (sym (code-here l))));
+        }
+
+    pub folding-at-last : to ≤ j → Folded f (slice a from to) values first r
+    folding-at-last l = folding-last f (slice a from to) values first (v .folding) (omega (arith, slice-length (v .inside)))
+
 -- a fold of an op ends with a grade
 module _ (top : ℕ) (op : Op) (e : End) (values : List ℕ) where
   fold-bounded : (codes : List ℕ) (first : ℕ) → first ≤ top → ((j : ℕ) → j < length codes → getD values (getD codes j 0) 0 ≤ top)
@@ -36,61 +78,33 @@ module _ (top : ℕ) (op : Op) (e : End) (values : List ℕ) where
   fold-bounded (c ∷ cs) first l g =
       fold-bounded cs (combine top op e first (getD values c 0)) (combine-bounded top op e l (g 0 (omega arith))) (λ j h. g (suc j) (omega arith))
 
--- and so does what an op makes of the numbers
-pub folded-in : (top : ℕ) (e : End) (codes values : List ℕ) (first r : ℕ) → Foldable top codes values first → (op : Op) → Folded (combine top op e) codes values first r → r ≤ top
-folded-in top e codes values first r w op h = rw (h .is) (fold-bounded top op e values codes first (w .start) (w .grades))
+-- what each kind's fold gives is what the op of the kind gives
+module _ (top k : ℕ) (e : End) (codes values : List ℕ) (first r : ℕ) where
+  abbrev OfKind : Type 0
+  OfKind = (op : Op) → kind k ≡ ruleKind op → Folded (combine top op e) codes values first r
 
--- the number that each kind's case gives is that of its op
-module _ (top k p q : ℕ) (e : End) where
-  abbrev pub OfKind : ℕ → Type 0
-  OfKind r = (op : Op) → kind k ≡ ruleKind op → r ≡ combine top op e p q
+  folded-as : (o : Op) → kind k ≡ ruleKind o → Folded (combine top o e) codes values first r → OfKind
+  folded-as o h f op h′ = let s : o ≡ op = cc in subst (λ (x : Op). Folded (combine top x e) codes values first r) s f
 
-  kind-is : (o : Op) {r : ℕ} → kind k ≡ ruleKind o → r ≡ combine top o e p q → OfKind r
-  kind-is o {r} h f op h′ = let s : o ≡ op = cc in subst (λ (x : Op). r ≡ combine top x e p q) s f
-
-  pub combine-m : {r : ℕ} → k ≡ 1 → r ≡ min p q → OfKind r
+  pub folded-m : k ≡ 1 → Folded min codes values first r → OfKind
   unfolding kind combine
-  combine-m h f = kind-is M (rw h) f
+  folded-m h = folded-as M (rw h)
 
-  pub combine-x : {r : ℕ} → k ≡ 2 → r ≡ max p q → OfKind r
+  pub folded-x : k ≡ 2 → Folded max codes values first r → OfKind
   unfolding kind combine
-  combine-x h f = kind-is X (rw h) f
+  folded-x h = folded-as X (rw h)
 
-  pub combine-l : {s : ℕ} → k ≡ 3 → s ≡ max (p + q) top → OfKind (s - top)
+  pub folded-l : k ≡ 3 → Folded (excess top) codes values first r → OfKind
   unfolding kind combine
-  combine-l h f = kind-is L (rw h) (omega arith)
+  folded-l h = folded-as L (rw h)
 
-  pub combine-b : {r : ℕ} → k ≡ 4 → r ≡ min (p + q) top → OfKind r
+  pub folded-b : k ≡ 4 → Folded (bounded top) codes values first r → OfKind
   unfolding kind combine
-  combine-b h f = kind-is B (rw h) (omega arith)
+  folded-b h = folded-as B (rw h)
 
-  pub combine-p : {r : ℕ} → k ≡ 5 → r ≡ divided e (p * q) top → OfKind r
+  pub folded-p : k ≡ 5 → Folded (product e top) codes values first r → OfKind
   unfolding kind combine
-  combine-p h f = kind-is P (rw h) f
+  folded-p h = folded-as P (rw h)
 
--- the op of the kind k over literals
-module _ (codes : List ℕ) (k : ℕ) (values : List ℕ) (top first : ℕ) (e : End) where
-  -- the state after j literals
-  pub record FoldingKind (r j : ℕ) : Type 0 where
-    pub ready : Foldable top codes values first
-    pub least : 1 ≤ k
-    pub most : k ≤ 5
-    pub grade : r ≤ top
-    pub is : (op : Op) → kind k ≡ ruleKind op → Folding (combine top op e) codes values first r j
-
-  pub kind-first : Foldable top codes values first → 1 ≤ k → k ≤ 5 → FoldingKind first 0
-  kind-first f l h = record { ready = f; least = l; most = h; grade = f .start; is = λ op z. folding-first _ _ _ _ }
-
-  pub kind-next : {r j r′ q : ℕ} → FoldingKind r j → j < length codes → q ≡ getD values (getD codes j 0) 0 → OfKind top k r q e r′ → FoldingKind r′ (j + 1)
-  kind-next {r} {j} {r′} {q} s l d f =
-      let o = rule-kind k (s .least) (s .most) in
-      record {
-        ready = s .ready;
-        least = s .least;
-        most = s .most;
-        grade = rw (f (o .0) (o .1)) (combine-bounded top (o .0) e (s .grade) (omega (arith, s .ready .grades j l)));
-        is = λ op z. folding-next _ _ _ _ (s .is op z) l (f op z ∙ ap (combine top op e r) d);
-      }
-
-  pub kind-last : {r j : ℕ} → FoldingKind r j → length codes ≤ j → (op : Op) → kind k ≡ ruleKind op → Folded (combine top op e) codes values first r
-  kind-last s l op z = folding-last _ _ _ _ (s .is op z) l
+  pub folded-in : Foldable top codes values first → (op : Op) → Folded (combine top op e) codes values first r → r ≤ top
+  folded-in w op h = rw (h .is) (fold-bounded top op e values codes first (w .start) (w .grades))

@@ -20,7 +20,7 @@ use Rattle.page.proofs.Scan.{part-cons, rule-kind}
 use Rattle.page.proofs.Entries.{code-first, code-in}
 use Rattle.page.proofs.Head.{head-of}
 use Rattle.value.specs.Table.{endOf, Grades, EndTable}
-use Rattle.value.specs.LineEnds.{numbersOf, Foldable, Folded, RuleEnd}
+use Rattle.value.specs.LineEnds.{behindFirst, numbersOf, Foldable, Folded, RuleEnd}
 use Rattle.value.proofs.Folds.{folded-in}
 
 -- the end of a fold is the fold of the ends, and so for the weight
@@ -50,12 +50,12 @@ module _ (a values : List ℕ) (at : ℕ) (r : RuleAt (topOf a) (conditionsOf a)
   abbrev codes : List ℕ
   codes = take (getD a (at + 3) 0) (drop (at + 4) a)
 
-  -- the first literal's code, and the codes behind it, as the part of the area that the code takes
+  -- the first literal's code, and the codes behind it
   abbrev code : ℕ
   code = getD a (at + 4) 0
 
   abbrev pub rest : List ℕ
-  rest = take (at + 4 + getD a (at + 3) 0 - (at + 5)) (drop (at + 5) a)
+  rest = behindFirst a at
 
   codes-cons : codes ≡ code ∷ rest
   codes-cons =
@@ -106,7 +106,7 @@ module _ (a values : List ℕ) (at : ℕ) (r : RuleAt (topOf a) (conditionsOf a)
     pub fold-in : x ≤ topOf a
     fold-in =
         let o = rule-kind (getD a (at + 1) 0) l u in
-        folded-in (topOf a) e rest values (getD values code 0) x (foldable ok g) (o .0) (h (o .0) (o .1))
+        folded-in (topOf a) (getD a (at + 1) 0) e rest values (getD values code 0) x (foldable ok g) (o .0) (h (o .0) (o .1))
 
     pub rule-end-is : {v : ℕ} → v ≡ divided e (x * getD a (at + 2) 0) (topOf a) → RuleEnd e a values at v
     rule-end-is {v} q =

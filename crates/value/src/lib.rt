@@ -2,14 +2,14 @@
 ghost use mathlib.Core.Path.{_≡_};
 ghost use mathlib.Core.Bool.{true};
 ghost use Prim.Native.Nat.{_≤_, _<_, _+_, _*_, min, max};
-ghost use lib.ListN.{getD};
+ghost use lib.ListN.{length, getD};
 ghost use Rattle.semantics.specs.Area.{sound, pageOf, topOf, conditionsOf, kind, ruleKind};
 ghost use Rattle.semantics.specs.Body.{bodyless};
 ghost use Rattle.semantics.specs.Grade.{Op, combine, divided};
 ghost use Rattle.page.specs.Graded.{RuleAt};
 ghost use Rattle.page.specs.Places.{LineOf};
 ghost use Rattle.value.specs.Table.{side, Grades};
-ghost use Rattle.value.specs.LineEnds.{Foldable, Folded, RuleEnd, LineEnd};
+ghost use Rattle.value.specs.LineEnds.{slice, behindFirst, Listed, Foldable, Folded, excess, bounded, product, RuleEnd, LineEnd};
 
 // An end of an interval.
 pub enum End {
@@ -58,32 +58,108 @@ pub fn divided(x: u16, top: u16, end: End) -> u16
     x / top
 }
 
-// What the op of the kind k makes of two grades, at one end: 1 to 5 are M, X, L, B, P.
-pub fn combine(k: u16, p: u16, q: u16, top: u16, end: End) -> u16
-    requires { ⌜ (1 ≤ k) × (k ≤ 5) × (1 ≤ top) × (top ≤ 200) × (p ≤ top) × (q ≤ top) ⌝ }
-    ensures { λ r. ⌜ ((op : Op) → kind k ≡ ruleKind op → r ≡ combine top op (side end) p q) ⌝ }
-{
-    match k {
-        1 => minimum(p, q),
-        2 => maximum(p, q),
-        3 => maximum(p + q, top) - top,
-        4 => minimum(p + q, top),
-        _ => divided(p * q, top, end),
-    }
-}
-
-// The op of the kind k over the numbers of literals, from left to right.
-fn fold_literals(codes: &[u16], k: u16, values: &[u16], first: u16, top: u16, end: End) -> u16
-    requires { ⌜ Foldable top (now codes) (now values) first × (1 ≤ k) × (k ≤ 5) ⌝ }
-    ensures { λ r. ⌜ ((op : Op) → kind k ≡ ruleKind op → Folded (combine top op (side end)) (now (codes .entry)) (now (values .entry)) first r) ⌝ }
+// M over the numbers of the literals from one place up to another: the smallest.
+fn fold_smallest(a: &[u16], from: usize, to: usize, values: &[u16], first: u16) -> u16
+    requires { ⌜ (from ≤ to) × (to ≤ length (now a)) × Listed (slice (now a) from to) (now values) ⌝ }
+    ensures { λ r. ⌜ Folded min (slice (now (a .entry)) from to) (now (values .entry)) first r ⌝ }
 {
     let mut r = first;
-    let mut j: usize = 0;
-    while j < codes.len() {
-        r = combine(k, r, values[codes[j] as usize], top, end);
+    let mut j = from;
+    while j < to {
+        let q = values[a[j] as usize];
+        r = minimum(r, q);
         j += 1;
     }
     r
+}
+
+// X: the largest.
+fn fold_largest(a: &[u16], from: usize, to: usize, values: &[u16], first: u16) -> u16
+    requires { ⌜ (from ≤ to) × (to ≤ length (now a)) × Listed (slice (now a) from to) (now values) ⌝ }
+    ensures { λ r. ⌜ Folded max (slice (now (a .entry)) from to) (now (values .entry)) first r ⌝ }
+{
+    let mut r = first;
+    let mut j = from;
+    while j < to {
+        let q = values[a[j] as usize];
+        r = maximum(r, q);
+        j += 1;
+    }
+    r
+}
+
+// L: what a sum has over top.
+fn fold_excess(a: &[u16], from: usize, to: usize, values: &[u16], first: u16, top: u16) -> u16
+    requires { ⌜ (from ≤ to) × (to ≤ length (now a)) × Foldable top (slice (now a) from to) (now values) first ⌝ }
+    ensures { λ r. ⌜ Folded (excess top) (slice (now (a .entry)) from to) (now (values .entry)) first r ⌝ }
+{
+    let mut r = first;
+    let mut j = from;
+    while j < to {
+        let q = values[a[j] as usize];
+        r = maximum(r + q, top) - top;
+        j += 1;
+    }
+    r
+}
+
+// B: the sum, at most top.
+fn fold_bounded(a: &[u16], from: usize, to: usize, values: &[u16], first: u16, top: u16) -> u16
+    requires { ⌜ (from ≤ to) × (to ≤ length (now a)) × Foldable top (slice (now a) from to) (now values) first ⌝ }
+    ensures { λ r. ⌜ Folded (bounded top) (slice (now (a .entry)) from to) (now (values .entry)) first r ⌝ }
+{
+    let mut r = first;
+    let mut j = from;
+    while j < to {
+        let q = values[a[j] as usize];
+        r = minimum(r + q, top);
+        j += 1;
+    }
+    r
+}
+
+// P: the product divided by top.
+fn fold_product(
+    a: &[u16],
+    from: usize,
+    to: usize,
+    values: &[u16],
+    first: u16,
+    top: u16,
+    end: End,
+) -> u16
+    requires { ⌜ (from ≤ to) × (to ≤ length (now a)) × Foldable top (slice (now a) from to) (now values) first ⌝ }
+    ensures { λ r. ⌜ Folded (product (side end) top) (slice (now (a .entry)) from to) (now (values .entry)) first r ⌝ }
+{
+    let mut r = first;
+    let mut j = from;
+    while j < to {
+        let q = values[a[j] as usize];
+        r = divided(r * q, top, end);
+        j += 1;
+    }
+    r
+}
+
+// The op of the rule at `at` over the numbers of its literals behind the first: the kinds 1 to 5 are M, X, L, B, P. With no other literal
+// there is nothing to choose.
+fn fold_literals(a: &[u16], at: usize, values: &[u16], first: u16, top: u16, end: End) -> u16
+    requires { ⌜ RuleAt top (conditionsOf (now a)) (now a) at × Foldable top (behindFirst (now a) at) (now values) first × (1 ≤ getD (now a) (at + 1) 0) × (getD (now a) (at + 1) 0 ≤ 5) ⌝ }
+    ensures { λ r. ⌜ ((op : Op) → kind (getD (now (a .entry)) (at + 1) 0) ≡ ruleKind op → Folded (combine top op (side end)) (behindFirst (now (a .entry)) at) (now (values .entry)) first r) ⌝ }
+{
+    let from = at + 5;
+    let to = at + 4 + a[at + 3] as usize;
+    if to <= from {
+        return first;
+    }
+    let k = a[at + 1];
+    match k {
+        1 => fold_smallest(a, from, to, values, first),
+        2 => fold_largest(a, from, to, values, first),
+        3 => fold_excess(a, from, to, values, first, top),
+        4 => fold_bounded(a, from, to, values, first, top),
+        _ => fold_product(a, from, to, values, first, top, end),
+    }
 }
 
 // One end of the value of the rule at `at`: its op over its literals' numbers from left to right, then its weight.
@@ -92,11 +168,8 @@ fn rule_end(a: &[u16], at: usize, values: &[u16], end: End) -> u16
     ensures { λ r. ⌜ RuleEnd (side end) (now (a .entry)) (now (values .entry)) at r ⌝ }
 {
     let top = a[0];
-    let from = at + 5;
-    let to = at + 4 + a[at + 3] as usize;
-    let rest = &a[from..to];
     let first = values[a[at + 4] as usize];
-    let r = fold_literals(rest, a[at + 1], values, first, top, end);
+    let r = fold_literals(a, at, values, first, top, end);
     divided(r * a[at + 2], top, end)
 }
 

@@ -2,8 +2,7 @@
 use Prim.Native.Nat.{_-_}
 use native.Mathlib.Omega.{arith}
 use lib.ListN.{length}
-use Rattle.value.proofs.Folds.{kind-last}
-use Rattle.ends.proofs.Both.{FoldingBoth, both-first, both-next}
+use Rattle.ends.proofs.Both.{FoldingBoth, both-first, both-next, number-in, low-last, high-last}
 use Rattle.ends.proofs.fold_ends.Statement.{statement}
 use Rattle.ends.proofs.fold_ends.Tie as tie
 
@@ -29,16 +28,16 @@ shared-slice-read-combine : tie.Need-shared-slice-read-combine Inv-loop μ-loop
 shared-slice-read-combine c = c .before .before .before .loop .inv .ready .low .listed (c .before .before .before .loop .j) (omega arith)
 
 cast-combine-2 : tie.Need-cast-combine-2 Inv-loop μ-loop
-cast-combine-2 c = omega (arith, c .before .before .before .loop .inv .ready .low .grades (c .before .before .before .loop .j) (omega arith), c .before .before .before .loop .inv .ready .low .small)
+cast-combine-2 c = omega (arith, number-in _ _ _ _ _ _ (c .before .before .before .loop .inv) (omega arith), c .before .before .before .loop .inv .ready .low .small)
 
 combine-requires : tie.Need-combine-requires Inv-loop μ-loop
-combine-requires c κs = let s = c .before .before .before .loop .inv in (s .low-end .least, s .low-end .most, s .ready .low .some, s .ready .low .small, s .low-end .grade, s .ready .low .grades (c .before .before .before .loop .j) (omega arith))
+combine-requires c κs = let s = c .before .before .before .loop .inv in (s .least, s .most, s .ready .low .some, s .ready .low .small, s .low-in, number-in _ _ _ _ _ _ s (omega arith))
 
 high-of-requires : tie.Need-high-of-requires Inv-loop μ-loop
 high-of-requires c κs = let s = c .before .before .before .before .loop .inv in (s .ready .room (c .before .before .before .before .loop .j) (omega arith), s .ready .under (c .before .before .before .before .loop .j) (omega arith))
 
 combine-requires-2 : tie.Need-combine-requires-2 Inv-loop μ-loop
-combine-requires-2 c κs = let s = c .before .before .before .before .before .loop .inv in (s .high-end .least, s .high-end .most, s .ready .low .some, s .ready .low .small, s .high-end .grade, omega (arith, c .high-of .ensures))
+combine-requires-2 c κs = let s = c .before .before .before .before .before .loop .inv in (s .least, s .most, s .ready .low .some, s .ready .low .small, s .high-in, omega (arith, c .high-of .ensures))
 
 add-j : tie.Need-add-j Inv-loop μ-loop
 add-j c = omega (arith, c .before .before .before .before .before .before .before .before .before .good)
@@ -50,7 +49,7 @@ loop-again : tie.Need-loop-again Inv-loop μ-loop
 loop-again c = both-next _ _ _ _ _ _ (c .before .before .before .before .before .before .loop .inv) (omega arith) (c .before .before .combine .ensures) (c .before .high-of .ensures) (c .combine2 .ensures)
 
 returns : tie.Need-returns Inv-loop μ-loop
-returns c = (kind-last _ _ _ _ _ _ (c .before .loop .inv .low-end) (omega arith), kind-last _ _ _ _ _ _ (c .before .loop .inv .high-end) (omega arith))
+returns c = (low-last _ _ _ _ _ _ (c .before .loop .inv) (omega arith), high-last _ _ _ _ _ _ (c .before .loop .inv) (omega arith))
 
 pub fold-ends-spec : {M : Type 1} → statement M
 fold-ends-spec =

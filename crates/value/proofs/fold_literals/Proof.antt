@@ -1,66 +1,97 @@
--- `fold_literals`: the op of the kind, literal by literal (`FoldingKind`).
-use mathlib.Core.Path.{refl}
-use Prim.Native.Nat.{_-_}
+-- `fold_literals` chooses the fold of the op.
+use Prim.Native.Nat.{_+_}
 use native.Mathlib.Omega.{arith}
-use lib.ListN.{length}
-use Rattle.value.specs.Table.{side}
-use Rattle.value.proofs.Folds.{FoldingKind, kind-first, kind-next, kind-last}
+use lib.ListN.{getD}
+use borrow.Author.Needs.{needs}
+use Rattle.value.proofs.Folds.{folding-at-first, folding-at-last, folded-m, folded-x, folded-l, folded-b, folded-p}
 use Rattle.value.proofs.fold_literals.Statement.{statement}
 use Rattle.value.proofs.fold_literals.Tie as tie
 
-abbrev Inv-loop : tie.InvT-loop
-Inv-loop codes k values first top end r₀ j₀ r j = FoldingKind codes k values top first (side end) r j
+add-from : tie.Need-add-from
+add-from c = search needs
 
-abbrev μ-loop : tie.MeasureT-loop
-μ-loop codes k values first top end r₀ j₀ r j = length codes - j
+add-to : tie.Need-add-to
+add-to c = search needs
 
-loop-holds : tie.Need-loop-holds Inv-loop μ-loop
-loop-holds c = let s = c .before .before in kind-first _ _ _ _ _ _ (s .pre .0) (s .pre .1) (s .pre .2)
+add-to-2 : tie.Need-add-to-2
+add-to-2 c = search needs
 
-mul-combine : tie.Need-mul-combine Inv-loop μ-loop
-mul-combine c = omega arith
+mul-to : tie.Need-mul-to
+mul-to c = search needs
 
-shared-slice-read-combine : tie.Need-shared-slice-read-combine Inv-loop μ-loop
-shared-slice-read-combine c = omega arith
+shared-slice-read-to : tie.Need-shared-slice-read-to
+shared-slice-read-to c = search needs
 
-cast-combine : tie.Need-cast-combine Inv-loop μ-loop
-cast-combine c = omega (arith, c .before .before .loop .inv .ready .listed (c .before .before .loop .j) (omega arith), c .before .before .before .before .before .good)
+cast-to : tie.Need-cast-to
+cast-to c = search needs
 
-mul-combine-2 : tie.Need-mul-combine-2 Inv-loop μ-loop
-mul-combine-2 c = omega (arith, c .before .before .loop .inv .ready .listed (c .before .before .loop .j) (omega arith), c .before .before .before .before .before .good)
+add-to-3 : tie.Need-add-to-3
+add-to-3 c = search needs
 
-shared-slice-read-combine-2 : tie.Need-shared-slice-read-combine-2 Inv-loop μ-loop
-shared-slice-read-combine-2 c = c .before .before .before .loop .inv .ready .listed (c .before .before .before .loop .j) (omega arith)
+returns : tie.Need-returns
+returns c = let s = c .before .before .before .before in λ op k. folding-at-last _ _ (s .args .at + 5) (s .args .at + 4 + getD (s .args .a .now) (s .args .at + 3) 0) _ _ (folding-at-first _ _ _ _ _ _ (omega (arith, s .pre .0 .some)) (omega (arith, s .pre .0 .fits))) (omega arith)
 
-combine-requires : tie.Need-combine-requires Inv-loop μ-loop
-combine-requires c κs = let s = c .before .before .before .loop .inv in (s .least, s .most, s .ready .some, s .ready .small, s .grade, s .ready .grades (c .before .before .before .loop .j) (omega arith))
+add-k : tie.Need-add-k
+add-k c = search needs
 
-add-j : tie.Need-add-j Inv-loop μ-loop
-add-j c = omega arith
+mul-k : tie.Need-mul-k
+mul-k c = search needs
 
-loop-less : tie.Need-loop-less Inv-loop μ-loop
-loop-less c = omega arith
+shared-slice-read-k : tie.Need-shared-slice-read-k
+shared-slice-read-k c = search needs
 
-loop-again : tie.Need-loop-again Inv-loop μ-loop
-loop-again c = kind-next _ _ _ _ _ _ (c .before .before .before .before .loop .inv) (omega arith) refl (c .combine .ensures)
+fold-smallest-requires : tie.Need-fold-smallest-requires
+fold-smallest-requires c κs = let s = c .before .before .before .before .before .before in (omega arith, omega (arith, s .pre .0 .fits), s .pre .1 .listed)
 
-returns : tie.Need-returns Inv-loop μ-loop
-returns c = kind-last _ _ _ _ _ _ (c .before .loop .inv) (omega arith)
+fold-largest-requires : tie.Need-fold-largest-requires
+fold-largest-requires c κs = let s = c .before .before .before .before .before .before in (omega arith, omega (arith, s .pre .0 .fits), s .pre .1 .listed)
+
+fold-excess-requires : tie.Need-fold-excess-requires
+fold-excess-requires c κs = let s = c .before .before .before .before .before .before in (omega arith, omega (arith, s .pre .0 .fits), s .pre .1)
+
+fold-bounded-requires : tie.Need-fold-bounded-requires
+fold-bounded-requires c κs = let s = c .before .before .before .before .before .before in (omega arith, omega (arith, s .pre .0 .fits), s .pre .1)
+
+fold-product-requires : tie.Need-fold-product-requires
+fold-product-requires c κs = let s = c .before .before .before .before .before .before in (omega arith, omega (arith, s .pre .0 .fits), s .pre .1)
+
+returns-2 : tie.Need-returns-2
+returns-2 c = folded-m _ _ _ _ _ _ _ (omega arith) (c .fold-smallest .ensures)
+
+returns-3 : tie.Need-returns-3
+returns-3 c = folded-x _ _ _ _ _ _ _ (omega arith) (c .fold-largest .ensures)
+
+returns-4 : tie.Need-returns-4
+returns-4 c = folded-l _ _ _ _ _ _ _ (omega arith) (c .fold-excess .ensures)
+
+returns-5 : tie.Need-returns-5
+returns-5 c = folded-b _ _ _ _ _ _ _ (omega arith) (c .fold-bounded .ensures)
+
+returns-6 : tie.Need-returns-6
+returns-6 c = folded-p _ _ _ _ _ _ _ (omega arith) (c .fold-product .ensures)
 
 pub fold-literals-spec : {M : Type 1} → statement M
 fold-literals-spec =
     tie.close
     (tie.spec
-    Inv-loop
-    μ-loop
-    loop-holds
-    mul-combine
-    shared-slice-read-combine
-    cast-combine
-    mul-combine-2
-    shared-slice-read-combine-2
-    combine-requires
-    add-j
-    loop-less
-    loop-again
-    returns)
+    add-from
+    add-to
+    add-to-2
+    mul-to
+    shared-slice-read-to
+    cast-to
+    add-to-3
+    returns
+    add-k
+    mul-k
+    shared-slice-read-k
+    fold-smallest-requires
+    fold-largest-requires
+    fold-excess-requires
+    fold-bounded-requires
+    fold-product-requires
+    returns-2
+    returns-3
+    returns-4
+    returns-5
+    returns-6)

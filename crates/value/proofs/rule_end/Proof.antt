@@ -10,39 +10,6 @@ use Rattle.value.proofs.rule_end.Tie as tie
 shared-slice-read-top : tie.Need-shared-slice-read-top
 shared-slice-read-top c = search needs
 
-add-from : tie.Need-add-from
-add-from c = search needs
-
-add-to : tie.Need-add-to
-add-to c = search needs
-
-add-to-2 : tie.Need-add-to-2
-add-to-2 c = search needs
-
-mul-to : tie.Need-mul-to
-mul-to c = search needs
-
-shared-slice-read-to : tie.Need-shared-slice-read-to
-shared-slice-read-to c = search needs
-
-cast-to : tie.Need-cast-to
-cast-to c = search needs
-
-add-to-3 : tie.Need-add-to-3
-add-to-3 c = search needs
-
-mul-rest : tie.Need-mul-rest
-mul-rest c = search needs
-
-sub-rest : tie.Need-sub-rest
-sub-rest c = search needs
-
-part-rest-start : tie.Need-part-rest-start
-part-rest-start c = search needs
-
-part-rest-end : tie.Need-part-rest-end
-part-rest-end c = search needs
-
 add-first : tie.Need-add-first
 add-first c = search needs
 
@@ -53,25 +20,16 @@ shared-slice-read-first : tie.Need-shared-slice-read-first
 shared-slice-read-first c = search needs
 
 cast-first : tie.Need-cast-first
-cast-first c = let s = c .before .before .before .before .before .before in omega (arith, code-under _ (s .args .values .now) _ (s .pre .2), s .pre .1 .long, s .good)
+cast-first c = let s = c .before .before .before .before in omega (arith, code-under _ (s .args .values .now) _ (s .pre .2), s .pre .1 .long, s .good)
 
 mul-first-2 : tie.Need-mul-first-2
-mul-first-2 c = let s = c .before .before .before .before .before .before in omega (arith, code-under _ (s .args .values .now) _ (s .pre .2), s .pre .1 .long, s .good)
+mul-first-2 c = let s = c .before .before .before .before in omega (arith, code-under _ (s .args .values .now) _ (s .pre .2), s .pre .1 .long, s .good)
 
 shared-slice-read-first-2 : tie.Need-shared-slice-read-first-2
-shared-slice-read-first-2 c = let s = c .before .before .before .before .before .before .before in omega (arith, code-under _ (s .args .values .now) _ (s .pre .2), s .pre .1 .long, s .good)
-
-add-fold-literals : tie.Need-add-fold-literals
-add-fold-literals c = search needs
-
-mul-fold-literals : tie.Need-mul-fold-literals
-mul-fold-literals c = search needs
-
-shared-slice-read-fold-literals : tie.Need-shared-slice-read-fold-literals
-shared-slice-read-fold-literals c = search needs
+shared-slice-read-first-2 c = let s = c .before .before .before .before .before in omega (arith, code-under _ (s .args .values .now) _ (s .pre .2), s .pre .1 .long, s .good)
 
 fold-literals-requires : tie.Need-fold-literals-requires
-fold-literals-requires c κs = let s = c .before .before .before .before .before .before .before .before in (foldable _ _ _ (s .pre .2) (s .pre .0) (s .pre .1), s .pre .3, s .pre .4)
+fold-literals-requires c κs = let s = c .before .before .before .before .before in (s .pre .2, foldable _ _ _ (s .pre .2) (s .pre .0) (s .pre .1), s .pre .3, s .pre .4)
 
 add-divided : tie.Need-add-divided
 add-divided c = search needs
@@ -83,39 +41,25 @@ shared-slice-read-divided : tie.Need-shared-slice-read-divided
 shared-slice-read-divided c = search needs
 
 mul-divided-2 : tie.Need-mul-divided-2
-mul-divided-2 c = let s = c .before .before .before .before .before .before .before .before .before .before in let h = head-of (s .args .a .now) (s .pre .0) in record { fits = small-product (omega (arith, h .top-most, fold-in _ _ _ (s .pre .2) _ (s .pre .0) (s .pre .1) (s .pre .3) (s .pre .4) (c .before .fold-literals .ensures))) (omega (arith, h .top-most, s .pre .2 .weight)) }
+mul-divided-2 c = let s = c .before .before .before .before .before .before .before in let h = head-of (s .args .a .now) (s .pre .0) in record { fits = small-product (omega (arith, h .top-most, fold-in _ _ _ (s .pre .2) _ (s .pre .0) (s .pre .1) (s .pre .3) (s .pre .4) (c .before .fold-literals .ensures))) (omega (arith, h .top-most, s .pre .2 .weight)) }
 
 divided-requires : tie.Need-divided-requires
-divided-requires c κs = let s = c .before .before .before .before .before .before .before .before .before .before in head-of (s .args .a .now) (s .pre .0) .top-least
+divided-requires c κs = let s = c .before .before .before .before .before .before .before in head-of (s .args .a .now) (s .pre .0) .top-least
 
 returns : tie.Need-returns
-returns c = let s = c .before .before .before .before .before .before .before .before .before .before .before in rule-end-is _ _ _ (s .pre .2) _ (s .pre .0) (s .pre .1) (s .pre .3) (s .pre .4) (c .before .before .fold-literals .ensures) (c .divided .ensures)
+returns c = let s = c .before .before .before .before .before .before .before .before in rule-end-is _ _ _ (s .pre .2) _ (s .pre .0) (s .pre .1) (s .pre .3) (s .pre .4) (c .before .before .fold-literals .ensures) (c .divided .ensures)
 
 pub rule-end-spec : {M : Type 1} → statement M
 rule-end-spec =
     tie.close
     (tie.spec
     shared-slice-read-top
-    add-from
-    add-to
-    add-to-2
-    mul-to
-    shared-slice-read-to
-    cast-to
-    add-to-3
-    mul-rest
-    sub-rest
-    part-rest-start
-    part-rest-end
     add-first
     mul-first
     shared-slice-read-first
     cast-first
     mul-first-2
     shared-slice-read-first-2
-    add-fold-literals
-    mul-fold-literals
-    shared-slice-read-fold-literals
     fold-literals-requires
     add-divided
     mul-divided

@@ -1,10 +1,10 @@
--- `value::combine` meets its contract, op by op. Assumes nothing.
+-- `ends::combine` meets its contract, op by op. Assumes nothing.
 use native.Mathlib.Omega.{arith}
 use Rattle.page.proofs.Entries.{small-product}
-use Rattle.value.proofs.Folds.{combine-m, combine-x, combine-l, combine-b, combine-p}
+use Rattle.ends.proofs.Both.{combine-m, combine-x, combine-l, combine-b, combine-p}
 use borrow.Author.Needs.{needs}
-use Rattle.value.proofs.combine.Statement.{statement}
-use Rattle.value.proofs.combine.Tie as tie
+use Rattle.ends.proofs.combine.Statement.{statement}
+use Rattle.ends.proofs.combine.Tie as tie
 
 minimum-requires : tie.Need-minimum-requires
 minimum-requires c κs = search needs
