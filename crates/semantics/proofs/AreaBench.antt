@@ -24,7 +24,7 @@ use Rattle.semantics.specs.Table.{tableFrom, allUnknown, anyBelow, allBe
 use Rattle.semantics.specs.Worklist.{start, changes, waitingAfter, evaluated, lowestFrom, driveFrom}
 use Rattle.semantics.proofs.Computed.{closed-list}
 use Rattle.semantics.proofs.Keeps.{ends-same}
-use Rattle.semantics.proofs.Same.{sameNumbers, same-numbers, sameCause, same-cause, sameOpening, same-opening, figures, same-answer, sameStatus}
+use Rattle.semantics.proofs.Same.{sameList, sameNumbers, same-numbers, sameCause, same-cause, sameOpening, same-opening, figures, same-answer, sameStatus}
 use Rattle.semantics.proofs.Readings.{closed-is}
 use Rattle.semantics.proofs.Soundness.{sound-proper, both-true, Every, every-true}
 use Rattle.semantics.proofs.Sweeps.{sweep, sweeps, supportList, closeList, rounds, closedList}
@@ -70,7 +70,7 @@ law [] e = tt
 law (r ∷ rs) e = let h = both-true (every (tests r)) (test rs) e in (passed r (every-true (tests r) (h .0)), law rs (h .1))
 
 computed : test areaRows ≡ true
-unfolding areaRows area1 area7 opened1 rested1 unreached1 spoilt1 many nines scratch1 test sameNumbers sameCause sameOpening figures sameStatus openOf operation outcome sound kind span linesOk allUnder pageOf linesOf runOf cells worklistOf reachedOf runSound allBelow same sum start changes waitingAfter evaluated lowestFrom driveFrom closure pass passes listed tableFrom anyBelow allUnknown countR countE bound mentions linesName rounding divided combine foldFrom foldAll weighted negated bodies unknownByDefault bodyless largestOf T zeros sweep sweeps supportList closeList rounds closedList roof raise
+unfolding areaRows area1 area7 opened1 rested1 unreached1 spoilt1 many nines scratch1 test sameList sameCause sameOpening figures sameStatus openOf operation outcome sound kind span linesOk allUnder pageOf linesOf runOf cells worklistOf reachedOf runSound allBelow same sum start changes waitingAfter evaluated lowestFrom driveFrom closure pass passes listed tableFrom anyBelow allUnknown countR countE bound mentions linesName rounding divided combine foldFrom foldAll weighted negated bodies unknownByDefault bodyless largestOf T zeros sweep sweeps supportList closeList rounds closedList roof raise
 computed = refl
 
 pub area-bench : AllHoldOn areaRows

@@ -23,7 +23,7 @@ use Rattle.fixpoint.proofs.Evaluation.{same-true}
 use Rattle.semantics.proofs.Computed.{plain-list, closed-list}
 use Rattle.semantics.proofs.Readings.{plain-is, closed-is}
 use Rattle.semantics.proofs.RoundTrip.{page-area}
-use Rattle.semantics.proofs.Same.{sameStatus, same-status, sameFlag, sameSet, same-set, sameAll, same-all}
+use Rattle.semantics.proofs.Same.{sameStatus, same-status, sameFlag, same-flag, sameList, same-list}
 use Rattle.semantics.proofs.Soundness.{both-true, Every, every-true, sound-proper}
 use Rattle.semantics.proofs.Sweeps.{sweep, sweeps, plainList, supportList, closeList, rounds, closedList}
 
@@ -37,7 +37,7 @@ tests (opens page qs r e b) = eqb (countR page (closure page qs)) r ∷ eqb (cou
 tests (drives page qs k o t w ps) =
     let m = closure page qs in
     let d = driven page m k (start page m) in
-    eqb (d .taken) t ∷ sameStatus (status (d .state)) o ∷ sameSet (d .state .waiting) w ∷ sameAll (d .state .intervals) ps ∷ []
+    eqb (d .taken) t ∷ sameStatus (status (d .state)) o ∷ sameList sameFlag (d .state .waiting) w ∷ sameList same (d .state .intervals) ps ∷ []
 
 passed : (r : Row) → Every (tests r) → Holds r
 passed (plainly page c l h) z =
@@ -49,7 +49,7 @@ passed (closedly page c l h) z =
     let k : c < page .conditions = ltb-true c (page .conditions) (z .1 .0) in
     (k, record { some-one = (_, closed-is page w); every-one = λ I p. closed-list page w I p c k ∙ same-true _ _ (z .1 .1 .0) })
 passed (opens page qs r e b) z = record { reached = eqb-true _ _ (z .0); edges = eqb-true _ _ (z .1 .0); limit = eqb-true _ _ (z .1 .1 .0) }
-passed (drives page qs k o t w ps) z = record { count = eqb-true _ _ (z .0); ends = same-status _ _ (z .1 .0); waits = same-set _ _ (z .1 .1 .0); holds = same-all _ _ (z .1 .1 .1 .0) }
+passed (drives page qs k o t w ps) z = record { count = eqb-true _ _ (z .0); ends = same-status _ _ (z .1 .0); waits = same-list sameFlag same-flag _ _ (z .1 .1 .0); holds = same-list same same-true _ _ (z .1 .1 .1 .0) }
 
 test : List Row → Bool
 test [] = true
@@ -61,7 +61,7 @@ law [] e = tt
 law (r ∷ rs) e = let h = both-true (every (tests r)) (test rs) e in (passed r (every-true (tests r) (h .0)), law rs (h .1))
 
 computed : test rows ≡ true
-unfolding rows page1 page3 page4 page5 page6 page7 page8 pageOurs test sameStatus sameFlag sameSet sameAll same sum rounding divided combine foldFrom foldAll weighted negated mentions linesName bodies unknownByDefault bodyless largestOf T tableFrom anyBelow listed pass passes closure countE countR bound sweep sweeps allUnknown plainList supportList closeList rounds closedList roof raise areaOf sound kind span allUnder linesOk lineCodes start changes waitingAfter evaluated lowestFrom driveFrom
+unfolding rows page1 page3 page4 page5 page6 page7 page8 pageOurs test sameStatus sameFlag sameList same sum rounding divided combine foldFrom foldAll weighted negated mentions linesName bodies unknownByDefault bodyless largestOf T tableFrom anyBelow listed pass passes closure countE countR bound sweep sweeps allUnknown plainList supportList closeList rounds closedList roof raise areaOf sound kind span allUnder linesOk lineCodes start changes waitingAfter evaluated lowestFrom driveFrom
 computed = refl
 
 pub bench : AllHold rows

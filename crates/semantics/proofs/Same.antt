@@ -14,20 +14,27 @@ use Rattle.semantics.specs.Worklist.{Status, rest, spent}
 use Rattle.fixpoint.proofs.Evaluation.{same-true}
 use Rattle.semantics.proofs.Soundness.{both-true}
 
-unfoldable pub sameNumbers : List ℕ → List ℕ → Bool
-sameNumbers [] [] = true
-sameNumbers [] (y ∷ ys) = false
-sameNumbers (x ∷ xs) [] = false
-sameNumbers (x ∷ xs) (y ∷ ys) = eqb x y && sameNumbers xs ys
+-- lists, by a test of their elements
+unfoldable pub sameList : {A : Type 0} → (A → A → Bool) → List A → List A → Bool
+sameList eq [] [] = true
+sameList eq [] (y ∷ ys) = false
+sameList eq (x ∷ xs) [] = false
+sameList eq (x ∷ xs) (y ∷ ys) = eq x y && sameList eq xs ys
+
+pub same-list : {A : Type 0} (eq : A → A → Bool) → ((x y : A) → eq x y ≡ true → x ≡ y) → (xs ys : List A) → sameList eq xs ys ≡ true → xs ≡ ys
+unfolding sameList
+same-list eq h [] [] e = refl
+same-list eq h [] (y ∷ ys) e = absurd (false≢true e)
+same-list eq h (x ∷ xs) [] e = absurd (false≢true e)
+same-list {A} eq h (x ∷ xs) (y ∷ ys) e =
+    let k = both-true (eq x y) (sameList eq xs ys) e in
+    ap₂ {C = List A} (λ z zs. z ∷ zs) (h x y (k .0)) (same-list eq h xs ys (k .1))
+
+abbrev pub sameNumbers : List ℕ → List ℕ → Bool
+sameNumbers = sameList eqb
 
 pub same-numbers : (xs ys : List ℕ) → sameNumbers xs ys ≡ true → xs ≡ ys
-unfolding sameNumbers
-same-numbers [] [] e = refl
-same-numbers [] (y ∷ ys) e = absurd (false≢true e)
-same-numbers (x ∷ xs) [] e = absurd (false≢true e)
-same-numbers (x ∷ xs) (y ∷ ys) e =
-    let h = both-true (eqb x y) (sameNumbers xs ys) e in
-    ap₂ {C = List ℕ} (λ z zs. z ∷ zs) (eqb-true x y (h .0)) (same-numbers xs ys (h .1))
+same-numbers = same-list eqb eqb-true
 
 unfoldable pub sameStatus : Status → Status → Bool
 sameStatus rest rest = true
@@ -50,36 +57,6 @@ pub same-flag : (a b : Bool) → sameFlag a b ≡ true → a ≡ b
 unfolding sameFlag
 same-flag true b e = sym e
 same-flag false b e = sym (not-true b e)
-
-unfoldable pub sameSet : List Bool → List Bool → Bool
-sameSet [] [] = true
-sameSet [] (b ∷ w) = false
-sameSet (a ∷ v) [] = false
-sameSet (a ∷ v) (b ∷ w) = sameFlag a b && sameSet v w
-
-pub same-set : (v w : List Bool) → sameSet v w ≡ true → v ≡ w
-unfolding sameSet
-same-set [] [] e = refl
-same-set [] (b ∷ w) e = absurd (false≢true e)
-same-set (a ∷ v) [] e = absurd (false≢true e)
-same-set (a ∷ v) (b ∷ w) e =
-    let h = both-true (sameFlag a b) (sameSet v w) e in
-    ap₂ {C = List Bool} (λ x xs. x ∷ xs) (same-flag a b (h .0)) (same-set v w (h .1))
-
-unfoldable pub sameAll : List Interval → List Interval → Bool
-sameAll [] [] = true
-sameAll [] (q ∷ qs) = false
-sameAll (p ∷ ps) [] = false
-sameAll (p ∷ ps) (q ∷ qs) = same p q && sameAll ps qs
-
-pub same-all : (ps qs : List Interval) → sameAll ps qs ≡ true → ps ≡ qs
-unfolding sameAll
-same-all [] [] e = refl
-same-all [] (q ∷ qs) e = absurd (false≢true e)
-same-all (p ∷ ps) [] e = absurd (false≢true e)
-same-all (p ∷ ps) (q ∷ qs) e =
-    let h = both-true (same p q) (sameAll ps qs) e in
-    ap₂ {C = List Interval} (λ x xs. x ∷ xs) (same-true p q (h .0)) (same-all ps qs (h .1))
 
 -- which refusal it is, if any
 unfoldable pub sameCause : Option ℕ → Option ℕ → Bool

@@ -9,7 +9,7 @@ use lib.ListN.{replicate}
 use Rattle.semantics.specs.Area.{every, areaOf, lineCodes}
 use Rattle.semantics.specs.ReadPage.{ReadAnswer, refusedPage, readPage, ReadOutcome, badLine, badLineOf, textRefusal, refusalOf, readOf, lineOf, startFrom, startOf}
 use Rattle.semantics.specs.Text.{textLines, fieldsOf, isNumber, numberIn, isLiteral, literalIn, allLiterals, isOp, opIn, isReading, readingIn, isHead, isFact, isRule, isQuery, hasForm, lineIn, linesIn, pageIn}
-use Rattle.semantics.proofs.Same.{sameNumbers, same-numbers}
+use Rattle.semantics.proofs.Same.{sameList, sameNumbers, same-numbers}
 use Rattle.semantics.proofs.Soundness.{both-true, Every, every-true}
 use Rattle.semantics.proofs.TextRows.{TextRow, reads, answers, shows, HoldsIn, AllHoldIn, textRows, head, noEnd, fact34, zeroFirst, fact43, fact44, last, past, top200, top201, eight, nine, example, query, three, top1000, conditions512, conditions513, weight3, weight4, weight0, letters, formAndRange, noLine, queries, noForm, nines}
 
@@ -48,7 +48,7 @@ law [] e = tt
 law (r ∷ rs) e = let h = both-true (every (tests r)) (test rs) e in (passed r (every-true (tests r) (h .0)), law rs (h .1))
 
 computed : test textRows ≡ true
-unfolding textRows head noEnd fact34 zeroFirst fact43 fact44 last past top200 top201 eight nine example query three top1000 conditions512 conditions513 weight3 weight4 weight0 letters formAndRange noLine queries noForm nines test sameNumbers sameRead readOf refusalOf textRefusal badLineOf badLine lineOf startFrom textLines fieldsOf isNumber numberIn isLiteral literalIn allLiterals isOp opIn isReading readingIn isHead isFact isRule isQuery hasForm lineIn linesIn pageIn areaOf lineCodes
+unfolding textRows head noEnd fact34 zeroFirst fact43 fact44 last past top200 top201 eight nine example query three top1000 conditions512 conditions513 weight3 weight4 weight0 letters formAndRange noLine queries noForm nines test sameList sameRead readOf refusalOf textRefusal badLineOf badLine lineOf startFrom textLines fieldsOf isNumber numberIn isLiteral literalIn allLiterals isOp opIn isReading readingIn isHead isFact isRule isQuery hasForm lineIn linesIn pageIn areaOf lineCodes
 computed = refl
 
 pub text-bench : AllHoldIn textRows
