@@ -110,13 +110,18 @@ def load(text):
     return functions, types
 
 
-def calls(body):
-    """The names of the functions that statements call."""
+def calls(body, looped=False):
+    """The names of the functions that statements call, each with whether that call stands in a loop."""
     for statement in body:
         if statement[0] == 'call':
-            yield statement[1][1][1]
+            yield statement[1][1][1], looped
         for inner in inner_lists(statement):
-            yield from calls(inner)
+            yield from calls(inner, looped or statement[0] == 'loop')
+
+
+def size(body):
+    """How many statements there are, inner ones included."""
+    return sum(1 + sum(map(size, inner_lists(statement))) for statement in body)
 
 
 def inner_lists(statement):

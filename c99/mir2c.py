@@ -45,6 +45,15 @@ APART = '''#ifdef __GNUC__
 #endif
 '''
 
+# a function of more statements than this, with those that only it calls, is not inlined by gcc -O2 if it is called in two places
+LONG = 64
+SHARED = '''#if defined(__GNUC__) && defined(__OPTIMIZE__) && !defined(__OPTIMIZE_SIZE__)
+#define SHARED inline __attribute__((always_inline)) /* the body of two loops */
+#else
+#define SHARED inline
+#endif
+'''
+
 HELPERS = {
     'leadingZeros': '''/* The bits above the highest one; {w} for 0. */
 static inline uint32_t leading_zeros_{w}(uint{w}_t x)
@@ -103,7 +112,9 @@ class Program:
     """The types, in the order in which C needs them, and what is known of the functions."""
 
     def __init__(self, functions, types, names, folded):
-        self.functions, self.types, self.names, self.folded = functions, types, names, folded
+        self.functions, self.types, self.names = functions, types, names
+        self.bodies = {name: fold.fold(function) if folded else function.body for name, function in functions.items()}
+        self.shared = shared(self.bodies)
         self.defined, self.helpers = {}, {}
 
     def shape(self, t):
@@ -226,7 +237,7 @@ class Writer:
 
     def __init__(self, program, function):
         self.program, self.function, self.types = program, function, function.locals
-        self.body = fold.fold(function) if program.folded else function.body
+        self.body = program.bodies[function.name]
         self.lines, self.depth, self.labels, self.breakable, self.count = [], 1, [], [], 0
         self.comment, given = program.names.function(function.name)
         self.given = given if len(given) == function.parameters else []
@@ -364,7 +375,7 @@ class Writer:
         unread = [self.name(str(i)) for i in range(1, 1 + count) if self.name(str(i)) not in used]
         unread = [f'    (void){name}; /* only the contract speaks of it */' for name in unread]
         mine = [i for i in range(len(self.types)) if (i == 0 or i > count) and f'x{i}' in used]
-        kind = 'APART' if self.array_bytes() >= LARGE else 'inline'
+        kind = 'APART' if self.array_bytes() >= LARGE else 'SHARED' if self.function.name in self.program.shared else 'inline'
         head = f'static {kind} {self.program.result(self.function.name)} {c_name(self.function.name)}({parameters})'
         return comment(self.comment) + wrapped(head) + ['{'] + self.declarations(mine) + unread + self.lines + ['}', '']
 
@@ -440,7 +451,7 @@ def needed(functions, exports):
         if name not in functions:
             raise Unknown(f'function {name}')
         open_.append(name)
-        for callee in mir.calls(functions[name].body):
+        for callee, _ in mir.calls(functions[name].body):
             visit(callee)
         open_.pop()
         order.append(name)
@@ -450,19 +461,35 @@ def needed(functions, exports):
     return order
 
 
+def shared(bodies):
+    """The functions that two loops share as a part of their body, and no other place calls: those that are LONG."""
+    sites = {}
+    for caller, body in bodies.items():
+        for callee, looped in mir.calls(body):
+            sites.setdefault(callee, []).append((caller, looped))
+
+    def length(name):
+        """The statements of a function and of those that only it calls."""
+        own = {callee for callee, _ in mir.calls(bodies[name]) if all(caller == name for caller, _ in sites[callee])}
+        return mir.size(bodies[name]) + sum(map(length, own))
+
+    return {name for name, found in sites.items() if len(found) == 2 and all(looped for _, looped in found) and length(name) > LONG}
+
+
 def translate(text, prefix, sources, include, folded):
     functions, types = mir.load(text)
     exports = [name for name in functions if name.split('::')[-1].startswith(prefix)]
-    program = Program(functions, types, source.Source(sources), folded)
+    order = needed(functions, exports)
+    program = Program({name: functions[name] for name in order}, types, source.Source(sources), folded)
     bodies, visible = [], []
-    for name in needed(functions, exports):
+    for name in order:
         writer = Writer(program, functions[name])
         bodies += writer.text()
         if name in exports:
             visible += Export(program, functions[name], writer).text()
     defined = [line for lines in program.defined.values() for line in lines + ([''] if len(lines) > 1 else [])]
     head = HEAD + (f'#include "{include}"\n' if include else '')
-    return '\n'.join([head, CHECKS, APART, *defined, '', *program.helpers.values(), *bodies, *visible]).rstrip() + '\n'
+    return '\n'.join([head, CHECKS, APART, SHARED, *defined, '', *program.helpers.values(), *bodies, *visible]).rstrip() + '\n'
 
 
 def main():

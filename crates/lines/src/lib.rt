@@ -1,5 +1,6 @@
 // The lines after the first: `F,cond,low,high`, `R,cond,weight,op,literal,...`, `Q,reading,cond`, parsed by their form. What is out of
 // range is for the caller to refuse, who has every field at hand.
+ghost use Prim.Native.Nat.{ℕ};
 ghost use mathlib.Core.Path.{_≡_};
 ghost use lib.ListN.{getD};
 ghost use Rattle.fields.specs.Cursor.{InText};
@@ -55,9 +56,9 @@ fn parse_pair(bytes: &[u8], at: usize) -> Pair
 }
 
 // The line at a place that begins with `F`.
-fn parse_fact(bytes: &[u8], at: usize, conditions: u16) -> Parsed
+fn parse_fact(bytes: &[u8], at: usize) -> Parsed
     requires { ⌜ InText (now bytes) at × (getD (now bytes) at 10 ≡ 70) ⌝ }
-    ensures { λ r. ⌜ ParsedAs (now (bytes .entry)) at conditions r ⌝ }
+    ensures { λ r. ⌜ ((n : ℕ) → ParsedAs (now (bytes .entry)) at n r) ⌝ }
 {
     let Pair::Good(condition, low, a) = parse_pair(bytes, at) else {
         return Parsed::Form;
@@ -178,9 +179,9 @@ pub fn reading_code(letter: u8) -> u16
 }
 
 // The line at a place that begins with `Q`.
-fn parse_query(bytes: &[u8], at: usize, conditions: u16) -> Parsed
+fn parse_query(bytes: &[u8], at: usize) -> Parsed
     requires { ⌜ InText (now bytes) at × (getD (now bytes) at 10 ≡ 81) ⌝ }
-    ensures { λ r. ⌜ ParsedAs (now (bytes .entry)) at conditions r ⌝ }
+    ensures { λ r. ⌜ ((n : ℕ) → ParsedAs (now (bytes .entry)) at n r) ⌝ }
 {
     if bytes[at + 1] != b',' {
         return Parsed::Form;
@@ -205,9 +206,9 @@ pub fn parse_line(bytes: &[u8], at: usize, conditions: u16) -> Parsed
 {
     let letter = bytes[at];
     match letter {
-        b'F' => parse_fact(bytes, at, conditions),
+        b'F' => parse_fact(bytes, at),
         b'R' => parse_rule(bytes, at, conditions),
-        b'Q' => parse_query(bytes, at, conditions),
+        b'Q' => parse_query(bytes, at),
         _ => Parsed::Form,
     }
 }

@@ -22,7 +22,7 @@ enum-told : tie.Need-enum-told
 enum-told c = search needs
 
 returns : tie.Need-returns
-returns c = let a = c .before .before .before .before .args in pair-form (a .bytes .now) (a .at) (c .before .before .parse-pair .ensures) (c .enum-told .given .1)
+returns c _ = let a = c .before .before .before .before .args in pair-form (a .bytes .now) (a .at) (c .before .before .parse-pair .ensures) (c .enum-told .given .1)
 
 number-before-requires : tie.Need-number-before-requires
 number-before-requires c κs = (the-pair c .place, newline-class)
@@ -34,10 +34,10 @@ enum-told-2 : tie.Need-enum-told-2
 enum-told-2 c = search needs
 
 returns-2 : tie.Need-returns-2
-returns-2 c = let a = c .before .before .before .before .before .before .before .before .args in no-high (a .bytes .now) (a .at) (c .before .before .before .before .before .before .before .before .pre .1) (the-pair (c .before .before .before)) (no-number-last (a .bytes .now) (c .before .before .before .before .condition .given .0 .1 .1 .0) (c .before .before .number-before .ensures) (c .enum-told2 .given .1))
+returns-2 c _ = let a = c .before .before .before .before .before .before .before .before .args in no-high (a .bytes .now) (a .at) (c .before .before .before .before .before .before .before .before .pre .1) (the-pair (c .before .before .before)) (no-number-last (a .bytes .now) (c .before .before .before .before .condition .given .0 .1 .1 .0) (c .before .before .number-before .ensures) (c .enum-told2 .given .1))
 
 returns-3 : tie.Need-returns-3
-returns-3 c = let a = c .before .before .before .before .before .before .before .before .before .args in a-fact (a .bytes .now) (a .at) (c .before .before .before .before .before .before .before .before .before .pre .1) (the-pair (c .before .before .before .before)) (number-last (a .bytes .now) (c .before .before .before .before .before .condition .given .0 .1 .1 .0) (c .before .before .before .number-before .ensures) (c .before .high .given .1))
+returns-3 c _ = let a = c .before .before .before .before .before .before .before .before .before .args in a-fact (a .bytes .now) (a .at) (c .before .before .before .before .before .before .before .before .before .pre .1) (the-pair (c .before .before .before .before)) (number-last (a .bytes .now) (c .before .before .before .before .before .condition .given .0 .1 .1 .0) (c .before .before .before .number-before .ensures) (c .before .high .given .1))
 
 pub parse-fact-spec : {M : Type 1} → statement M
 parse-fact-spec =

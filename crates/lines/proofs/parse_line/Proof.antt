@@ -19,13 +19,13 @@ parse-query-requires : tie.Need-parse-query-requires
 parse-query-requires c κs = let a = c .before .before .before .args in let b = sym (byte-here (a .bytes .now) (a .at) (c .before .before .before .pre .inside)) in (c .before .before .before .pre, b ∙ c .match .keys3)
 
 returns : tie.Need-returns
-returns c = search needs
+returns c = c .parse-fact .ensures (c .before .before .before .before .args .conditions)
 
 returns-2 : tie.Need-returns-2
 returns-2 c = search needs
 
 returns-3 : tie.Need-returns-3
-returns-3 c = search needs
+returns-3 c = c .parse-query .ensures (c .before .before .before .before .args .conditions)
 
 returns-4 : tie.Need-returns-4
 returns-4 c =

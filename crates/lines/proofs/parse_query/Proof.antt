@@ -55,7 +55,7 @@ shared-slice-read-if1 : tie.Need-shared-slice-read-if1
 shared-slice-read-if1 c = letter-next (c .before .before .args .bytes .now) (c .before .before .args .at) (c .before .before .pre .0) (c .before .before .pre .1) (plain 81 (omega arith)) .inside
 
 returns : tie.Need-returns
-returns c = gone-line (fieldsAt (drop (c .before .before .before .args .at) (c .before .before .before .args .bytes .now))) (letter-gone (c .before .before .before .args .bytes .now) (c .before .before .before .args .at) (c .before .before .before .pre .0) (c .before .before .before .pre .1) (plain 81 (omega arith)) (c .if1 .taken))
+returns c _ = gone-line (fieldsAt (drop (c .before .before .before .args .at) (c .before .before .before .args .bytes .now))) (letter-gone (c .before .before .before .args .bytes .now) (c .before .before .before .args .at) (c .before .before .before .pre .0) (c .before .before .before .pre .1) (plain 81 (omega arith)) (c .if1 .taken))
 
 add-reading-code : tie.Need-add-reading-code
 add-reading-code c = search needs
@@ -67,7 +67,7 @@ reading-code-requires : tie.Need-reading-code-requires
 reading-code-requires c κs = search needs
 
 returns-2 : tie.Need-returns-2
-returns-2 c =
+returns-2 c _ =
     no-reading-letter (c .before .before .before .before .before .before .args .bytes .now) (c .before .before .before .before .before .before .args .at) (the-letter (c .before .before .before))
     (none-reading (c .before .before .before .before .before .before .args .bytes .now) (c .before .before .before .before .before .before .args .at + 2) (ap readingAt (sym (byte-two (c .before .before .before))) ∙ sym (c .before .reading-code .ensures) ∙ c .if2 .taken))
 
@@ -78,7 +78,7 @@ shared-slice-read-if3 : tie.Need-shared-slice-read-if3
 shared-slice-read-if3 c = omega (arith, reading-next (c .before) .inside)
 
 returns-3 : tie.Need-returns-3
-returns-3 c =
+returns-3 c _ =
     let r = getD (c .before .before .before .before .before .before .before .before .args .bytes .now) (c .before .before .before .before .before .before .before .before .args .at + 2) 0 in
     let n = a-reading (c .before .before) in
     no-reading-letter (c .before .before .before .before .before .before .before .before .args .bytes .now) (c .before .before .before .before .before .before .before .before .args .at) (the-letter (c .before .before .before .before .before))
@@ -99,10 +99,10 @@ enum-told : tie.Need-enum-told
 enum-told c = search needs
 
 returns-4 : tie.Need-returns-4
-returns-4 c = no-query (c .before .before .before .before .before .before .before .before .before .before .before .args .bytes .now) (c .before .before .before .before .before .before .before .before .before .before .before .args .at) (the-letter (c .before .before .before .before .before .before .before .before)) (the-reading (c .before .before .before)) (no-number-last (c .before .before .before .before .before .before .before .before .before .before .before .args .bytes .now) (c .before .before .before .before .before .before .before .before .before .before .before .args .at + 4) (c .before .before .number-before .ensures) (c .enum-told .given .1))
+returns-4 c _ = no-query (c .before .before .before .before .before .before .before .before .before .before .before .args .bytes .now) (c .before .before .before .before .before .before .before .before .before .before .before .args .at) (the-letter (c .before .before .before .before .before .before .before .before)) (the-reading (c .before .before .before)) (no-number-last (c .before .before .before .before .before .before .before .before .before .before .before .args .bytes .now) (c .before .before .before .before .before .before .before .before .before .before .before .args .at + 4) (c .before .before .number-before .ensures) (c .enum-told .given .1))
 
 returns-5 : tie.Need-returns-5
-returns-5 c = record { reading = _; says = the-query c }
+returns-5 c _ = record { reading = _; says = the-query c }
 
 pub parse-query-spec : {M : Type 1} → statement M
 parse-query-spec =
