@@ -8,12 +8,6 @@ use borrow.Author.Needs.{needs}
 use Rattle.capi.proofs.closed_code.Statement.{statement}
 use Rattle.capi.proofs.closed_code.Tie as tie
 
-enum-known-answer : tie.Need-enum-known-answer
-enum-known-answer c = search needs
-
-minus-requires : tie.Need-minus-requires
-minus-requires c κs = search needs
-
 enum-told : tie.Need-enum-told
 enum-told c = search needs
 
@@ -24,5 +18,4 @@ returns-2 : tie.Need-returns-2
 returns-2 c = ap (λ (r : ClosedAnswer). closedCode (refusalTold r)) (sym (c .enum-told .given .1))
 
 pub closed-code-spec : {M : Type 1} → statement M
-closed-code-spec =
-    tie.close (tie.spec enum-known-answer minus-requires enum-told returns returns-2)
+closed-code-spec = tie.close (tie.spec (search needs) (λ c κs. search needs) enum-told returns returns-2)
