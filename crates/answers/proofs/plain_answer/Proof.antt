@@ -15,9 +15,6 @@ use Rattle.answers.proofs.plain_answer.Tie as tie
 long : (z : tie.Start) → 3 * conditionsOf (z .args .page .now) ≤ 1536
 long z = omega (arith, head-of (z .args .page .now) (z .pre .0))
 
-enum-told : tie.Need-enum-told
-enum-told c = search needs
-
 returns : tie.Need-returns
 returns c = absurd (never-refused (c .before .before .before .before .before .before .before .before .before .args .page .now) (c .before .before .before .before .before .before .before .before .before .pre .0) (c .before .before .before .before .before .before .before .before .before .args .c) (c .before .before .before .before .before .before .before .before .before .pre .1) _ (long (c .before .before .before .before .before .before .before .before .before)) (ap openingOf (sym (c .before .enum-told .given .1)) ∙ c .before .before .before .before .open-run .ensures .0))
 
@@ -29,6 +26,6 @@ returns-3 c = value-plain (c .before .before .before .before .before .before .be
 
 pub plain-answer-spec : {M : Type 1} → statement M
 plain-answer-spec =
-    tie.close (tie.spec (search needs) (search needs) (λ c κs. search needs) (search needs) enum-told (λ c κs. search needs) returns (search needs)
-    (λ c κs. search needs) (search needs) (λ c κs. search needs) (search needs) (λ c. search needs) (λ c κs. search needs) (search needs) returns-2
-    (search needs) returns-3)
+    tie.close (tie.spec (search needs) (search needs) (λ c κs. search needs) (search needs) (λ c. search needs) (λ c κs. search needs) returns
+    (search needs) (λ c κs. search needs) (search needs) (λ c κs. search needs) (search needs) (λ c. search needs) (λ c κs. search needs)
+    (search needs) returns-2 (search needs) returns-3)

@@ -7,9 +7,6 @@ use borrow.Author.Needs.{needs}
 use Rattle.capi.proofs.simjorad_evaluate.Statement.{statement}
 use Rattle.capi.proofs.simjorad_evaluate.Tie as tie
 
-enum-told : tie.Need-enum-told
-enum-told c = search needs
-
 returns : tie.Need-returns
 returns c =
     let b = c .before .before .before .before .before .before in
@@ -30,5 +27,5 @@ returns-3 c =
 
 pub simjorad-evaluate-spec : {M : Type 1} → statement M
 simjorad-evaluate-spec =
-    tie.close (tie.spec (λ c κs. search needs) (search needs) (λ c κs. search needs) enum-told (λ c. search needs) (search needs) returns
+    tie.close (tie.spec (λ c κs. search needs) (search needs) (λ c κs. search needs) (λ c. search needs) (λ c. search needs) (search needs) returns
     (search needs) returns-2 (search needs) returns-3)

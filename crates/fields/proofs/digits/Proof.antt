@@ -11,9 +11,6 @@ use Rattle.fields.proofs.digits.Tie as tie
 the-first : (c : tie.After-known-told) → DigitIs (getD (c .before .before .before .before .before .before .args .bytes .now) (c .before .before .before .before .before .before .args .at) 0) (c .before .first .given .0 .0)
 the-first c = some-digit (getD (c .before .before .before .before .before .before .args .bytes .now) (c .before .before .before .before .before .before .args .at) 0) (c .before .before .before .digit .ensures) (c .before .first .given .1)
 
-enum-told : tie.Need-enum-told
-enum-told c = search needs
-
 returns : tie.Need-returns
 returns c = let a = c .before .before .before .before .before .args in no-digits (a .bytes .now) (a .at) (c .before .before .before .before .before .pre) (no-digit (getD (a .bytes .now) (a .at) 0) (c .before .before .digit .ensures) (c .enum-told .given .1))
 
@@ -25,4 +22,5 @@ digits-from-requires c κs = record { place = c .before .before .before .before 
 
 pub digits-spec : {M : Type 1} → statement M
 digits-spec =
-    tie.close (tie.spec (search needs) (search needs) (search needs) enum-told returns (search needs) returns-2 digits-from-requires (λ c. search needs))
+    tie.close (tie.spec (search needs) (search needs) (search needs) (λ c. search needs) returns (search needs) returns-2 digits-from-requires
+    (λ c. search needs))

@@ -18,9 +18,6 @@ third c = some-digit (getD (c .before .before .before .before .before .before .b
 shared-slice-read-digit : tie.Need-shared-slice-read-digit
 shared-slice-read-digit c = let a = c .before .before .args in let k = c .before .before .pre in digit-next (a .bytes .now) (a .at) (k .place) (k .digit) .inside
 
-enum-told : tie.Need-enum-told
-enum-told c = search needs
-
 returns : tie.Need-returns
 returns c =
     let a = c .before .before .before .before .before .args in
@@ -64,6 +61,6 @@ returns-3 c =
 
 pub digits-from-spec : {M : Type 1} → statement M
 digits-from-spec =
-    tie.close (tie.spec (search needs) shared-slice-read-digit (search needs) (search needs) enum-told (search needs) (search needs) returns
+    tie.close (tie.spec (search needs) shared-slice-read-digit (search needs) (search needs) (λ c. search needs) (search needs) (search needs) returns
     (search needs) shared-slice-read-digit-2 (search needs) (search needs) (search needs) (search needs) add-t15 cast-t16 (search needs) returns-2
     (search needs) add-t19 mul-t20 add-t21 cast-t22 (search needs) returns-3)

@@ -15,9 +15,6 @@ the-pair c = let a = c .before .before .before .before .before .args in some-pai
 parse-pair-requires : tie.Need-parse-pair-requires
 parse-pair-requires c κs = (c .before .pre .0, inl (c .before .pre .1))
 
-enum-told : tie.Need-enum-told
-enum-told c = search needs
-
 returns : tie.Need-returns
 returns c = let a = c .before .before .before .before .args in pair-form (a .bytes .now) (a .at) (c .before .before .parse-pair .ensures) (c .enum-told .given .1)
 
@@ -32,4 +29,5 @@ returns-3 c = let a = c .before .before .before .before .before .before .before 
 
 pub parse-fact-spec : {M : Type 1} → statement M
 parse-fact-spec =
-    tie.close (tie.spec parse-pair-requires (search needs) enum-told returns number-before-requires (search needs) (search needs) returns-2 returns-3)
+    tie.close (tie.spec parse-pair-requires (search needs) (λ c. search needs) returns number-before-requires (search needs) (search needs) returns-2
+    returns-3)

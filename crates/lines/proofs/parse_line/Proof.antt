@@ -23,5 +23,5 @@ returns-4 c =
 
 pub parse-line-spec : {M : Type 1} → statement M
 parse-line-spec =
-    tie.close (tie.spec (search needs) parse-fact-requires parse-rule-requires parse-query-requires (λ c. search needs) (λ c. search needs) (λ c. search needs)
-    returns-4)
+    tie.close (tie.spec (search needs) parse-fact-requires parse-rule-requires parse-query-requires (λ c. search needs) (λ c. search needs)
+    (λ c. search needs) returns-4)

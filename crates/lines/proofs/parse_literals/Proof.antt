@@ -25,9 +25,6 @@ loop-holds c = let a = c .before .args in counting-none (a .bytes .now) (a .at) 
 read-literal-requires : tie.Need-read-literal-requires Inv-loop μ-loop
 read-literal-requires c κs = c .before .loop .inv .passed .place
 
-enum-told : tie.Need-enum-told Inv-loop μ-loop
-enum-told c = search needs
-
 returns : tie.Need-returns Inv-loop μ-loop
 returns c = let a = c .before .before .before .before .before .before .args in not-literal (a .bytes .now) (a .at) (c .before .before .before .before .loop .inv .passed) (no-literal (a .bytes .now) (c .before .before .before .before .loop .i) (c .before .before .read-literal .ensures) (c .enum-told .given .1))
 
@@ -59,5 +56,5 @@ returns-4 c = let a = c .before .before .before .args in too-many (a .bytes .now
 
 pub parse-literals-spec : {M : Type 1} → statement M
 parse-literals-spec =
-    tie.close (tie.spec Inv-loop μ-loop loop-holds read-literal-requires (search needs) enum-told returns (omega arith) (search needs) add-i
+    tie.close (tie.spec Inv-loop μ-loop loop-holds read-literal-requires (search needs) (λ c. search needs) returns (omega arith) (search needs) add-i
     shared-slice-read-b returns-2 returns-3 (omega arith) loop-again returns-4)

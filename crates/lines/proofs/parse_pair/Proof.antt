@@ -30,9 +30,6 @@ returns c = let a = c .before .before .before .args in gone-line (fieldsAt (drop
 number-before-requires : tie.Need-number-before-requires
 number-before-requires c κs = (the-letter c .place, comma-class)
 
-enum-told : tie.Need-enum-told
-enum-told c = search needs
-
 returns-2 : tie.Need-returns-2
 returns-2 c = let a = c .before .before .before .before .before .before .args in no-first (a .bytes .now) (a .at) (c .before .before .before .before .before .before .pre .1) (the-letter (c .before .before .before)) (no-number-then (a .bytes .now) (a .at + 2) (c .before .before .number-before .ensures) (c .enum-told .given .1))
 
@@ -47,5 +44,5 @@ returns-4 c = let a = c .before .before .before .before .before .before .before 
 
 pub parse-pair-spec : {M : Type 1} → statement M
 parse-pair-spec =
-    tie.close (tie.spec (search needs) shared-slice-read-if1 returns (search needs) number-before-requires (search needs) enum-told returns-2
-    number-before-requires-2 (search needs) (search needs) returns-3 returns-4)
+    tie.close (tie.spec (search needs) shared-slice-read-if1 returns (search needs) number-before-requires (search needs) (λ c. search needs)
+    returns-2 number-before-requires-2 (search needs) (search needs) returns-3 returns-4)

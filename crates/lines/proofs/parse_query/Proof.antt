@@ -77,9 +77,6 @@ returns-3 c =
 number-before-requires : tie.Need-number-before-requires
 number-before-requires c κs = (query-place (c .before .before .before .before .before .before .before .before .args .bytes .now) (c .before .before .before .before .before .before .before .before .args .at) (the-letter (c .before .before .before .before .before)) (the-reading c), newline-class)
 
-enum-told : tie.Need-enum-told
-enum-told c = search needs
-
 returns-4 : tie.Need-returns-4
 returns-4 c = no-query (c .before .before .before .before .before .before .before .before .before .before .before .args .bytes .now) (c .before .before .before .before .before .before .before .before .before .before .before .args .at) (the-letter (c .before .before .before .before .before .before .before .before)) (the-reading (c .before .before .before)) (no-number-last (c .before .before .before .before .before .before .before .before .before .before .before .args .bytes .now) (c .before .before .before .before .before .before .before .before .before .before .before .args .at + 4) (c .before .before .number-before .ensures) (c .enum-told .given .1))
 
@@ -89,4 +86,4 @@ returns-5 c = record { reading = _; says = the-query c }
 pub parse-query-spec : {M : Type 1} → statement M
 parse-query-spec =
     tie.close (tie.spec (search needs) shared-slice-read-if1 returns (search needs) shared-slice-read-reading-code (search needs) returns-2
-    (search needs) shared-slice-read-if3 returns-3 (search needs) number-before-requires (search needs) enum-told returns-4 returns-5)
+    (search needs) shared-slice-read-if3 returns-3 (search needs) number-before-requires (search needs) (λ c. search needs) returns-4 returns-5)

@@ -34,9 +34,6 @@ the-op c =
 parse-pair-requires : tie.Need-parse-pair-requires
 parse-pair-requires c κs = (c .before .pre .0, inr (c .before .pre .1))
 
-enum-told : tie.Need-enum-told
-enum-told c = search needs
-
 returns : tie.Need-returns
 returns c = let a = c .before .before .before .before .args in pair-form (a .bytes .now) (a .at) (c .before .before .parse-pair .ensures) (c .enum-told .given .1)
 
@@ -81,5 +78,5 @@ returns-5 c =
 
 pub parse-rule-spec : {M : Type 1} → statement M
 parse-rule-spec =
-    tie.close (tie.spec parse-pair-requires (search needs) enum-told returns shared-slice-read-op-kind (search needs) returns-2 add-if2
+    tie.close (tie.spec parse-pair-requires (search needs) (λ c. search needs) returns shared-slice-read-op-kind (search needs) returns-2 add-if2
     shared-slice-read-if2 returns-3 add-parse-literals parse-literals-requires (search needs) (search needs) returns-4 returns-5)

@@ -16,5 +16,5 @@ returns c = record { marked = rw (c .before .before .before .before .before .bef
 
 pub change-spec : {M : Type 1} → statement M
 change-spec =
-    tie.close (tie.spec shared-slice-read-top (search needs) (search needs) store-requires (λ c κs. search needs) (search needs) (search needs) (search needs)
-    returns)
+    tie.close (tie.spec shared-slice-read-top (search needs) (search needs) store-requires (λ c κs. search needs) (search needs) (search needs)
+    (search needs) returns)

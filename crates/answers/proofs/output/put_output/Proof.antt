@@ -14,9 +14,6 @@ put-refusal-requires c κs =
     let s = read-small _ _ (ap answerOf (sym (c .before .before .read .given .1)) ∙ c .before .before .before .before .before .read-page .ensures .0) in
     (omega (arith, c .before .before .before .before .before .before .before .before .before .pre), omega (arith, s .0), omega (arith, s .1))
 
-enum-told : tie.Need-enum-told
-enum-told c = search needs
-
 put-page-requires : tie.Need-put-page-requires
 put-page-requires c κs =
     let r = c .before .before .before .before .before .read-page in
@@ -32,5 +29,5 @@ returns-2 c =
 
 pub put-output-spec : {M : Type 1} → statement M
 put-output-spec =
-    tie.close (tie.spec (search needs) (λ c κs. search needs) (search needs) put-refusal-requires enum-told (search needs) put-page-requires
+    tie.close (tie.spec (search needs) (λ c κs. search needs) (search needs) put-refusal-requires (λ c. search needs) (search needs) put-page-requires
     (search needs) returns (search needs) returns-2)
