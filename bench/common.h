@@ -89,6 +89,33 @@ static inline int queries_fault(const uint16_t *queries, size_t length, unsigned
     return 0;
 }
 
+/* The closed reading: 0, or the refusal 10, 11, 12, 18 or 19. */
+static inline int closed_fault(const uint16_t *page, size_t page_length, const uint16_t *queries, size_t queries_length,
+                               size_t scratch_length, size_t answers_length)
+{
+    int fault;
+
+    if (!page_sound(page, page_length))
+        return 10;
+    if ((fault = queries_fault(queries, queries_length, page[1])) != 0)
+        return fault;
+    if (scratch_length < 6u * page[1])
+        return 18;
+    return answers_length < 2 * queries_length ? 19 : 0;
+}
+
+/* Its answers, from both ends by literal. */
+static inline void put_answers(const uint16_t *low, const uint16_t *high, const uint16_t *queries, size_t length,
+                               uint16_t *answers)
+{
+    size_t i;
+
+    for (i = 0; i < length; i++) {
+        answers[2 * i] = low[2 * queries[i]];
+        answers[2 * i + 1] = high[2 * queries[i]];
+    }
+}
+
 /* One end of a rule, given that end of every literal. */
 static inline unsigned rule_end(const uint16_t *rule, const uint16_t *value, unsigned top)
 {

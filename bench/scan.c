@@ -491,15 +491,9 @@ int32_t scan_closed(const uint16_t *page, size_t page_length, const uint16_t *qu
     unsigned top, count, c, i;
     int fault, more;
 
-    if (!page_sound(page, page_length))
-        return -10;
-    top = page[0], count = page[1];
-    if ((fault = queries_fault(queries, queries_length, count)) != 0)
+    if ((fault = closed_fault(page, page_length, queries, queries_length, scratch_length, answers_length)) != 0)
         return -fault;
-    if (scratch_length < 6 * count)
-        return -18;
-    if (answers_length < 2 * queries_length)
-        return -19;
+    top = page[0], count = page[1];
     memset(scratch, 0, 6 * count * sizeof *scratch);
     low = scratch;
     high = scratch + 2 * count;
@@ -531,10 +525,7 @@ int32_t scan_closed(const uint16_t *page, size_t page_length, const uint16_t *qu
             low[2 * c + 1] = top - high[2 * c];
     } while (rise(page, seen, low, 2) && stale(page, low, high));
 
-    for (i = 0; i < queries_length; i++) {
-        answers[2 * i] = low[2 * queries[i]];
-        answers[2 * i + 1] = high[2 * queries[i]];
-    }
+    put_answers(low, high, queries, queries_length, answers);
     memset(scratch, 0, 6 * count * sizeof *scratch);
     return 0;
 }

@@ -105,12 +105,7 @@ fn compare_in_pieces(trial: &mut Trial, text: &[u8], piece: usize) -> Check {
 }
 
 pub fn cases() -> Vec<Case> {
-    let case = |name, items, each| Case {
-        name,
-        items,
-        each,
-        must_see: &[],
-    };
+    let case = Case::new;
     vec![
         case("attach_prints_the_example", 1, example),
         case("attach_answers_every_example_page", 1, example_pages),

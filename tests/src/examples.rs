@@ -10,12 +10,7 @@ use crate::stack::header_figure;
 use crate::trial::{figure, Check, Trial};
 
 pub fn cases() -> Vec<Case> {
-    let case = |name, items, each| Case {
-        name,
-        items,
-        each,
-        must_see: &[],
-    };
+    let case = Case::new;
     vec![
         case(
             "c_examples_print_what_is_expected",

@@ -37,6 +37,18 @@ pub struct Case {
     pub must_see: &'static [(&'static str, Refusal)],
 }
 
+impl Case {
+    /// A case that need not see any outcome.
+    pub fn new(name: &'static str, items: u64, each: fn(&mut Trial, u64) -> Check) -> Case {
+        Case {
+            name,
+            items,
+            each,
+            must_see: &[],
+        }
+    }
+}
+
 static PASSED: AtomicU64 = AtomicU64::new(0);
 static FAILED: AtomicU64 = AtomicU64::new(0);
 /// The name of the case under way, for the fault report.

@@ -13,7 +13,6 @@ use crate::area::{self, held_pairs, NOT_REACHED_MARK, REACHED_MARK, WAITING_MARK
 use crate::attach;
 use crate::body::{combine, Pair};
 use crate::fast::{Index, Run};
-use crate::ffi::Call;
 use crate::page::{self, Line, Op, Page};
 use crate::plain::{self, check_queries};
 use crate::reach;
@@ -568,21 +567,6 @@ fn fault(name: &str) -> bool {
     planted() == name
 }
 
-/// The function that stands in for a call.
-pub fn function(call: Call) -> *const () {
-    match call {
-        Call::Read => simjorad_read as *const (),
-        Call::ShowLine => simjorad_show_line as *const (),
-        Call::Open => simjorad_open as *const (),
-        Call::Evaluate => simjorad_evaluate as *const (),
-        Call::Drive => simjorad_drive as *const (),
-        Call::DriveIndexed => simjorad_drive_indexed as *const (),
-        Call::Value => simjorad_value as *const (),
-        Call::Closed => simjorad_closed as *const (),
-        Call::ClosedIndexed => simjorad_closed_indexed as *const (),
-    }
-}
-
 /// The program `attach`; its exit status.
 pub fn attach() -> i32 {
     let mut text = Vec::new();
@@ -1109,7 +1093,7 @@ fn read_text(text: &[u8], area: &mut [u16]) -> Result<usize, ReadRefusal> {
     Err(refusal)
 }
 
-unsafe extern "C" fn simjorad_read(
+pub unsafe extern "C" fn simjorad_read(
     text: *const u8,
     text_length: usize,
     area: *mut u16,
@@ -1130,7 +1114,7 @@ unsafe extern "C" fn simjorad_read(
     }
 }
 
-unsafe extern "C" fn simjorad_show_line(
+pub unsafe extern "C" fn simjorad_show_line(
     text: *const u8,
     text_length: usize,
     number: usize,
@@ -1217,7 +1201,7 @@ fn open(page_area: &[u16], queries: &[u16], run: &mut [u16]) -> Result<Opened, R
     Ok(opened)
 }
 
-unsafe extern "C" fn simjorad_open(
+pub unsafe extern "C" fn simjorad_open(
     page: *const u16,
     page_length: usize,
     queries: *const u16,
@@ -1269,7 +1253,7 @@ fn evaluate(page_area: &[u16], run: &mut [u16], cond: u32) -> Result<bool, Refus
     Ok(step(&page, run, cond))
 }
 
-unsafe extern "C" fn simjorad_evaluate(
+pub unsafe extern "C" fn simjorad_evaluate(
     page: *const u16,
     page_length: usize,
     run: *mut u16,
@@ -1335,7 +1319,7 @@ fn take_stack<const BYTES: usize>() {
     }
 }
 
-unsafe extern "C" fn simjorad_drive(
+pub unsafe extern "C" fn simjorad_drive(
     page: *const u16,
     page_length: usize,
     run: *mut u16,
@@ -1418,7 +1402,7 @@ fn without_negations(page_area: &[u16]) -> Vec<u16> {
     area::encode(&page)
 }
 
-unsafe extern "C" fn simjorad_drive_indexed(
+pub unsafe extern "C" fn simjorad_drive_indexed(
     page: *const u16,
     page_length: usize,
     run: *mut u16,
@@ -1466,7 +1450,7 @@ fn value(page_area: &[u16], run: &[u16], cond: u32) -> Result<Valued, Refusal> {
     })
 }
 
-unsafe extern "C" fn simjorad_value(
+pub unsafe extern "C" fn simjorad_value(
     page: *const u16,
     page_length: usize,
     run: *const u16,
@@ -1533,7 +1517,7 @@ fn closed_call(
     Ok(())
 }
 
-unsafe extern "C" fn simjorad_closed(
+pub unsafe extern "C" fn simjorad_closed(
     page: *const u16,
     page_length: usize,
     queries: *const u16,
@@ -1555,7 +1539,7 @@ unsafe extern "C" fn simjorad_closed(
     }
 }
 
-unsafe extern "C" fn simjorad_closed_indexed(
+pub unsafe extern "C" fn simjorad_closed_indexed(
     page: *const u16,
     page_length: usize,
     queries: *const u16,

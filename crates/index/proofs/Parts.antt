@@ -10,23 +10,27 @@ use lib.Seq.{drop-at, length-take-le}
 use borrow.Rule.Slice.PartAt.{part-to-end}
 use Rattle.semantics.specs.Area.{conditionsOf}
 use Rattle.semantics.specs.Operation.{zeros}
-use Rattle.index.specs.Groups.{LinesByHead, HeadsByLiteral, Cleared}
-use Rattle.index.specs.Parts.{linesLength, Lines, Users, MaybeLines, MaybeUsers, Index}
+use Rattle.index.specs.By.{keysBy}
+use Rattle.index.specs.Groups.{GroupsBy, LinesByHead, HeadsByLiteral, Cleared}
+use Rattle.index.specs.Parts.{linesLength, MaybePart, MaybeLines, MaybeUsers, Index}
+use Rattle.index.specs.declared.By.{By}
+use Rattle.index.specs.declared.By.the-variants.{Head, Literal}
 
 -- a part that is not empty is an index
+has-part : (by : By) (a w : List ℕ) → MaybePart by a w → (length w ≡ 0 → ⊥)
+    → (keysBy by a + 1 ≤ length w) × GroupsBy by a (take (keysBy by a + 1 - 0) w) (take (length w - (keysBy by a + 1)) (drop (keysBy by a + 1) w))
+has-part by a w (inl e) h = absurd (h e)
+has-part by a w (inr i) h =
+    let e : keysBy by a + 1 - 0 ≡ keysBy by a + 1 = omega arith in
+    (i .long, rw (e, part-to-end w (keysBy by a + 1)) (i .groups))
+
 pub has-lines : (a lines : List ℕ) → MaybeLines a lines → (length lines ≡ 0 → ⊥)
     → (conditionsOf a + 1 ≤ length lines) × LinesByHead a (take (conditionsOf a + 1 - 0) lines) (take (length lines - (conditionsOf a + 1)) (drop (conditionsOf a + 1) lines))
-has-lines a lines (inl e) h = absurd (h e)
-has-lines a lines (inr i) h =
-    let e : conditionsOf a + 1 - 0 ≡ conditionsOf a + 1 = omega arith in
-    (i .long, rw (e, part-to-end lines (conditionsOf a + 1)) (i .groups))
+has-lines = has-part Head
 
 pub has-users : (a users : List ℕ) → MaybeUsers a users → (length users ≡ 0 → ⊥)
     → (2 * conditionsOf a + 1 ≤ length users) × HeadsByLiteral a (take (2 * conditionsOf a + 1 - 0) users) (take (length users - (2 * conditionsOf a + 1)) (drop (2 * conditionsOf a + 1) users))
-has-users a users (inl e) h = absurd (h e)
-has-users a users (inr i) h =
-    let e : 2 * conditionsOf a + 1 - 0 ≡ 2 * conditionsOf a + 1 = omega arith in
-    (i .long, rw (e, part-to-end users (2 * conditionsOf a + 1)) (i .groups))
+has-users = has-part Literal
 
 -- the two parts of an index
 pub index-parts : {a w : List ℕ} {k : ℕ} → Index a w → k ≡ linesLength a → MaybeLines a (take (k - 0) w) × MaybeUsers a (take (length w - k) (drop k w))

@@ -8,12 +8,7 @@ use crate::runner::Case;
 use crate::trial::{figure, Check, Trial};
 
 pub fn cases() -> Vec<Case> {
-    let case = |name, items, each| Case {
-        name,
-        items,
-        each,
-        must_see: &[],
-    };
+    let case = Case::new;
     let tops = u64::from(TOP_MAX);
     vec![
         case("rules_have_their_stated_value", 1, stated_values),

@@ -8,6 +8,17 @@ use crate::runner::Case;
 use crate::spoil;
 use crate::trial::{figure, Check, Trial};
 
+/// A page that is read, and every refusal.
+pub const EVERY_READ: &[(&str, Refusal)] = &[
+    ("read", 0),
+    ("read", TEXT_TOO_LONG),
+    ("read", TEXT_UNENDED),
+    ("read", LINE_FORM),
+    ("read", LINE_RANGE),
+    ("read", LINE_COUNT),
+    ("read", AREA_SHORT),
+];
+
 pub fn cases() -> Vec<Case> {
     vec![
         Case {
@@ -20,15 +31,7 @@ pub fn cases() -> Vec<Case> {
             name: "reader_agrees_on_spoilt_pages",
             items: 8_000,
             each: spoilt_pages,
-            must_see: &[
-                ("read", 0),
-                ("read", 1),
-                ("read", 2),
-                ("read", 3),
-                ("read", 4),
-                ("read", 5),
-                ("read", 6),
-            ],
+            must_see: EVERY_READ,
         },
         Case {
             name: "reader_agrees_on_every_one_byte_edit_of_each_line_form",

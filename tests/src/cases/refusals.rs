@@ -2,6 +2,7 @@
 
 use crate::answer::*;
 use crate::area::{encode, NOT_REACHED_MARK, REACHED_MARK, WAITING_MARK};
+use crate::cases::reader::EVERY_READ;
 use crate::gen::{self, Size};
 use crate::page::Page;
 use crate::runner::Case;
@@ -62,15 +63,7 @@ pub fn cases() -> Vec<Case> {
             name: "refusal_order_of_read",
             items: 300,
             each: read_order,
-            must_see: &[
-                ("read", 0),
-                ("read", 1),
-                ("read", 2),
-                ("read", 3),
-                ("read", 4),
-                ("read", 5),
-                ("read", 6),
-            ],
+            must_see: EVERY_READ,
         },
     ]
 }

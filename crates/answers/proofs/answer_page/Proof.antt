@@ -7,23 +7,11 @@ use borrow.Author.Needs.{needs}
 use Rattle.answers.proofs.answer_page.Statement.{statement}
 use Rattle.answers.proofs.answer_page.Tie as tie
 
-slice-aggregate-put-output : tie.Need-slice-aggregate-put-output
-slice-aggregate-put-output c = search needs
-
-put-output-requires : tie.Need-put-output-requires
-put-output-requires c κs = search needs
-
-array-share-prefix-output : tie.Need-array-share-prefix-output
-array-share-prefix-output c = search needs
-
 slice-aggregate-put-all : tie.Need-slice-aggregate-put-all
 slice-aggregate-put-all c = let o = c .before .before .before .before .put-output in sym (length-take-le (o .result) (o .last .1 .0) (omega (arith, o .ensures .wrote .room, o .kept .1 .0)))
 
 put-all-requires : tie.Need-put-all-requires
 put-all-requires c κs = let o = c .before .before .before .before .put-output in omega (arith, length-take-le (o .result) (o .last .1 .0) (omega (arith, o .ensures .wrote .room, o .kept .1 .0)))
-
-same-length : tie.Need-same-length
-same-length c = search needs
 
 returns : tie.Need-returns
 returns c = prints-whole (c .before .before .before .before .before .before .before .put-output .ensures) (omega arith) (c .before .before .put-all .ensures)
@@ -33,13 +21,4 @@ returns-2 c = prints-nothing (c .before .before .put-output .ensures) (c .before
 
 pub answer-page-spec : {M : Type 1} → statement M
 answer-page-spec =
-    tie.close
-    (tie.spec
-    slice-aggregate-put-output
-    put-output-requires
-    array-share-prefix-output
-    slice-aggregate-put-all
-    put-all-requires
-    same-length
-    returns
-    returns-2)
+    tie.close (tie.spec (search needs) (λ c κs. search needs) (search needs) slice-aggregate-put-all put-all-requires (search needs) returns returns-2)

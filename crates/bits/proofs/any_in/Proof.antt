@@ -8,6 +8,7 @@ use borrow.Author.Count.{below-none, below-more}
 use lib.ListN.{getD}
 use Rattle.bits.proofs.Bits.{leading-in, masked-fits}
 use Rattle.bits.proofs.Sets.{any-masked, any-passed, any-highest, any-none}
+use borrow.Author.Needs.{needs}
 use Rattle.bits.proofs.any_in.Statement.{statement}
 use Rattle.bits.proofs.any_in.Tie as tie
 
@@ -17,71 +18,20 @@ Inv-loop words from w₀ y passed₀ w passed = (w ≡ (from / 64 + passed) % 8)
 abbrev μ-loop : tie.MeasureT-loop
 μ-loop words from w₀ y passed₀ w passed = 8 - passed
 
-mul-y : tie.Need-mul-y Inv-loop μ-loop
-mul-y c = omega arith
-
-shared-slice-read-y : tie.Need-shared-slice-read-y Inv-loop μ-loop
-shared-slice-read-y c = omega arith
-
-sub-y : tie.Need-sub-y Inv-loop μ-loop
-sub-y c = omega arith
-
-cast-y : tie.Need-cast-y Inv-loop μ-loop
-cast-y c = omega arith
-
-shr-y : tie.Need-shr-y Inv-loop μ-loop
-shr-y c = omega arith
-
-mul-result : tie.Need-mul-result Inv-loop μ-loop
-mul-result c = omega arith
-
-cast-result : tie.Need-cast-result Inv-loop μ-loop
-cast-result c = omega arith
-
 cast-result-2 : tie.Need-cast-result-2 Inv-loop μ-loop
 cast-result-2 c = let z = c .before .before .args in omega (arith, leading-le 64 (bitAnd (getD (z .words .now) (z .from / 64) 0) (18446744073709551615 / 2 ^ (63 - z .from % 64))))
 
 sub-result : tie.Need-sub-result Inv-loop μ-loop
 sub-result c = let s = c .before .before in leading-in _ (masked-fits _ _ (c .before .shared-slice-known .given (s .args .from / 64) .fits)) (c .if1 .taken)
 
-add-result : tie.Need-add-result Inv-loop μ-loop
-add-result c = omega arith
-
 returns : tie.Need-returns Inv-loop μ-loop
 returns c = let s = c .before .before in any-masked (s .args .words .now) (s .args .from / 64) (c .before .shared-slice-known .given (s .args .from / 64) .fits) _ (c .if1 .taken) (omega arith)
-
-loop-holds : tie.Need-loop-holds Inv-loop μ-loop
-loop-holds c = (omega arith, omega arith, below-none _)
-
-mul-x : tie.Need-mul-x Inv-loop μ-loop
-mul-x c = omega arith
-
-shared-slice-read-x : tie.Need-shared-slice-read-x Inv-loop μ-loop
-shared-slice-read-x c = omega arith
-
-mul-c : tie.Need-mul-c Inv-loop μ-loop
-mul-c c = omega arith
-
-cast-c : tie.Need-cast-c Inv-loop μ-loop
-cast-c c = omega arith
 
 cast-c-2 : tie.Need-cast-c-2 Inv-loop μ-loop
 cast-c-2 c = let x = getD (c .before .before .before .before .before .before .args .words .now) (c .before .before .before .loop .w) 0 in omega (arith, leading-le 64 x)
 
 sub-c : tie.Need-sub-c Inv-loop μ-loop
 sub-c c = let l = c .before .before .before .loop in leading-in _ (c .before .shared-slice-known2 .given (l .w) .fits) (c .if3 .taken)
-
-add-c : tie.Need-add-c Inv-loop μ-loop
-add-c c = omega arith
-
-add-w : tie.Need-add-w Inv-loop μ-loop
-add-w c = omega arith
-
-add-passed : tie.Need-add-passed Inv-loop μ-loop
-add-passed c = omega arith
-
-loop-less : tie.Need-loop-less Inv-loop μ-loop
-loop-less c = omega arith
 
 loop-again : tie.Need-loop-again Inv-loop μ-loop
 loop-again c = let i = c .before .before .before .loop .inv in (omega arith, omega arith, below-more _ _ (i .2) (rw (i .0) at (c .if3 .left)))
@@ -94,32 +44,6 @@ returns-3 c = let l = c .before .before .before .loop in any-highest _ (l .w) (c
 
 pub any-in-spec : {M : Type 1} → statement M
 any-in-spec =
-    tie.close
-    (tie.spec
-    Inv-loop
-    μ-loop
-    mul-y
-    shared-slice-read-y
-    sub-y
-    cast-y
-    shr-y
-    mul-result
-    cast-result
-    cast-result-2
-    sub-result
-    add-result
-    returns
-    loop-holds
-    mul-x
-    shared-slice-read-x
-    mul-c
-    cast-c
-    cast-c-2
-    sub-c
-    add-c
-    add-w
-    add-passed
-    loop-less
-    loop-again
-    returns-2
-    returns-3)
+    tie.close (tie.spec Inv-loop μ-loop (omega arith) (omega arith) (omega arith) (omega arith) (omega arith) (omega arith) (omega arith)
+    cast-result-2 sub-result (omega arith) returns (search needs) (omega arith) (omega arith) (omega arith) (omega arith) cast-c-2 sub-c (omega arith)
+    (omega arith) (omega arith) (omega arith) loop-again returns-2 returns-3)

@@ -8,15 +8,6 @@ use borrow.Author.Needs.{needs}
 use Rattle.capi.proofs.closed_code.Statement.{statement}
 use Rattle.capi.proofs.closed_code.Tie as tie
 
-enum-known-answer : tie.Need-enum-known-answer
-enum-known-answer c = search needs
-
-minus-requires : tie.Need-minus-requires
-minus-requires c κs = search needs
-
-enum-told : tie.Need-enum-told
-enum-told c = search needs
-
 returns : tie.Need-returns
 returns c = returned (c .minus .result) (c .minus .ok) ∙ c .minus .ensures ∙ ap (λ (r : ClosedAnswer). closedCode (refusalTold r)) (sym (c .before .before .answer .given .1))
 
@@ -24,5 +15,4 @@ returns-2 : tie.Need-returns-2
 returns-2 c = ap (λ (r : ClosedAnswer). closedCode (refusalTold r)) (sym (c .enum-told .given .1))
 
 pub closed-code-spec : {M : Type 1} → statement M
-closed-code-spec =
-    tie.close (tie.spec enum-known-answer minus-requires enum-told returns returns-2)
+closed-code-spec = tie.close (tie.spec (search needs) (λ c κs. search needs) (λ c. search needs) returns returns-2)

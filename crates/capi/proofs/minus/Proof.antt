@@ -6,9 +6,6 @@ use Rattle.capi.proofs.Signs.{fits, less}
 use Rattle.capi.proofs.minus.Statement.{statement}
 use Rattle.capi.proofs.minus.Tie as tie
 
-cast-result : tie.Need-cast-result
-cast-result c = search needs
-
 sub-result : tie.Need-sub-result
 sub-result c = rw (less (c .args .number) (omega arith)) (fits (c .args .number) (omega arith))
 
@@ -16,4 +13,4 @@ returns : tie.Need-returns
 returns c = rw (less (c .args .number) (omega arith)) (toZ-ofZ (fits (c .args .number) (omega arith)))
 
 pub minus-spec : {M : Type 1} → statement M
-minus-spec = tie.close (tie.spec cast-result sub-result returns)
+minus-spec = tie.close (tie.spec (search needs) sub-result returns)

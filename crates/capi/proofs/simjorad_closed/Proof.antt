@@ -6,22 +6,8 @@ use borrow.Author.Needs.{needs}
 use Rattle.capi.proofs.simjorad_closed.Statement.{statement}
 use Rattle.capi.proofs.simjorad_closed.Tie as tie
 
-closed-reading-requires : tie.Need-closed-reading-requires
-closed-reading-requires c κs = search needs
-
-closed-code-requires : tie.Need-closed-code-requires
-closed-code-requires c κs = search needs
-
-same-length : tie.Need-same-length
-same-length c = search needs
-
-same-length-2 : tie.Need-same-length-2
-same-length-2 c = search needs
-
 returns : tie.Need-returns
 returns c = let z = c .before .before .before .before .before .before .before .before .before .before .before .before .args in let t = closed-told _ (z .page .now) (z .queries .now) (z .scratch .now) (z .answers .now) _ _ (c .before .before .before .before .before .closed-reading .ensures) in let k = c .closed-code in (returned (k .result) (k .ok) ∙ k .ensures ∙ t .0, t .1)
 
 pub simjorad-closed-spec : {M : Type 1} → statement M
-simjorad-closed-spec =
-    tie.close
-    (tie.spec closed-reading-requires closed-code-requires same-length same-length-2 returns)
+simjorad-closed-spec = tie.close (tie.spec (λ c κs. search needs) (λ c κs. search needs) (search needs) (search needs) returns)

@@ -6,17 +6,8 @@ use borrow.Author.Needs.{needs}
 use Rattle.capi.proofs.simjorad_drive.Statement.{statement}
 use Rattle.capi.proofs.simjorad_drive.Tie as tie
 
-drive-requires : tie.Need-drive-requires
-drive-requires c κs = search needs
-
-drive-code-requires : tie.Need-drive-code-requires
-drive-code-requires c κs = search needs
-
-same-length : tie.Need-same-length
-same-length c = search needs
-
 returns : tie.Need-returns
 returns c = let d = c .before .before .before .before .drive .ensures in let k = c .drive-code in (returned (k .result) (k .ok) ∙ k .ensures .0 ∙ ap answerCode (d .answer-is), (d .run-is, k .ensures .1 ∙ ap (takenOr _) (d .answer-is)))
 
 pub simjorad-drive-spec : {M : Type 1} → statement M
-simjorad-drive-spec = tie.close (tie.spec drive-requires drive-code-requires same-length returns)
+simjorad-drive-spec = tie.close (tie.spec (λ c κs. search needs) (λ c κs. search needs) (search needs) returns)

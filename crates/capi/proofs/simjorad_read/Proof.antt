@@ -30,37 +30,19 @@ read-as c = ap answerOf (sym (c .before .answer2 .given .1)) ∙ c .before .befo
 used-short : (c : tie.After-known-told2) → c .before .answer2 .given .0 .0 ≤ 12292
 used-short c = read-good (start-2 c .args .text .now) (start-2 c .args .area .now) (read-as c) .short
 
-read-page-requires : tie.Need-read-page-requires
-read-page-requires c κs = search needs
-
-enum-known-answer : tie.Need-enum-known-answer
-enum-known-answer c = search needs
-
 cast-line : tie.Need-cast-line
 cast-line c = let z = refused-as c in omega (arith, read-small (start c .args .text .now) (start c .args .area .now) z)
 
 cast-minus : tie.Need-cast-minus
 cast-minus c = let z = refused-as c in omega (arith, read-small (start c .args .text .now) (start c .args .area .now) z)
 
-minus-requires : tie.Need-minus-requires
-minus-requires c κs = search needs
-
-enum-known-answer-2 : tie.Need-enum-known-answer-2
-enum-known-answer-2 c = search needs
-
 cast-result : tie.Need-cast-result
 cast-result c = record { sfits = omega (arith, used-short c) }
-
-same-length : tie.Need-same-length
-same-length c = search needs
 
 returns : tie.Need-returns
 returns c =
     let e = refused-as (c .before) in
     (returned (c .minus .result) (c .minus .ok) ∙ c .minus .ensures ∙ ap readCode e, (c .before .before .before .before .before .before .read-page .ensures .1, ap lineTold e))
-
-same-length-2 : tie.Need-same-length-2
-same-length-2 c = search needs
 
 returns-2 : tie.Need-returns-2
 returns-2 c =
@@ -69,16 +51,5 @@ returns-2 c =
 
 pub simjorad-read-spec : {M : Type 1} → statement M
 simjorad-read-spec =
-    tie.close
-    (tie.spec
-    read-page-requires
-    enum-known-answer
-    cast-line
-    cast-minus
-    minus-requires
-    enum-known-answer-2
-    cast-result
-    same-length
-    returns
-    same-length-2
-    returns-2)
+    tie.close (tie.spec (λ c κs. search needs) (search needs) cast-line cast-minus (λ c κs. search needs) (search needs) cast-result (search needs)
+    returns (search needs) returns-2)

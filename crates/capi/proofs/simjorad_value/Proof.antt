@@ -7,21 +7,6 @@ use borrow.Author.Needs.{needs}
 use Rattle.capi.proofs.simjorad_value.Statement.{statement}
 use Rattle.capi.proofs.simjorad_value.Tie as tie
 
-value-requires : tie.Need-value-requires
-value-requires c κs = search needs
-
-enum-known-answer : tie.Need-enum-known-answer
-enum-known-answer c = search needs
-
-minus-requires : tie.Need-minus-requires
-minus-requires c κs = search needs
-
-enum-known-answer-2 : tie.Need-enum-known-answer-2
-enum-known-answer-2 c = search needs
-
-rest-code-requires : tie.Need-rest-code-requires
-rest-code-requires c κs = search needs
-
 returns : tie.Need-returns
 returns c =
     let e = ap valueAnswerOf (sym (c .before .before .answer .given .1)) ∙ c .before .before .before .before .value .ensures in
@@ -34,12 +19,4 @@ returns-2 c =
 
 pub simjorad-value-spec : {M : Type 1} → statement M
 simjorad-value-spec =
-    tie.close
-    (tie.spec
-    value-requires
-    enum-known-answer
-    minus-requires
-    enum-known-answer-2
-    rest-code-requires
-    returns
-    returns-2)
+    tie.close (tie.spec (λ c κs. search needs) (search needs) (λ c κs. search needs) (search needs) (λ c κs. search needs) returns returns-2)

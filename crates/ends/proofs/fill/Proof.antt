@@ -67,9 +67,6 @@ slice-write-values-2 c = simp length-set (omega (arith, c .before .before .befor
 add-c : tie.Need-add-c Inv-loop μ-loop
 add-c c = omega (arith, c .before .before .before .before .pre .0 .long, c .before .before .before .before .pre .0 .few, c .before .before .before .before .good)
 
-loop-less : tie.Need-loop-less Inv-loop μ-loop
-loop-less c = omega arith
-
 loop-again : tie.Need-loop-again Inv-loop μ-loop
 loop-again c = (omega arith, simp length-set (c .before .before .before .loop .inv .1), table-more lower (c .before .before .before .before .args .top) (c .before .before .before .loop .c) (intervalAt (c .before .before .before .before .args .run .now)) (c .before .before .before .loop .values) (omega (arith, c .before .before .before .before .pre .1, c .before .before .before .loop .inv .1)) (c .before .before .before .loop .inv .2) refl refl)
 
@@ -81,28 +78,6 @@ returns c = let e : c .before .loop .c ≡ c .before .before .args .n = omega ar
 
 pub fill-spec : {M : Type 1} → statement M
 fill-spec =
-    tie.close
-    (tie.spec
-    Inv-loop
-    μ-loop
-    loop-holds
-    mul-values
-    mul-values-2
-    shared-slice-read-values
-    cast-values
-    mul-values-3
-    slice-write-values
-    mul-values-4
-    add-values
-    mul-values-5
-    shared-slice-read-values-2
-    sub-values
-    cast-values-2
-    mul-values-6
-    add-values-2
-    slice-write-values-2
-    add-c
-    loop-less
-    loop-again
-    same-length
-    returns)
+    tie.close (tie.spec Inv-loop μ-loop loop-holds mul-values mul-values-2 shared-slice-read-values cast-values mul-values-3 slice-write-values
+    mul-values-4 add-values mul-values-5 shared-slice-read-values-2 sub-values cast-values-2 mul-values-6 add-values-2 slice-write-values-2 add-c
+    (omega arith) loop-again same-length returns)

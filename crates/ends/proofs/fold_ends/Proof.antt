@@ -18,9 +18,6 @@ loop-holds c = both-first _ _ _ _ _ _ (c .before .before .pre)
 mul-code : tie.Need-mul-code Inv-loop μ-loop
 mul-code c = omega (arith, c .before .before .before .before .good)
 
-shared-slice-read-code : tie.Need-shared-slice-read-code Inv-loop μ-loop
-shared-slice-read-code c = omega arith
-
 cast-combine : tie.Need-cast-combine Inv-loop μ-loop
 cast-combine c = omega (arith, c .before .before .loop .inv .ready .low .listed (c .before .before .loop .j) (omega arith), c .before .before .before .before .before .good)
 
@@ -42,9 +39,6 @@ combine-requires-2 c κs = let s = c .before .before .before .before .before .lo
 add-j : tie.Need-add-j Inv-loop μ-loop
 add-j c = omega (arith, c .before .before .before .before .before .before .before .before .before .good)
 
-loop-less : tie.Need-loop-less Inv-loop μ-loop
-loop-less c = omega arith
-
 loop-again : tie.Need-loop-again Inv-loop μ-loop
 loop-again c = both-next _ _ _ _ _ _ (c .before .before .before .before .before .before .loop .inv) (omega arith) (c .before .before .combine .ensures) (c .before .high-of .ensures) (c .combine2 .ensures)
 
@@ -53,20 +47,5 @@ returns c = (low-last _ _ _ _ _ _ (c .before .loop .inv) (omega arith), high-las
 
 pub fold-ends-spec : {M : Type 1} → statement M
 fold-ends-spec =
-    tie.close
-    (tie.spec
-    Inv-loop
-    μ-loop
-    loop-holds
-    mul-code
-    shared-slice-read-code
-    cast-combine
-    shared-slice-read-combine
-    cast-combine-2
-    combine-requires
-    high-of-requires
-    combine-requires-2
-    add-j
-    loop-less
-    loop-again
-    returns)
+    tie.close (tie.spec Inv-loop μ-loop loop-holds mul-code (omega arith) cast-combine shared-slice-read-combine cast-combine-2 combine-requires
+    high-of-requires combine-requires-2 add-j (omega arith) loop-again returns)

@@ -44,17 +44,5 @@ returns-2 c = (line-fact _ (c .before .before .before .before .before .before .p
 
 pub line-ends-spec : {M : Type 1} → statement M
 line-ends-spec =
-    tie.close
-    (tie.spec
-    add-if1
-    mul-if1
-    shared-slice-read-if1
-    rule-ends-requires
-    returns
-    add-t4
-    mul-t5
-    shared-slice-read-t7
-    add-t10
-    mul-t11
-    shared-slice-read-t13
-    returns-2)
+    tie.close (tie.spec add-if1 mul-if1 shared-slice-read-if1 rule-ends-requires returns add-t4 mul-t5 shared-slice-read-t7 add-t10 mul-t11
+    shared-slice-read-t13 returns-2)

@@ -14,60 +14,6 @@ use Rattle.ends.proofs.Rules.{first-in, first-grade, first-negation, fi
 use Rattle.ends.proofs.rule_ends.Statement.{statement}
 use Rattle.ends.proofs.rule_ends.Tie as tie
 
-shared-slice-read-top : tie.Need-shared-slice-read-top
-shared-slice-read-top c = search needs
-
-add-w : tie.Need-add-w
-add-w c = search needs
-
-mul-w : tie.Need-mul-w
-mul-w c = search needs
-
-shared-slice-read-w : tie.Need-shared-slice-read-w
-shared-slice-read-w c = search needs
-
-add-from : tie.Need-add-from
-add-from c = search needs
-
-add-to : tie.Need-add-to
-add-to c = search needs
-
-add-to-2 : tie.Need-add-to-2
-add-to-2 c = search needs
-
-mul-to : tie.Need-mul-to
-mul-to c = search needs
-
-shared-slice-read-to : tie.Need-shared-slice-read-to
-shared-slice-read-to c = search needs
-
-cast-to : tie.Need-cast-to
-cast-to c = search needs
-
-add-to-3 : tie.Need-add-to-3
-add-to-3 c = search needs
-
-mul-rest : tie.Need-mul-rest
-mul-rest c = search needs
-
-sub-rest : tie.Need-sub-rest
-sub-rest c = search needs
-
-part-rest-start : tie.Need-part-rest-start
-part-rest-start c = search needs
-
-part-rest-end : tie.Need-part-rest-end
-part-rest-end c = search needs
-
-add-code : tie.Need-add-code
-add-code c = search needs
-
-mul-code : tie.Need-mul-code
-mul-code c = search needs
-
-shared-slice-read-code : tie.Need-shared-slice-read-code
-shared-slice-read-code c = search needs
-
 cast-t19 : tie.Need-cast-t19
 cast-t19 c = omega (arith, first-in (c .before .before .before .before .before .before .before .args .a .now) (c .before .before .before .before .before .before .before .args .values .now) (c .before .before .before .before .before .before .before .args .at) (c .before .before .before .before .before .before .before .pre .0) (c .before .before .before .before .before .before .before .pre .1) (c .before .before .before .before .before .before .before .pre .2), c .before .before .before .before .before .before .before .good)
 
@@ -79,15 +25,6 @@ cast-t15 c = omega (arith, first-grade (c .before .before .before .before .befor
 
 high-of-requires : tie.Need-high-of-requires
 high-of-requires c κs = first-negation (c .before .before .before .before .before .before .before .before .args .a .now) (c .before .before .before .before .before .before .before .before .args .values .now) (c .before .before .before .before .before .before .before .before .args .at) (c .before .before .before .before .before .before .before .before .pre .0) (c .before .before .before .before .before .before .before .before .pre .1) (c .before .before .before .before .before .before .before .before .pre .2)
-
-add-fold-ends : tie.Need-add-fold-ends
-add-fold-ends c = search needs
-
-mul-fold-ends : tie.Need-mul-fold-ends
-mul-fold-ends c = search needs
-
-shared-slice-read-fold-ends : tie.Need-shared-slice-read-fold-ends
-shared-slice-read-fold-ends c = search needs
 
 fold-ends-requires : tie.Need-fold-ends-requires
 fold-ends-requires c κs = (ends-foldable (c .before .before .before .before .before .before .before .before .before .before .args .a .now) (c .before .before .before .before .before .before .before .before .before .before .args .values .now) (c .before .before .before .before .before .before .before .before .before .before .args .at) (c .before .before .before .before .before .before .before .before .before .before .pre .0) (c .before .before .before .before .before .before .before .before .before .before .pre .1) (c .before .before .before .before .before .before .before .before .before .before .pre .2) (c .before .high-of .ensures), c .before .before .before .before .before .before .before .before .before .before .pre .3, c .before .before .before .before .before .before .before .before .before .before .pre .4)
@@ -109,36 +46,7 @@ returns c = (rule-end-is (c .before .before .before .before .before .before .bef
 
 pub rule-ends-spec : {M : Type 1} → statement M
 rule-ends-spec =
-    tie.close
-    (tie.spec
-    shared-slice-read-top
-    add-w
-    mul-w
-    shared-slice-read-w
-    add-from
-    add-to
-    add-to-2
-    mul-to
-    shared-slice-read-to
-    cast-to
-    add-to-3
-    mul-rest
-    sub-rest
-    part-rest-start
-    part-rest-end
-    add-code
-    mul-code
-    shared-slice-read-code
-    cast-t19
-    shared-slice-read-t26
-    cast-t15
-    high-of-requires
-    add-fold-ends
-    mul-fold-ends
-    shared-slice-read-fold-ends
-    fold-ends-requires
-    mul-divided
-    divided-requires
-    mul-divided-2
-    divided-requires-2
-    returns)
+    tie.close (tie.spec (search needs) (search needs) (search needs) (search needs) (search needs) (search needs) (search needs) (search needs)
+    (search needs) (search needs) (search needs) (search needs) (search needs) (search needs) (search needs) (search needs) (search needs)
+    (search needs) cast-t19 shared-slice-read-t26 cast-t15 high-of-requires (search needs) (search needs) (search needs) fold-ends-requires
+    mul-divided divided-requires mul-divided-2 divided-requires-2 returns)

@@ -6,20 +6,11 @@ use Rattle.fields.proofs.Tokens.{literal-place, literal-number, literal
 use Rattle.fields.proofs.checked_literal.Statement.{statement}
 use Rattle.fields.proofs.checked_literal.Tie as tie
 
-shared-slice-read-sign : tie.Need-shared-slice-read-sign
-shared-slice-read-sign c = search needs
-
-sign-requires : tie.Need-sign-requires
-sign-requires c κs = search needs
-
 add-checked-number : tie.Need-add-checked-number
 add-checked-number c = let a = c .before .before .before .args in let w = c .before .before .before .pre .0 in omega (arith, literal-place (a .bytes .now) (a .at) w (c .sign .ensures) .inside)
 
 checked-number-requires : tie.Need-checked-number-requires
 checked-number-requires c κs = let a = c .before .before .before .args in let w = c .before .before .before .pre .0 in (literal-place (a .bytes .now) (a .at) w (c .sign .ensures), literal-number (a .bytes .now) (a .at) w (c .sign .ensures) ∙ c .before .before .before .pre .1)
-
-mul-t8 : tie.Need-mul-t8
-mul-t8 c = search needs
 
 cast-t9 : tie.Need-cast-t9
 cast-t9 c = let a = c .before .before .before .before .before .args in let w = c .before .before .before .before .before .pre .0 in omega (arith, sign-most (a .bytes .now) (a .at) w (c .before .before .sign .ensures))
@@ -32,13 +23,4 @@ returns c = let a = c .before .before .before .before .before .args in let w = c
 
 pub checked-literal-spec : {M : Type 1} → statement M
 checked-literal-spec =
-    tie.close
-    (tie.spec
-    shared-slice-read-sign
-    sign-requires
-    add-checked-number
-    checked-number-requires
-    mul-t8
-    cast-t9
-    add-t10
-    returns)
+    tie.close (tie.spec (search needs) (search needs) add-checked-number checked-number-requires (search needs) cast-t9 add-t10 returns)

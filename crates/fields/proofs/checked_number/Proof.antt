@@ -5,9 +5,6 @@ use Rattle.fields.proofs.ReadDigits.{digit-byte, first-digit, number-to
 use Rattle.fields.proofs.checked_number.Statement.{statement}
 use Rattle.fields.proofs.checked_number.Tie as tie
 
-shared-slice-read-first : tie.Need-shared-slice-read-first
-shared-slice-read-first c = search needs
-
 cast-first : tie.Need-cast-first
 cast-first c = let a = c .before .before .args in omega (arith, digit-byte (a .bytes .now) (a .at) (c .before .before .pre .0) (c .before .before .pre .1) .1)
 
@@ -21,5 +18,4 @@ returns : tie.Need-returns
 returns c = let a = c .before .before .before .args in number-to (a .bytes .now) (a .at) (c .before .before .before .pre .0) (c .before .before .before .pre .1) (c .digits-from .ensures)
 
 pub checked-number-spec : {M : Type 1} → statement M
-checked-number-spec =
-    tie.close (tie.spec shared-slice-read-first cast-first sub-first digits-from-requires returns)
+checked-number-spec = tie.close (tie.spec (search needs) cast-first sub-first digits-from-requires returns)

@@ -11,23 +11,8 @@ use Rattle.fields.proofs.digits.Tie as tie
 the-first : (c : tie.After-known-told) → DigitIs (getD (c .before .before .before .before .before .before .args .bytes .now) (c .before .before .before .before .before .before .args .at) 0) (c .before .first .given .0 .0)
 the-first c = some-digit (getD (c .before .before .before .before .before .before .args .bytes .now) (c .before .before .before .before .before .before .args .at) 0) (c .before .before .before .digit .ensures) (c .before .first .given .1)
 
-shared-slice-read-digit : tie.Need-shared-slice-read-digit
-shared-slice-read-digit c = search needs
-
-digit-requires : tie.Need-digit-requires
-digit-requires c κs = search needs
-
-enum-known-first : tie.Need-enum-known-first
-enum-known-first c = search needs
-
-enum-told : tie.Need-enum-told
-enum-told c = search needs
-
 returns : tie.Need-returns
 returns c = let a = c .before .before .before .before .before .args in no-digits (a .bytes .now) (a .at) (c .before .before .before .before .before .pre) (no-digit (getD (a .bytes .now) (a .at) 0) (c .before .before .digit .ensures) (c .enum-told .given .1))
-
-add-t9 : tie.Need-add-t9
-add-t9 c = search needs
 
 returns-2 : tie.Need-returns-2
 returns-2 c = let a = c .before .before .before .before .before .before .before .args in zero-only (a .bytes .now) (a .at) (c .before .before .before .before .before .before .before .pre) (the-first (c .before)) (c .if1 .taken)
@@ -35,19 +20,7 @@ returns-2 c = let a = c .before .before .before .before .before .before .before 
 digits-from-requires : tie.Need-digits-from-requires
 digits-from-requires c κs = record { place = c .before .before .before .before .before .before .before .pre; digit = the-first (c .before); leads = inl (c .if1 .left) }
 
-returns-3 : tie.Need-returns-3
-returns-3 c = search needs
-
 pub digits-spec : {M : Type 1} → statement M
 digits-spec =
-    tie.close
-    (tie.spec
-    shared-slice-read-digit
-    digit-requires
-    enum-known-first
-    enum-told
-    returns
-    add-t9
-    returns-2
-    digits-from-requires
-    returns-3)
+    tie.close (tie.spec (search needs) (search needs) (search needs) (λ c. search needs) returns (search needs) returns-2 digits-from-requires
+    (λ c. search needs))

@@ -10,15 +10,6 @@ use Rattle.fields.proofs.number_before.Tie as tie
 digits-here : (c : tie.After-known-told) → Digits (c .before .before .before .before .before .args .bytes .now) (c .before .before .before .before .before .args .at) (c .before .value .given .0 .0) (c .before .value .given .0 .1 .0)
 digits-here c = some-digits (c .before .before .before .before .before .args .bytes .now) (c .before .before .before .before .before .args .at) (c .before .before .before .digits .ensures) (c .before .value .given .1)
 
-digits-requires : tie.Need-digits-requires
-digits-requires c κs = search needs
-
-enum-known-value : tie.Need-enum-known-value
-enum-known-value c = search needs
-
-enum-told : tie.Need-enum-told
-enum-told c = search needs
-
 returns : tie.Need-returns
 returns c = before-none (c .before .before .before .before .args .bytes .now) (c .before .before .before .before .args .at) (c .before .before .before .before .args .mark) (none-there (c .before .before .before .before .args .bytes .now) (c .before .before .before .before .args .at) (c .before .before .digits .ensures) (c .enum-told .given .1))
 
@@ -35,14 +26,4 @@ returns-3 : tie.Need-returns-3
 returns-3 c = ends-other (c .before .before .before .before .before .before .before .args .bytes .now) (c .before .before .before .before .before .before .before .args .at) (c .before .before .before .before .before .before .before .args .mark) (c .before .before .before .before .before .before .before .pre .1) (digits-here (c .before .before)) (c .if1 .left)
 
 pub number-before-spec : {M : Type 1} → statement M
-number-before-spec =
-    tie.close
-    (tie.spec
-    digits-requires
-    enum-known-value
-    enum-told
-    returns
-    shared-slice-read-if1
-    add-t10
-    returns-2
-    returns-3)
+number-before-spec = tie.close (tie.spec (search needs) (search needs) (λ c. search needs) returns shared-slice-read-if1 add-t10 returns-2 returns-3)

@@ -5,12 +5,6 @@ use Rattle.fields.proofs.Tokens.{literal-place, literal-at}
 use Rattle.fields.proofs.read_literal.Statement.{statement}
 use Rattle.fields.proofs.read_literal.Tie as tie
 
-shared-slice-read-sign : tie.Need-shared-slice-read-sign
-shared-slice-read-sign c = search needs
-
-sign-requires : tie.Need-sign-requires
-sign-requires c κs = search needs
-
 add-digits : tie.Need-add-digits
 add-digits c = let a = c .before .before .before .args in omega (arith, literal-place (a .bytes .now) (a .at) (c .before .before .before .pre) (c .sign .ensures) .inside)
 
@@ -21,5 +15,4 @@ returns : tie.Need-returns
 returns c = let a = c .before .before .before .before .args in literal-at (a .bytes .now) (a .at) (c .before .before .before .before .pre) (c .before .sign .ensures) (c .digits .result) (c .digits .ensures)
 
 pub read-literal-spec : {M : Type 1} → statement M
-read-literal-spec =
-    tie.close (tie.spec shared-slice-read-sign sign-requires add-digits digits-requires returns)
+read-literal-spec = tie.close (tie.spec (search needs) (search needs) add-digits digits-requires returns)

@@ -15,23 +15,11 @@ the-pair c = let a = c .before .before .before .before .before .args in some-pai
 parse-pair-requires : tie.Need-parse-pair-requires
 parse-pair-requires c κs = (c .before .pre .0, inl (c .before .pre .1))
 
-enum-known-condition : tie.Need-enum-known-condition
-enum-known-condition c = search needs
-
-enum-told : tie.Need-enum-told
-enum-told c = search needs
-
 returns : tie.Need-returns
 returns c _ = let a = c .before .before .before .before .args in pair-form (a .bytes .now) (a .at) (c .before .before .parse-pair .ensures) (c .enum-told .given .1)
 
 number-before-requires : tie.Need-number-before-requires
 number-before-requires c κs = (the-pair c .place, newline-class)
-
-enum-known-high : tie.Need-enum-known-high
-enum-known-high c = search needs
-
-enum-told-2 : tie.Need-enum-told-2
-enum-told-2 c = search needs
 
 returns-2 : tie.Need-returns-2
 returns-2 c _ = let a = c .before .before .before .before .before .before .before .before .args in no-high (a .bytes .now) (a .at) (c .before .before .before .before .before .before .before .before .pre .1) (the-pair (c .before .before .before)) (no-number-last (a .bytes .now) (c .before .before .before .before .condition .given .0 .1 .1 .0) (c .before .before .number-before .ensures) (c .enum-told2 .given .1))
@@ -41,14 +29,5 @@ returns-3 c _ = let a = c .before .before .before .before .before .before .befor
 
 pub parse-fact-spec : {M : Type 1} → statement M
 parse-fact-spec =
-    tie.close
-    (tie.spec
-    parse-pair-requires
-    enum-known-condition
-    enum-told
-    returns
-    number-before-requires
-    enum-known-high
-    enum-told-2
-    returns-2
+    tie.close (tie.spec parse-pair-requires (search needs) (λ c. search needs) returns number-before-requires (search needs) (search needs) returns-2
     returns-3)

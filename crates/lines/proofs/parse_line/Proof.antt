@@ -6,9 +6,6 @@ use Rattle.lines.proofs.Forms.{other-line}
 use Rattle.lines.proofs.parse_line.Statement.{statement}
 use Rattle.lines.proofs.parse_line.Tie as tie
 
-shared-slice-read-letter : tie.Need-shared-slice-read-letter
-shared-slice-read-letter c = search needs
-
 parse-fact-requires : tie.Need-parse-fact-requires
 parse-fact-requires c κs = let a = c .before .before .before .args in let b = sym (byte-here (a .bytes .now) (a .at) (c .before .before .before .pre .inside)) in (c .before .before .before .pre, b ∙ c .match .keys1)
 
@@ -21,9 +18,6 @@ parse-query-requires c κs = let a = c .before .before .before .args in let b = 
 returns : tie.Need-returns
 returns c = c .parse-fact .ensures (c .before .before .before .before .args .conditions)
 
-returns-2 : tie.Need-returns-2
-returns-2 c = search needs
-
 returns-3 : tie.Need-returns-3
 returns-3 c = c .parse-query .ensures (c .before .before .before .before .args .conditions)
 
@@ -35,13 +29,4 @@ returns-4 c =
 
 pub parse-line-spec : {M : Type 1} → statement M
 parse-line-spec =
-    tie.close
-    (tie.spec
-    shared-slice-read-letter
-    parse-fact-requires
-    parse-rule-requires
-    parse-query-requires
-    returns
-    returns-2
-    returns-3
-    returns-4)
+    tie.close (tie.spec (search needs) parse-fact-requires parse-rule-requires parse-query-requires returns (λ c. search needs) returns-3 returns-4)

@@ -25,20 +25,8 @@ loop-holds c = let a = c .before .args in counting-none (a .bytes .now) (a .at) 
 read-literal-requires : tie.Need-read-literal-requires Inv-loop μ-loop
 read-literal-requires c κs = c .before .loop .inv .passed .place
 
-enum-known-condition : tie.Need-enum-known-condition Inv-loop μ-loop
-enum-known-condition c = search needs
-
-enum-told : tie.Need-enum-told Inv-loop μ-loop
-enum-told c = search needs
-
 returns : tie.Need-returns Inv-loop μ-loop
 returns c = let a = c .before .before .before .before .before .before .args in not-literal (a .bytes .now) (a .at) (c .before .before .before .before .loop .inv .passed) (no-literal (a .bytes .now) (c .before .before .before .before .loop .i) (c .before .before .read-literal .ensures) (c .enum-told .given .1))
-
-add-n : tie.Need-add-n Inv-loop μ-loop
-add-n c = omega arith
-
-far-with-requires : tie.Need-far-with-requires Inv-loop μ-loop
-far-with-requires c κs = search needs
 
 add-i : tie.Need-add-i Inv-loop μ-loop
 add-i c = omega (arith, lit-here (c .before) .place .inside)
@@ -57,9 +45,6 @@ returns-3 c =
     let a = c .before .before .before .before .before .before .before .before .before .before .before .args in let q = lit-here (c .before .before .before .before) in let w = c .before .before .before .before .before .before .before .before .before .loop .inv in
     not-literal (a .bytes .now) (a .at) (w .passed) (not-ended (a .bytes .now) (a .at) (a .conditions) w q (c .before .if1 .left) (c .if2 .taken))
 
-loop-less : tie.Need-loop-less Inv-loop μ-loop
-loop-less c = omega arith
-
 loop-again : tie.Need-loop-again Inv-loop μ-loop
 loop-again c =
     let a = c .before .before .before .before .before .before .before .before .before .before .before .args in let q = lit-here (c .before .before .before .before) in let w = c .before .before .before .before .before .before .before .before .before .loop .inv in
@@ -71,21 +56,5 @@ returns-4 c = let a = c .before .before .before .args in too-many (a .bytes .now
 
 pub parse-literals-spec : {M : Type 1} → statement M
 parse-literals-spec =
-    tie.close
-    (tie.spec
-    Inv-loop
-    μ-loop
-    loop-holds
-    read-literal-requires
-    enum-known-condition
-    enum-told
-    returns
-    add-n
-    far-with-requires
-    add-i
-    shared-slice-read-b
-    returns-2
-    returns-3
-    loop-less
-    loop-again
-    returns-4)
+    tie.close (tie.spec Inv-loop μ-loop loop-holds read-literal-requires (search needs) (λ c. search needs) returns (omega arith) (search needs) add-i
+    shared-slice-read-b returns-2 returns-3 (omega arith) loop-again returns-4)

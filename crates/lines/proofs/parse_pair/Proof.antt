@@ -21,38 +21,20 @@ the-first c = let a = c .before .before .before .before .before .before .before 
 the-second : (c : tie.After-known-told2) → NumberThen (c .before .before .before .before .before .before .before .before .before .before .before .args .bytes .now) (c .before .before .before .before .before .first .given .0 .1 .0) (c .before .second .given .0 .0) (c .before .second .given .0 .1 .0)
 the-second c = let a = c .before .before .before .before .before .before .before .before .before .before .before .args in number-then (a .bytes .now) (c .before .before .before .before .before .first .given .0 .1 .0) (the-first (c .before .before .before .before) .place) (c .before .before .before .number-before2 .ensures) (c .before .second .given .1)
 
-add-if1 : tie.Need-add-if1
-add-if1 c = search needs
-
 shared-slice-read-if1 : tie.Need-shared-slice-read-if1
 shared-slice-read-if1 c = let a = c .before .before .args in letter-next (a .bytes .now) (a .at) (c .before .before .pre .0) refl (pair-plain (c .before .before .pre .1)) .inside
 
 returns : tie.Need-returns
 returns c = let a = c .before .before .before .args in gone-line (fieldsAt (drop (a .at) (a .bytes .now))) (letter-gone (a .bytes .now) (a .at) (c .before .before .before .pre .0) refl (pair-plain (c .before .before .before .pre .1)) (c .if1 .taken))
 
-add-number-before : tie.Need-add-number-before
-add-number-before c = search needs
-
 number-before-requires : tie.Need-number-before-requires
 number-before-requires c κs = (the-letter c .place, comma-class)
-
-enum-known-first : tie.Need-enum-known-first
-enum-known-first c = search needs
-
-enum-told : tie.Need-enum-told
-enum-told c = search needs
 
 returns-2 : tie.Need-returns-2
 returns-2 c = let a = c .before .before .before .before .before .before .args in no-first (a .bytes .now) (a .at) (c .before .before .before .before .before .before .pre .1) (the-letter (c .before .before .before)) (no-number-then (a .bytes .now) (a .at + 2) (c .before .before .number-before .ensures) (c .enum-told .given .1))
 
 number-before-requires-2 : tie.Need-number-before-requires-2
 number-before-requires-2 c κs = (the-first c .place, comma-class)
-
-enum-known-second : tie.Need-enum-known-second
-enum-known-second c = search needs
-
-enum-told-2 : tie.Need-enum-told-2
-enum-told-2 c = search needs
 
 returns-3 : tie.Need-returns-3
 returns-3 c = let a = c .before .before .before .before .before .before .before .before .before .before .args in no-second (a .bytes .now) (a .at) (c .before .before .before .before .before .before .before .before .before .before .pre .1) (the-letter (c .before .before .before .before .before .before .before)) (the-first (c .before .before .before)) (no-number-then (a .bytes .now) (c .before .before .before .before .first .given .0 .1 .0) (c .before .before .number-before2 .ensures) (c .enum-told2 .given .1))
@@ -62,18 +44,5 @@ returns-4 c = let a = c .before .before .before .before .before .before .before 
 
 pub parse-pair-spec : {M : Type 1} → statement M
 parse-pair-spec =
-    tie.close
-    (tie.spec
-    add-if1
-    shared-slice-read-if1
-    returns
-    add-number-before
-    number-before-requires
-    enum-known-first
-    enum-told
-    returns-2
-    number-before-requires-2
-    enum-known-second
-    enum-told-2
-    returns-3
-    returns-4)
+    tie.close (tie.spec (search needs) shared-slice-read-if1 returns (search needs) number-before-requires (search needs) (λ c. search needs)
+    returns-2 number-before-requires-2 (search needs) (search needs) returns-3 returns-4)

@@ -48,31 +48,19 @@ the-condition c = number-last (c .before .before .before .before .before .before
 the-query : (c : tie.After-known-told) → Says (c .before .before .before .before .before .before .before .before .before .before .before .before .args .bytes .now) (c .before .before .before .before .before .before .before .before .before .before .before .before .args .at) (query (readingIn (getD (c .before .before .before .before .before .before .before .before .before .before .before .before .args .bytes .now) (c .before .before .before .before .before .before .before .before .before .before .before .before .args .at + 2) 0 ∷ [])) (c .before .condition .given .0 .0)) (c .before .condition .given .0 .1 .0)
 the-query c = a-query (c .before .before .before .before .before .before .before .before .before .before .before .before .args .bytes .now) (c .before .before .before .before .before .before .before .before .before .before .before .before .args .at) (the-letter (c .before .before .before .before .before .before .before .before .before)) (the-reading (c .before .before .before .before)) (a-reading (c .before .before .before .before .before .before)) (the-condition c)
 
-add-if1 : tie.Need-add-if1
-add-if1 c = search needs
-
 shared-slice-read-if1 : tie.Need-shared-slice-read-if1
 shared-slice-read-if1 c = letter-next (c .before .before .args .bytes .now) (c .before .before .args .at) (c .before .before .pre .0) (c .before .before .pre .1) (plain 81 (omega arith)) .inside
 
 returns : tie.Need-returns
 returns c _ = gone-line (fieldsAt (drop (c .before .before .before .args .at) (c .before .before .before .args .bytes .now))) (letter-gone (c .before .before .before .args .bytes .now) (c .before .before .before .args .at) (c .before .before .before .pre .0) (c .before .before .before .pre .1) (plain 81 (omega arith)) (c .if1 .taken))
 
-add-reading-code : tie.Need-add-reading-code
-add-reading-code c = search needs
-
 shared-slice-read-reading-code : tie.Need-shared-slice-read-reading-code
 shared-slice-read-reading-code c = the-letter (c .before) .place .inside
-
-reading-code-requires : tie.Need-reading-code-requires
-reading-code-requires c κs = search needs
 
 returns-2 : tie.Need-returns-2
 returns-2 c _ =
     no-reading-letter (c .before .before .before .before .before .before .args .bytes .now) (c .before .before .before .before .before .before .args .at) (the-letter (c .before .before .before))
     (none-reading (c .before .before .before .before .before .before .args .bytes .now) (c .before .before .before .before .before .before .args .at + 2) (ap readingAt (sym (byte-two (c .before .before .before))) ∙ sym (c .before .reading-code .ensures) ∙ c .if2 .taken))
-
-add-if3 : tie.Need-add-if3
-add-if3 c = search needs
 
 shared-slice-read-if3 : tie.Need-shared-slice-read-if3
 shared-slice-read-if3 c = omega (arith, reading-next (c .before) .inside)
@@ -86,17 +74,8 @@ returns-3 c _ =
     (letter-gone (c .before .before .before .before .before .before .before .before .args .bytes .now) (c .before .before .before .before .before .before .before .before .args .at + 2) (the-letter (c .before .before .before .before .before) .place) (sym (byte-two (c .before .before .before .before .before))) (reading-plain r n)
     (λ z. c .if3 .taken (ap (λ (i : ℕ). getD (c .before .before .before .before .before .before .before .before .args .bytes .now) i 0) (sym (three (c .before .before .before .before .before .before .before .before .args .at))) ∙ z))))
 
-add-number-before : tie.Need-add-number-before
-add-number-before c = search needs
-
 number-before-requires : tie.Need-number-before-requires
 number-before-requires c κs = (query-place (c .before .before .before .before .before .before .before .before .args .bytes .now) (c .before .before .before .before .before .before .before .before .args .at) (the-letter (c .before .before .before .before .before)) (the-reading c), newline-class)
-
-enum-known-condition : tie.Need-enum-known-condition
-enum-known-condition c = search needs
-
-enum-told : tie.Need-enum-told
-enum-told c = search needs
 
 returns-4 : tie.Need-returns-4
 returns-4 c _ = no-query (c .before .before .before .before .before .before .before .before .before .before .before .args .bytes .now) (c .before .before .before .before .before .before .before .before .before .before .before .args .at) (the-letter (c .before .before .before .before .before .before .before .before)) (the-reading (c .before .before .before)) (no-number-last (c .before .before .before .before .before .before .before .before .before .before .before .args .bytes .now) (c .before .before .before .before .before .before .before .before .before .before .before .args .at + 4) (c .before .before .number-before .ensures) (c .enum-told .given .1))
@@ -106,21 +85,5 @@ returns-5 c _ = record { reading = _; says = the-query c }
 
 pub parse-query-spec : {M : Type 1} → statement M
 parse-query-spec =
-    tie.close
-    (tie.spec
-    add-if1
-    shared-slice-read-if1
-    returns
-    add-reading-code
-    shared-slice-read-reading-code
-    reading-code-requires
-    returns-2
-    add-if3
-    shared-slice-read-if3
-    returns-3
-    add-number-before
-    number-before-requires
-    enum-known-condition
-    enum-told
-    returns-4
-    returns-5)
+    tie.close (tie.spec (search needs) shared-slice-read-if1 returns (search needs) shared-slice-read-reading-code (search needs) returns-2
+    (search needs) shared-slice-read-if3 returns-3 (search needs) number-before-requires (search needs) (λ c. search needs) returns-4 returns-5)

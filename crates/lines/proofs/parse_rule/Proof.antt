@@ -34,20 +34,11 @@ the-op c =
 parse-pair-requires : tie.Need-parse-pair-requires
 parse-pair-requires c κs = (c .before .pre .0, inr (c .before .pre .1))
 
-enum-known-condition : tie.Need-enum-known-condition
-enum-known-condition c = search needs
-
-enum-told : tie.Need-enum-told
-enum-told c = search needs
-
 returns : tie.Need-returns
 returns c = let a = c .before .before .before .before .args in pair-form (a .bytes .now) (a .at) (c .before .before .parse-pair .ensures) (c .enum-told .given .1)
 
 shared-slice-read-op-kind : tie.Need-shared-slice-read-op-kind
 shared-slice-read-op-kind c = the-pair (c .before) .place .inside
-
-op-kind-requires : tie.Need-op-kind-requires
-op-kind-requires c κs = search needs
 
 returns-2 : tie.Need-returns-2
 returns-2 c =
@@ -73,12 +64,6 @@ add-parse-literals c = omega (arith, the-op c .place .inside)
 parse-literals-requires : tie.Need-parse-literals-requires
 parse-literals-requires c κs = the-op c .place
 
-enum-known-count : tie.Need-enum-known-count
-enum-known-count c = search needs
-
-enum-told-2 : tie.Need-enum-told-2
-enum-told-2 c = search needs
-
 returns-4 : tie.Need-returns-4
 returns-4 c =
     let a = c .before .before .before .before .before .before .before .before .before .before .before .before .before .args in
@@ -93,21 +78,5 @@ returns-5 c =
 
 pub parse-rule-spec : {M : Type 1} → statement M
 parse-rule-spec =
-    tie.close
-    (tie.spec
-    parse-pair-requires
-    enum-known-condition
-    enum-told
-    returns
-    shared-slice-read-op-kind
-    op-kind-requires
-    returns-2
-    add-if2
-    shared-slice-read-if2
-    returns-3
-    add-parse-literals
-    parse-literals-requires
-    enum-known-count
-    enum-told-2
-    returns-4
-    returns-5)
+    tie.close (tie.spec parse-pair-requires (search needs) (λ c. search needs) returns shared-slice-read-op-kind (search needs) returns-2 add-if2
+    shared-slice-read-if2 returns-3 add-parse-literals parse-literals-requires (search needs) (search needs) returns-4 returns-5)

@@ -8,51 +8,19 @@ use borrow.Author.Needs.{needs}
 use Rattle.run.proofs.drive.Statement.{statement}
 use Rattle.run.proofs.drive.Tie as tie
 
-page-sound-requires : tie.Need-page-sound-requires
-page-sound-requires c κs = search needs
-
 returns : tie.Need-returns
 returns c = refused-10 (c .before .before .before .before .args .page .now) (c .before .before .before .before .args .run .now) (sym (c .before .page-sound .ensures) ∙ not-true (c .before .page-sound .result) (c .if1 .taken)) (drive (c .before .before .before .before .args .allowance))
 
 run-sound-requires : tie.Need-run-sound-requires
 run-sound-requires c κs = (sym (c .before .before .page-sound .ensures) ∙ not-false (c .before .before .page-sound .result) (c .before .if1 .left))
 
-same-length : tie.Need-same-length
-same-length c = search needs
-
 returns-2 : tie.Need-returns-2
 returns-2 c = refused-14 (c .before .before .before .before .before .before .before .args .page .now) (c .before .before .before .before .before .before .before .args .run .now) (sym (c .before .before .before .before .page-sound .ensures) ∙ not-false (c .before .before .before .before .page-sound .result) (c .before .before .before .if1 .left)) (sym (c .before .run-sound .ensures) ∙ not-true (c .before .run-sound .result) (c .if2 .taken)) (drive (c .before .before .before .before .before .before .before .args .allowance))
-
-sub-none : tie.Need-sub-none
-sub-none c = search needs
-
-part-none-start : tie.Need-part-none-start
-part-none-start c = search needs
-
-part-none-end : tie.Need-part-none-end
-part-none-end c = search needs
 
 drive-over-requires : tie.Need-drive-over-requires
 drive-over-requires c κs = ((sym (c .before .before .before .before .before .before .page-sound .ensures) ∙ not-false (c .before .before .before .before .before .before .page-sound .result) (c .before .before .before .before .before .if1 .left)), (sym (c .before .before .before .run-sound .ensures) ∙ not-false (c .before .before .before .run-sound .result) (c .before .before .if2 .left)), inl refl, inl refl)
 
-same-length-2 : tie.Need-same-length-2
-same-length-2 c = search needs
-
-returns-3 : tie.Need-returns-3
-returns-3 c = search needs
-
 pub drive-spec : {M : Type 1} → statement M
 drive-spec =
-    tie.close
-    (tie.spec
-    page-sound-requires
-    returns
-    run-sound-requires
-    same-length
-    returns-2
-    sub-none
-    part-none-start
-    part-none-end
-    drive-over-requires
-    same-length-2
-    returns-3)
+    tie.close (tie.spec (λ c κs. search needs) returns run-sound-requires (search needs) returns-2 (search needs) (search needs) (search needs)
+    drive-over-requires (search needs) (λ c. search needs))

@@ -12,17 +12,11 @@ use borrow.Author.Needs.{needs}
 use Rattle.run.proofs.drive_indexed.Statement.{statement}
 use Rattle.run.proofs.drive_indexed.Tie as tie
 
-page-sound-requires : tie.Need-page-sound-requires
-page-sound-requires c κs = search needs
-
 returns : tie.Need-returns
 returns c = (refused-10 (c .before .before .before .before .before .args .page .now) (c .before .before .before .before .before .args .run .now) (sym (c .before .page-sound .ensures) ∙ not-true (c .before .page-sound .result) (c .if1 .taken)) (drive (c .before .before .before .before .before .args .allowance)), drive-kept-10 (c .before .before .before .before .before .args .page .now) (c .before .before .before .before .before .args .run .now) (c .before .before .before .before .before .args .workspace .now) (sym (c .before .page-sound .ensures) ∙ not-true (c .before .page-sound .result) (c .if1 .taken)))
 
 run-sound-requires : tie.Need-run-sound-requires
 run-sound-requires c κs = (sym (c .before .before .page-sound .ensures) ∙ not-false (c .before .before .page-sound .result) (c .before .if1 .left))
-
-same-length : tie.Need-same-length
-same-length c = search needs
 
 returns-2 : tie.Need-returns-2
 returns-2 c = (refused-14 (c .before .before .before .before .before .before .before .before .args .page .now) (c .before .before .before .before .before .before .before .before .args .run .now) (sym (c .before .before .before .before .page-sound .ensures) ∙ not-false (c .before .before .before .before .page-sound .result) (c .before .before .before .if1 .left)) (sym (c .before .run-sound .ensures) ∙ not-true (c .before .run-sound .result) (c .if2 .taken)) (drive (c .before .before .before .before .before .before .before .before .args .allowance)), drive-kept-14 (c .before .before .before .before .before .before .before .before .args .page .now) (c .before .before .before .before .before .before .before .before .args .run .now) (c .before .before .before .before .before .before .before .before .args .workspace .now) (sym (c .before .before .before .before .page-sound .ensures) ∙ not-false (c .before .before .before .before .page-sound .result) (c .before .before .before .if1 .left)) (sym (c .before .run-sound .ensures) ∙ not-true (c .before .run-sound .result) (c .if2 .taken)))
@@ -30,26 +24,11 @@ returns-2 c = (refused-14 (c .before .before .before .before .before .before .be
 index-length-requires : tie.Need-index-length-requires
 index-length-requires c κs = (sym (c .before .before .before .before .page-sound .ensures) ∙ not-false (c .before .before .before .before .page-sound .result) (c .before .before .before .if1 .left))
 
-sub-none : tie.Need-sub-none
-sub-none c = search needs
-
-part-none-start : tie.Need-part-none-start
-part-none-start c = search needs
-
-part-none-end : tie.Need-part-none-end
-part-none-end c = search needs
-
 drive-over-requires : tie.Need-drive-over-requires
 drive-over-requires c κs = ((sym (c .before .before .before .before .before .before .before .before .page-sound .ensures) ∙ not-false (c .before .before .before .before .before .before .before .before .page-sound .result) (c .before .before .before .before .before .before .before .if1 .left)), (sym (c .before .before .before .before .before .run-sound .ensures) ∙ not-false (c .before .before .before .before .before .run-sound .result) (c .before .before .before .before .if2 .left)), inl refl, inl refl)
 
-same-length-2 : tie.Need-same-length-2
-same-length-2 c = search needs
-
 returns-3 : tie.Need-returns-3
 returns-3 c = (c .before .before .drive-over .ensures, workspace-short (c .before .before .before .before .before .before .before .before .before .before .before .before .before .before .before .args .page .now) (c .before .before .before .before .before .before .before .before .before .before .before .before .before .before .before .args .workspace .now) (omega (arith, c .before .before .before .before .before .before .index-length .ensures, c .before .before .before .before .before .if3 .taken)) ∙ sym (drive-workspace (c .before .before .before .before .before .before .before .before .before .before .before .before .before .before .before .args .page .now) (c .before .before .before .before .before .before .before .before .before .before .before .before .before .before .before .args .run .now) (c .before .before .before .before .before .before .before .before .before .before .before .before .before .before .before .args .workspace .now) (sym (c .before .before .before .before .before .before .before .before .before .before .before .page-sound .ensures) ∙ not-false (c .before .before .before .before .before .before .before .before .before .before .before .page-sound .result) (c .before .before .before .before .before .before .before .before .before .before .if1 .left)) (sym (c .before .before .before .before .before .before .before .before .run-sound .ensures) ∙ not-false (c .before .before .before .before .before .before .before .before .run-sound .result) (c .before .before .before .before .before .before .before .if2 .left))))
-
-slice-relend-prefix-drive-built : tie.Need-slice-relend-prefix-drive-built
-slice-relend-prefix-drive-built c = search needs
 
 slice-aggregate-drive-built : tie.Need-slice-aggregate-drive-built
 slice-aggregate-drive-built c = sym (length-take-le _ _ (omega (arith, c .before .before .if3 .left)))
@@ -57,38 +36,11 @@ slice-aggregate-drive-built c = sym (length-take-le _ _ (omega (arith, c .before
 drive-built-requires : tie.Need-drive-built-requires
 drive-built-requires c κs = ((sym (c .before .before .before .before .before .before .before .before .page-sound .ensures) ∙ not-false (c .before .before .before .before .before .before .before .before .page-sound .result) (c .before .before .before .before .before .before .before .if1 .left)), (sym (c .before .before .before .before .before .run-sound .ensures) ∙ not-false (c .before .before .before .before .before .run-sound .result) (c .before .before .before .before .if2 .left)), length-take-le _ _ (omega (arith, c .before .before .if3 .left)) ∙ c .before .before .before .index-length .ensures .0)
 
-erase-requires : tie.Need-erase-requires
-erase-requires c κs = search needs
-
-same-length-3 : tie.Need-same-length-3
-same-length-3 c = search needs
-
-same-length-4 : tie.Need-same-length-4
-same-length-4 c = search needs
-
 returns-4 : tie.Need-returns-4
 returns-4 c = (c .before .before .before .before .before .before .before .before .drive-built .ensures, rw (c .before .before .before .before .before .before .before .before .before .before .before .before .index-length .ensures .0) at (erased-front (c .before .before .before .before .before .before .before .before .before .before .before .before .before .before .before .before .before .before .before .before .before .args .workspace .now) (c .before .before .before .before .before .before .before .before .drive-built .last .1 .1 .0) (c .before .before .before .before .before .before .before .before .drive-built .kept .1 .1 .0) (omega (arith, c .before .before .before .before .before .before .before .before .before .before .before .if3 .left)) (c .before .before .erase .ensures)) ∙ workspace-used (c .before .before .before .before .before .before .before .before .before .before .before .before .before .before .before .before .before .before .before .before .before .args .page .now) (c .before .before .before .before .before .before .before .before .before .before .before .before .before .before .before .before .before .before .before .before .before .args .workspace .now) (omega (arith, c .before .before .before .before .before .before .before .before .before .before .before .before .index-length .ensures, c .before .before .before .before .before .before .before .before .before .before .before .if3 .left)) ∙ sym (drive-workspace (c .before .before .before .before .before .before .before .before .before .before .before .before .before .before .before .before .before .before .before .before .before .args .page .now) (c .before .before .before .before .before .before .before .before .before .before .before .before .before .before .before .before .before .before .before .before .before .args .run .now) (c .before .before .before .before .before .before .before .before .before .before .before .before .before .before .before .before .before .before .before .before .before .args .workspace .now) (sym (c .before .before .before .before .before .before .before .before .before .before .before .before .before .before .before .before .before .page-sound .ensures) ∙ not-false (c .before .before .before .before .before .before .before .before .before .before .before .before .before .before .before .before .before .page-sound .result) (c .before .before .before .before .before .before .before .before .before .before .before .before .before .before .before .before .if1 .left)) (sym (c .before .before .before .before .before .before .before .before .before .before .before .before .before .before .run-sound .ensures) ∙ not-false (c .before .before .before .before .before .before .before .before .before .before .before .before .before .before .run-sound .result) (c .before .before .before .before .before .before .before .before .before .before .before .before .before .if2 .left))))
 
 pub drive-indexed-spec : {M : Type 1} → statement M
 drive-indexed-spec =
-    tie.close
-    (tie.spec
-    page-sound-requires
-    returns
-    run-sound-requires
-    same-length
-    returns-2
-    index-length-requires
-    sub-none
-    part-none-start
-    part-none-end
-    drive-over-requires
-    same-length-2
-    returns-3
-    slice-relend-prefix-drive-built
-    slice-aggregate-drive-built
-    drive-built-requires
-    erase-requires
-    same-length-3
-    same-length-4
-    returns-4)
+    tie.close (tie.spec (λ c κs. search needs) returns run-sound-requires (search needs) returns-2 index-length-requires (search needs) (search needs)
+    (search needs) drive-over-requires (search needs) returns-3 (search needs) slice-aggregate-drive-built drive-built-requires (λ c κs. search needs)
+    (search needs) (search needs) returns-4)

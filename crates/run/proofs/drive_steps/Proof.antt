@@ -62,21 +62,5 @@ loop-again c = let w = lowest-waits (c .before .before .before .before .before .
 
 pub drive-steps-spec : {M : Type 1} → statement M
 drive-steps-spec =
-    tie.close
-    (tie.spec
-    Inv-loop
-    μ-loop
-    loop-holds
-    lowest-in-requires
-    same-length
-    same-length-2
-    same-length-3
-    returns
-    same-length-4
-    same-length-5
-    same-length-6
-    returns-2
-    step-requires
-    add-taken
-    loop-less
-    loop-again)
+    tie.close (tie.spec Inv-loop μ-loop loop-holds lowest-in-requires same-length same-length-2 same-length-3 returns same-length-4 same-length-5
+    same-length-6 returns-2 step-requires add-taken loop-less loop-again)

@@ -20,9 +20,6 @@ page-ok c = sym (c .before .page-sound .ensures) ∙ not-false (c .before .page-
 run-ok : (c : tie.Else2) → runSound (pageOf (c .before .before .before .before .before .before .args .page .now)) (c .before .before .before .before .before .before .args .run .now) ≡ true
 run-ok c = sym (c .before .run-sound .ensures) ∙ not-false (c .before .run-sound .result) (c .if2 .left)
 
-page-sound-requires : tie.Need-page-sound-requires
-page-sound-requires c κs = search needs
-
 returns : tie.Need-returns
 returns c =
     let z = c .before .before .before .before .args in
@@ -47,15 +44,6 @@ returns-3 c =
     let z = c .before .before .before .before .before .before .before .before .args in
     value-15 (z .page .now) (z .run .now) (page-ok (c .before .before .before .before)) (run-ok (c .before .before)) (z .condition) (c .if3 .taken)
 
-mul-at : tie.Need-mul-at
-mul-at c = search needs
-
-add-if4 : tie.Need-add-if4
-add-if4 c = search needs
-
-mul-if4 : tie.Need-mul-if4
-mul-if4 c = search needs
-
 shared-slice-read-if4 : tie.Need-shared-slice-read-if4
 shared-slice-read-if4 c = omega (arith, long-of (c .before .before .before .before .before .before .before .before .before .args .page .now) (c .before .before .before .before .before .before .before .before .before .args .run .now) (run-ok (c .before .before .before)))
 
@@ -64,17 +52,8 @@ returns-4 c =
     let z = c .before .before .before .before .before .before .before .before .before .before .args in
     value-17 (z .page .now) (z .run .now) (page-ok (c .before .before .before .before .before .before)) (run-ok (c .before .before .before .before)) (z .condition) (omega arith) (omega arith)
 
-mul-t11 : tie.Need-mul-t11
-mul-t11 c = search needs
-
 shared-slice-read-t9 : tie.Need-shared-slice-read-t9
 shared-slice-read-t9 c = omega (arith, long-of (c .before .before .before .before .before .before .before .before .before .before .before .args .page .now) (c .before .before .before .before .before .before .before .before .before .before .before .args .run .now) (run-ok (c .before .before .before .before .before)))
-
-add-t12 : tie.Need-add-t12
-add-t12 c = search needs
-
-mul-t15 : tie.Need-mul-t15
-mul-t15 c = search needs
 
 shared-slice-read-t17 : tie.Need-shared-slice-read-t17
 shared-slice-read-t17 c = omega (arith, long-of (c .before .before .before .before .before .before .before .before .before .before .before .before .args .page .now) (c .before .before .before .before .before .before .before .before .before .before .before .before .args .run .now) (run-ok (c .before .before .before .before .before .before)))
@@ -90,24 +69,6 @@ returns-5 c =
 
 pub value-spec : {M : Type 1} → statement M
 value-spec =
-    tie.close
-    (tie.spec
-    page-sound-requires
-    returns
-    run-sound-requires
-    returns-2
-    shared-slice-read-n
-    cast-if3
-    returns-3
-    mul-at
-    add-if4
-    mul-if4
-    shared-slice-read-if4
-    returns-4
-    mul-t11
-    shared-slice-read-t9
-    add-t12
-    mul-t15
-    shared-slice-read-t17
-    lowest-waiting-requires
-    returns-5)
+    tie.close (tie.spec (λ c κs. search needs) returns run-sound-requires returns-2 shared-slice-read-n cast-if3 returns-3 (search needs)
+    (search needs) (search needs) shared-slice-read-if4 returns-4 (search needs) shared-slice-read-t9 (search needs) (search needs)
+    shared-slice-read-t17 lowest-waiting-requires returns-5)

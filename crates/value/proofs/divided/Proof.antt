@@ -5,11 +5,8 @@ use Rattle.semantics.proofs.Ops.{divided-down}
 use Rattle.value.proofs.divided.Statement.{statement}
 use Rattle.value.proofs.divided.Tie as tie
 
-div-result : tie.Need-div-result
-div-result c = omega arith
-
 returns : tie.Need-returns
 returns c = sym (divided-down _ _ _)
 
 pub divided-spec : {M : Type 1} → statement M
-divided-spec = tie.close (tie.spec div-result returns)
+divided-spec = tie.close (tie.spec (omega arith) returns)

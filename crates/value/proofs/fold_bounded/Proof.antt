@@ -33,14 +33,8 @@ shared-slice-read-q-2 c = listed-here _ _ _ _ _ _ (c .before .before .before .lo
 add-minimum : tie.Need-add-minimum Inv-loop μ-loop
 add-minimum c = omega (arith, grade-here _ _ _ _ _ _ (c .before .before .before .loop .inv .0) (c .before .before .before .before .before .before .pre .2) (omega arith), c .before .before .before .loop .inv .1, c .before .before .before .before .before .before .pre .2 .small)
 
-minimum-requires : tie.Need-minimum-requires Inv-loop μ-loop
-minimum-requires c κs = tt
-
 add-j : tie.Need-add-j Inv-loop μ-loop
 add-j c = omega (arith, c .before .before .before .before .before .before .before .pre .1, c .before .before .before .before .before .before .before .good)
-
-loop-less : tie.Need-loop-less Inv-loop μ-loop
-loop-less c = omega arith
 
 loop-again : tie.Need-loop-again Inv-loop μ-loop
 loop-again c = (folding-at-next _ _ _ _ _ _ (c .before .before .before .before .loop .inv .0) (omega arith) (omega (arith, c .minimum .ensures)), omega (arith, c .minimum .ensures, c .before .before .before .before .loop .inv .1, grade-here _ _ _ _ _ _ (c .before .before .before .before .loop .inv .0) (c .before .before .before .before .before .before .before .pre .2) (omega arith)))
@@ -50,19 +44,5 @@ returns c = folding-at-last _ _ _ _ _ _ (c .before .loop .inv .0) (omega arith)
 
 pub fold-bounded-spec : {M : Type 1} → statement M
 fold-bounded-spec =
-    tie.close
-    (tie.spec
-    Inv-loop
-    μ-loop
-    loop-holds
-    mul-q
-    shared-slice-read-q
-    cast-q
-    mul-q-2
-    shared-slice-read-q-2
-    add-minimum
-    minimum-requires
-    add-j
-    loop-less
-    loop-again
-    returns)
+    tie.close (tie.spec Inv-loop μ-loop loop-holds mul-q shared-slice-read-q cast-q mul-q-2 shared-slice-read-q-2 add-minimum (λ c κs. tt) add-j
+    (omega arith) loop-again returns)

@@ -33,17 +33,11 @@ shared-slice-read-q-2 c = listed-here _ _ _ _ _ _ (c .before .before .before .lo
 add-maximum : tie.Need-add-maximum Inv-loop μ-loop
 add-maximum c = omega (arith, grade-here _ _ _ _ _ _ (c .before .before .before .loop .inv .0) (c .before .before .before .before .before .before .pre .2) (omega arith), c .before .before .before .loop .inv .1, c .before .before .before .before .before .before .pre .2 .small)
 
-maximum-requires : tie.Need-maximum-requires Inv-loop μ-loop
-maximum-requires c κs = tt
-
 sub-r : tie.Need-sub-r Inv-loop μ-loop
 sub-r c = omega (arith, c .maximum .ensures)
 
 add-j : tie.Need-add-j Inv-loop μ-loop
 add-j c = omega (arith, c .before .before .before .before .before .before .before .pre .1, c .before .before .before .before .before .before .before .good)
-
-loop-less : tie.Need-loop-less Inv-loop μ-loop
-loop-less c = omega arith
 
 loop-again : tie.Need-loop-again Inv-loop μ-loop
 loop-again c = (folding-at-next _ _ _ _ _ _ (c .before .before .before .before .loop .inv .0) (omega arith) (omega (arith, c .maximum .ensures)), omega (arith, c .maximum .ensures, c .before .before .before .before .loop .inv .1, grade-here _ _ _ _ _ _ (c .before .before .before .before .loop .inv .0) (c .before .before .before .before .before .before .before .pre .2) (omega arith)))
@@ -53,20 +47,5 @@ returns c = folding-at-last _ _ _ _ _ _ (c .before .loop .inv .0) (omega arith)
 
 pub fold-excess-spec : {M : Type 1} → statement M
 fold-excess-spec =
-    tie.close
-    (tie.spec
-    Inv-loop
-    μ-loop
-    loop-holds
-    mul-q
-    shared-slice-read-q
-    cast-q
-    mul-q-2
-    shared-slice-read-q-2
-    add-maximum
-    maximum-requires
-    sub-r
-    add-j
-    loop-less
-    loop-again
-    returns)
+    tie.close (tie.spec Inv-loop μ-loop loop-holds mul-q shared-slice-read-q cast-q mul-q-2 shared-slice-read-q-2 add-maximum (λ c κs. tt) sub-r add-j
+    (omega arith) loop-again returns)

@@ -29,14 +29,8 @@ mul-q-2 c = omega (arith, listed-here _ _ _ _ _ _ (c .before .before .loop .inv)
 shared-slice-read-q-2 : tie.Need-shared-slice-read-q-2 Inv-loop μ-loop
 shared-slice-read-q-2 c = listed-here _ _ _ _ _ _ (c .before .before .before .loop .inv) (c .before .before .before .before .before .before .pre .2) (omega arith)
 
-maximum-requires : tie.Need-maximum-requires Inv-loop μ-loop
-maximum-requires c κs = tt
-
 add-j : tie.Need-add-j Inv-loop μ-loop
 add-j c = omega (arith, c .before .before .before .before .before .before .before .pre .1, c .before .before .before .before .before .before .before .good)
-
-loop-less : tie.Need-loop-less Inv-loop μ-loop
-loop-less c = omega arith
 
 loop-again : tie.Need-loop-again Inv-loop μ-loop
 loop-again c = folding-at-next _ _ _ _ _ _ (c .before .before .before .before .loop .inv) (omega arith) (c .maximum .ensures)
@@ -46,18 +40,5 @@ returns c = folding-at-last _ _ _ _ _ _ (c .before .loop .inv) (omega arith)
 
 pub fold-largest-spec : {M : Type 1} → statement M
 fold-largest-spec =
-    tie.close
-    (tie.spec
-    Inv-loop
-    μ-loop
-    loop-holds
-    mul-q
-    shared-slice-read-q
-    cast-q
-    mul-q-2
-    shared-slice-read-q-2
-    maximum-requires
-    add-j
-    loop-less
-    loop-again
-    returns)
+    tie.close (tie.spec Inv-loop μ-loop loop-holds mul-q shared-slice-read-q cast-q mul-q-2 shared-slice-read-q-2 (λ c κs. tt) add-j (omega arith)
+    loop-again returns)

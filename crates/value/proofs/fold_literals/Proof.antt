@@ -7,38 +7,8 @@ use Rattle.value.proofs.Folds.{folding-at-first, folding-at-last, folde
 use Rattle.value.proofs.fold_literals.Statement.{statement}
 use Rattle.value.proofs.fold_literals.Tie as tie
 
-add-from : tie.Need-add-from
-add-from c = search needs
-
-add-to : tie.Need-add-to
-add-to c = search needs
-
-add-to-2 : tie.Need-add-to-2
-add-to-2 c = search needs
-
-mul-to : tie.Need-mul-to
-mul-to c = search needs
-
-shared-slice-read-to : tie.Need-shared-slice-read-to
-shared-slice-read-to c = search needs
-
-cast-to : tie.Need-cast-to
-cast-to c = search needs
-
-add-to-3 : tie.Need-add-to-3
-add-to-3 c = search needs
-
 returns : tie.Need-returns
 returns c = let s = c .before .before .before .before in λ op k. folding-at-last _ _ (s .args .at + 5) (s .args .at + 4 + getD (s .args .a .now) (s .args .at + 3) 0) _ _ (folding-at-first _ _ _ _ _ _ (omega (arith, s .pre .0 .some)) (omega (arith, s .pre .0 .fits))) (omega arith)
-
-add-k : tie.Need-add-k
-add-k c = search needs
-
-mul-k : tie.Need-mul-k
-mul-k c = search needs
-
-shared-slice-read-k : tie.Need-shared-slice-read-k
-shared-slice-read-k c = search needs
 
 fold-smallest-requires : tie.Need-fold-smallest-requires
 fold-smallest-requires c κs = let s = c .before .before .before .before .before .before in (omega arith, omega (arith, s .pre .0 .fits), s .pre .1 .listed)
@@ -72,26 +42,6 @@ returns-6 c = folded-p _ _ _ _ _ _ _ (omega arith) (c .fold-product .ensures)
 
 pub fold-literals-spec : {M : Type 1} → statement M
 fold-literals-spec =
-    tie.close
-    (tie.spec
-    add-from
-    add-to
-    add-to-2
-    mul-to
-    shared-slice-read-to
-    cast-to
-    add-to-3
-    returns
-    add-k
-    mul-k
-    shared-slice-read-k
-    fold-smallest-requires
-    fold-largest-requires
-    fold-excess-requires
-    fold-bounded-requires
-    fold-product-requires
-    returns-2
-    returns-3
-    returns-4
-    returns-5
-    returns-6)
+    tie.close (tie.spec (search needs) (search needs) (search needs) (search needs) (search needs) (search needs) (search needs) returns
+    (search needs) (search needs) (search needs) fold-smallest-requires fold-largest-requires fold-excess-requires fold-bounded-requires
+    fold-product-requires returns-2 returns-3 returns-4 returns-5 returns-6)

@@ -42,9 +42,6 @@ divided-requires c κs = c .before .before .before .before .before .before .pre 
 add-j : tie.Need-add-j Inv-loop μ-loop
 add-j c = omega (arith, c .before .before .before .before .before .before .before .pre .1, c .before .before .before .before .before .before .before .good)
 
-loop-less : tie.Need-loop-less Inv-loop μ-loop
-loop-less c = omega arith
-
 loop-again : tie.Need-loop-again Inv-loop μ-loop
 loop-again c = (folding-at-next _ _ _ _ _ _ (c .before .before .before .before .loop .inv .0) (omega arith) (c .divided .ensures), rw (c .divided .ensures) (divided-bounded _ _ (c .before .before .before .before .loop .inv .1) (grade-here _ _ _ _ _ _ (c .before .before .before .before .loop .inv .0) (c .before .before .before .before .before .before .before .pre .2) (omega arith))))
 
@@ -53,19 +50,5 @@ returns c = folding-at-last _ _ _ _ _ _ (c .before .loop .inv .0) (omega arith)
 
 pub fold-product-spec : {M : Type 1} → statement M
 fold-product-spec =
-    tie.close
-    (tie.spec
-    Inv-loop
-    μ-loop
-    loop-holds
-    mul-q
-    shared-slice-read-q
-    cast-q
-    mul-q-2
-    shared-slice-read-q-2
-    mul-divided
-    divided-requires
-    add-j
-    loop-less
-    loop-again
-    returns)
+    tie.close (tie.spec Inv-loop μ-loop loop-holds mul-q shared-slice-read-q cast-q mul-q-2 shared-slice-read-q-2 mul-divided divided-requires add-j
+    (omega arith) loop-again returns)

@@ -7,18 +7,6 @@ use Rattle.value.proofs.RuleEnds.{code-under, foldable, fold-in, rule-e
 use Rattle.value.proofs.rule_end.Statement.{statement}
 use Rattle.value.proofs.rule_end.Tie as tie
 
-shared-slice-read-top : tie.Need-shared-slice-read-top
-shared-slice-read-top c = search needs
-
-add-first : tie.Need-add-first
-add-first c = search needs
-
-mul-first : tie.Need-mul-first
-mul-first c = search needs
-
-shared-slice-read-first : tie.Need-shared-slice-read-first
-shared-slice-read-first c = search needs
-
 cast-first : tie.Need-cast-first
 cast-first c = let s = c .before .before .before .before in omega (arith, code-under _ (s .args .values .now) _ (s .pre .2), s .pre .1 .long, s .good)
 
@@ -31,15 +19,6 @@ shared-slice-read-first-2 c = let s = c .before .before .before .before .before 
 fold-literals-requires : tie.Need-fold-literals-requires
 fold-literals-requires c κs = let s = c .before .before .before .before .before in (s .pre .2, foldable _ _ _ (s .pre .2) (s .pre .0) (s .pre .1), s .pre .3, s .pre .4)
 
-add-divided : tie.Need-add-divided
-add-divided c = search needs
-
-mul-divided : tie.Need-mul-divided
-mul-divided c = search needs
-
-shared-slice-read-divided : tie.Need-shared-slice-read-divided
-shared-slice-read-divided c = search needs
-
 mul-divided-2 : tie.Need-mul-divided-2
 mul-divided-2 c = let s = c .before .before .before .before .before .before .before in let h = head-of (s .args .a .now) (s .pre .0) in record { fits = small-product (omega (arith, h .top-most, fold-in _ _ _ (s .pre .2) _ (s .pre .0) (s .pre .1) (s .pre .3) (s .pre .4) (c .before .fold-literals .ensures))) (omega (arith, h .top-most, s .pre .2 .weight)) }
 
@@ -51,19 +30,5 @@ returns c = let s = c .before .before .before .before .before .before .before .b
 
 pub rule-end-spec : {M : Type 1} → statement M
 rule-end-spec =
-    tie.close
-    (tie.spec
-    shared-slice-read-top
-    add-first
-    mul-first
-    shared-slice-read-first
-    cast-first
-    mul-first-2
-    shared-slice-read-first-2
-    fold-literals-requires
-    add-divided
-    mul-divided
-    shared-slice-read-divided
-    mul-divided-2
-    divided-requires
-    returns)
+    tie.close (tie.spec (search needs) (search needs) (search needs) (search needs) cast-first mul-first-2 shared-slice-read-first-2
+    fold-literals-requires (search needs) (search needs) (search needs) mul-divided-2 divided-requires returns)

@@ -18,29 +18,11 @@ abbrev μ-loop : tie.MeasureT-loop
 loop-holds : tie.Need-loop-holds Inv-loop μ-loop
 loop-holds c = let s = c .before .before in (omega arith, omega arith, filled-none _ _ _ (match-none (s .args .run .now) (s .args .words .now) (s .pre .2) (s .pre .3)))
 
-add-loop : tie.Need-add-loop Inv-loop μ-loop
-add-loop c = omega arith
-
-add-waiting-digits : tie.Need-add-waiting-digits Inv-loop μ-loop
-add-waiting-digits c = omega arith
-
 waiting-digits-requires : tie.Need-waiting-digits-requires Inv-loop μ-loop
 waiting-digits-requires c κs = (omega arith, omega arith, omega arith, λ d l. c .before .before .before .before .pre .4 d (omega arith))
 
-mul-words : tie.Need-mul-words Inv-loop μ-loop
-mul-words c = omega arith
-
 slice-write-words : tie.Need-slice-write-words Inv-loop μ-loop
 slice-write-words c = omega (arith, c .before .before .loop .inv .2 .size)
-
-add-w : tie.Need-add-w Inv-loop μ-loop
-add-w c = omega arith
-
-add-from : tie.Need-add-from Inv-loop μ-loop
-add-from c = omega arith
-
-loop-less : tie.Need-loop-less Inv-loop μ-loop
-loop-less c = omega arith
 
 loop-again : tie.Need-loop-again Inv-loop μ-loop
 loop-again c =
@@ -49,9 +31,6 @@ loop-again c =
 
 waiting-digits-requires-2 : tie.Need-waiting-digits-requires-2 Inv-loop μ-loop
 waiting-digits-requires-2 c κs = (omega arith, omega arith, c .before .before .before .before .before .pre .0, c .before .before .before .before .before .pre .4)
-
-mul-words-2 : tie.Need-mul-words-2 Inv-loop μ-loop
-mul-words-2 c = omega arith
 
 slice-write-words-2 : tie.Need-slice-write-words-2 Inv-loop μ-loop
 slice-write-words-2 c = omega (arith, c .before .before .before .loop .inv .2 .size)
@@ -72,24 +51,5 @@ returns-2 c = filled-last (c .before .before .loop .inv .2) (omega arith)
 
 pub fill-words-spec : {M : Type 1} → statement M
 fill-words-spec =
-    tie.close
-    (tie.spec
-    Inv-loop
-    μ-loop
-    loop-holds
-    add-loop
-    add-waiting-digits
-    waiting-digits-requires
-    mul-words
-    slice-write-words
-    add-w
-    add-from
-    loop-less
-    loop-again
-    waiting-digits-requires-2
-    mul-words-2
-    slice-write-words-2
-    same-length
-    returns
-    same-length-2
-    returns-2)
+    tie.close (tie.spec Inv-loop μ-loop loop-holds (omega arith) (omega arith) waiting-digits-requires (omega arith) slice-write-words (omega arith)
+    (omega arith) (omega arith) loop-again waiting-digits-requires-2 (omega arith) slice-write-words-2 same-length returns same-length-2 returns-2)

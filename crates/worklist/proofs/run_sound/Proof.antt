@@ -39,9 +39,6 @@ returns c =
 loop-holds : tie.Need-loop-holds Inv-loop μ-loop
 loop-holds c = (omega arith, omega arith, below-none _)
 
-cell-ok-requires : tie.Need-cell-ok-requires Inv-loop μ-loop
-cell-ok-requires c κs = omega arith
-
 returns-2 : tie.Need-returns-2 Inv-loop μ-loop
 returns-2 c =
     let z = c .before .before .before .before .before .before .before .before .before .args in
@@ -50,9 +47,6 @@ returns-2 c =
 add-c : tie.Need-add-c Inv-loop μ-loop
 add-c c =
     omega (arith, head-of (c .before .before .before .before .before .before .before .before .before .args .a .now) (c .before .before .before .before .before .before .before .before .before .pre))
-
-loop-less : tie.Need-loop-less Inv-loop μ-loop
-loop-less c = omega arith
 
 loop-again : tie.Need-loop-again Inv-loop μ-loop
 loop-again c =
@@ -65,19 +59,5 @@ returns-3 c =
 
 pub run-sound-spec : {M : Type 1} → statement M
 run-sound-spec =
-    tie.close
-    (tie.spec
-    Inv-loop
-    μ-loop
-    shared-slice-read-top
-    shared-slice-read-n
-    cast-if1
-    mul-if1
-    returns
-    loop-holds
-    cell-ok-requires
-    returns-2
-    add-c
-    loop-less
-    loop-again
-    returns-3)
+    tie.close (tie.spec Inv-loop μ-loop shared-slice-read-top shared-slice-read-n cast-if1 mul-if1 returns loop-holds (omega arith) returns-2 add-c
+    (omega arith) loop-again returns-3)

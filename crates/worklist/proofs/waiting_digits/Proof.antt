@@ -16,9 +16,6 @@ abbrev μ-loop : tie.MeasureT-loop
 loop-holds : tie.Need-loop-holds Inv-loop μ-loop
 loop-holds c = (omega arith, omega arith, digits-none _ _)
 
-sub-c : tie.Need-sub-c Inv-loop μ-loop
-sub-c c = omega arith
-
 mul-x : tie.Need-mul-x Inv-loop μ-loop
 mul-x c = omega (arith, room-down (c .before .loop .inv .2) (omega arith) (omega arith) (omega arith))
 
@@ -31,17 +28,11 @@ add-x c = omega (arith, c .before .before .good)
 mul-x-3 : tie.Need-mul-x-3 Inv-loop μ-loop
 mul-x-3 c = omega (arith, c .before .before .good)
 
-shared-slice-read-x : tie.Need-shared-slice-read-x Inv-loop μ-loop
-shared-slice-read-x c = omega arith
-
 cast-x : tie.Need-cast-x Inv-loop μ-loop
 cast-x c = omega (arith, c .before .before .before .pre .3 (c .before .before .loop .c - 1) (omega arith))
 
 add-x-2 : tie.Need-add-x-2 Inv-loop μ-loop
 add-x-2 c = omega (arith, room-down (c .before .before .loop .inv .2) (omega arith) (omega arith) (omega arith), c .before .before .before .pre .3 (c .before .before .loop .c - 1) (omega arith))
-
-loop-less : tie.Need-loop-less Inv-loop μ-loop
-loop-less c = omega arith
 
 loop-again : tie.Need-loop-again Inv-loop μ-loop
 loop-again c = (omega arith, omega arith, digits-down (c .before .before .loop .inv .2) (omega arith) (omega arith) (c .before .before .before .pre .3 (c .before .before .loop .c - 1) (omega arith)))
@@ -51,19 +42,5 @@ returns c = let e : c .before .loop .c ≡ c .before .before .args .from = omega
 
 pub waiting-digits-spec : {M : Type 1} → statement M
 waiting-digits-spec =
-    tie.close
-    (tie.spec
-    Inv-loop
-    μ-loop
-    loop-holds
-    sub-c
-    mul-x
-    mul-x-2
-    add-x
-    mul-x-3
-    shared-slice-read-x
-    cast-x
-    add-x-2
-    loop-less
-    loop-again
+    tie.close (tie.spec Inv-loop μ-loop loop-holds (omega arith) mul-x mul-x-2 add-x mul-x-3 (omega arith) cast-x add-x-2 (omega arith) loop-again
     returns)

@@ -20,9 +20,6 @@ abbrev μ-loop : tie.MeasureT-loop
 shared-slice-read-count : tie.Need-shared-slice-read-count Inv-loop μ-loop
 shared-slice-read-count c = omega (arith, head-of (c .before .before .before .before .args .a .now) (c .before .before .before .before .pre .0))
 
-first-requires : tie.Need-first-requires Inv-loop μ-loop
-first-requires c κs = tt
-
 loop-holds : tie.Need-loop-holds Inv-loop μ-loop
 loop-holds c = (marking-first _ _ _ (c .before .before .before .before .before .pre .0) (c .before .before .before .before .before .pre .1) (c .first .ensures), still-same _ _ _ (c .before .before .before .before .before .pre .2))
 
@@ -49,17 +46,5 @@ returns c = (marking-last _ _ _ (c .before .before .loop .inv .0) (omega arith),
 
 pub wake-by-scan-spec : {M : Type 1} → statement M
 wake-by-scan-spec =
-    tie.close
-    (tie.spec
-    Inv-loop
-    μ-loop
-    shared-slice-read-count
-    first-requires
-    loop-holds
-    next-requires
-    wake-head-requires
-    loop-less
-    loop-again
-    same-length
-    same-length-2
-    returns)
+    tie.close (tie.spec Inv-loop μ-loop shared-slice-read-count (λ c κs. tt) loop-holds next-requires wake-head-requires loop-less loop-again
+    same-length same-length-2 returns)

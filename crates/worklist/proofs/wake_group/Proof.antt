@@ -47,12 +47,6 @@ slice-write-run c = let l = c .before .before .before .before .before .loop in l
 insert-requires : tie.Need-insert-requires Inv-loop μ-loop
 insert-requires c κs = let l = c .before .before .before .before .before .before .loop in let s = c .before .before .before .before .before .before .before .before .before .before in (l .inv .3 .size, head-in (s .pre .0) (l .inv .2) (l .inv .0) (omega arith) .0)
 
-add-i : tie.Need-add-i Inv-loop μ-loop
-add-i c = omega arith
-
-loop-less : tie.Need-loop-less Inv-loop μ-loop
-loop-less c = omega arith
-
 loop-again : tie.Need-loop-again Inv-loop μ-loop
 loop-again c =
     let l = c .before .before .before .before .loop in
@@ -76,24 +70,5 @@ returns c = let e : c .before .loop .i ≡ c .before .before .before .before .be
 
 pub wake-group-spec : {M : Type 1} → statement M
 wake-group-spec =
-    tie.close
-    (tie.spec
-    Inv-loop
-    μ-loop
-    loop-holds
-    mul-h
-    shared-slice-read-h
-    cast-at
-    mul-at
-    add-at
-    mul-mark
-    slice-read-mark
-    mul-run
-    slice-write-run
-    insert-requires
-    add-i
-    loop-less
-    loop-again
-    same-length
-    same-length-2
-    returns)
+    tie.close (tie.spec Inv-loop μ-loop loop-holds mul-h shared-slice-read-h cast-at mul-at add-at mul-mark slice-read-mark mul-run slice-write-run
+    insert-requires (omega arith) (omega arith) loop-again same-length same-length-2 returns)

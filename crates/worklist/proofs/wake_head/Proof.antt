@@ -9,50 +9,11 @@ use borrow.Author.Needs.{needs}
 use Rattle.worklist.proofs.wake_head.Statement.{statement}
 use Rattle.worklist.proofs.wake_head.Tie as tie
 
-mul-h : tie.Need-mul-h
-mul-h c = search needs
-
-shared-slice-read-h : tie.Need-shared-slice-read-h
-shared-slice-read-h c = search needs
-
-cast-place : tie.Need-cast-place
-cast-place c = search needs
-
-mul-place : tie.Need-mul-place
-mul-place c = search needs
-
-add-place : tie.Need-add-place
-add-place c = search needs
-
-mul-mark : tie.Need-mul-mark
-mul-mark c = search needs
-
-slice-read-mark : tie.Need-slice-read-mark
-slice-read-mark c = search needs
-
 returns : tie.Need-returns
 returns c = (stays-unreached _ (c .before .before .before .before .before .before .args .run .now) (c .if1 .taken) (lineNames (lineAt (drop (c .before .before .before .before .before .before .args .at) (c .before .before .before .before .before .before .args .a .now))) (c .before .before .before .before .before .before .args .c)), λ n l. still-same _ _ _ (c .before .before .before .before .before .before .pre .3))
 
 returns-2 : tie.Need-returns-2
 returns-2 c = (stays-waiting _ (c .before .before .before .before .before .before .before .args .run .now) (c .if2 .taken) (lineNames (lineAt (drop (c .before .before .before .before .before .before .before .args .at) (c .before .before .before .before .before .before .before .args .a .now))) (c .before .before .before .before .before .before .before .args .c)), λ n l. still-same _ _ _ (c .before .before .before .before .before .before .before .pre .3))
-
-line-names-requires : tie.Need-line-names-requires
-line-names-requires c κs = search needs
-
-mul-run : tie.Need-mul-run
-mul-run c = search needs
-
-slice-write-run : tie.Need-slice-write-run
-slice-write-run c = search needs
-
-insert-requires : tie.Need-insert-requires
-insert-requires c κs = search needs
-
-same-length : tie.Need-same-length
-same-length c = search needs
-
-same-length-2 : tie.Need-same-length-2
-same-length-2 c = search needs
 
 returns-3 : tie.Need-returns-3
 returns-3 c = (rw (sym (c .before .before .before .before .before .line-names .ensures) ∙ c .before .before .before .before .if3 .taken) (now-waiting _ (c .before .before .before .before .before .before .before .before .before .before .before .before .before .args .run .now) (c .before .before .before .before .before .before .before .if1 .left)), λ n l. still-inserted (c .before .before .before .before .before .before .before .before .before .before .before .before .before .args .run .now) (c .before .before .before .before .before .before .before .before .before .before .before .before .before .pre .1) l (c .before .before .insert .ensures))
@@ -62,22 +23,5 @@ returns-4 c = (rw (sym (c .before .line-names .ensures) ∙ c .if3 .left), λ n 
 
 pub wake-head-spec : {M : Type 1} → statement M
 wake-head-spec =
-    tie.close
-    (tie.spec
-    mul-h
-    shared-slice-read-h
-    cast-place
-    mul-place
-    add-place
-    mul-mark
-    slice-read-mark
-    returns
-    returns-2
-    line-names-requires
-    mul-run
-    slice-write-run
-    insert-requires
-    same-length
-    same-length-2
-    returns-3
-    returns-4)
+    tie.close (tie.spec (search needs) (search needs) (search needs) (search needs) (search needs) (search needs) (search needs) returns returns-2
+    (search needs) (search needs) (search needs) (search needs) (search needs) (search needs) returns-3 returns-4)

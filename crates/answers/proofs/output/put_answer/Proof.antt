@@ -15,32 +15,14 @@ use borrow.Author.Needs.{needs}
 use Rattle.answers.proofs.output.put_answer.Statement.{statement}
 use Rattle.answers.proofs.output.put_answer.Tie as tie
 
-letter-requires : tie.Need-letter-requires
-letter-requires c κs = search needs
-
-put-byte-requires : tie.Need-put-byte-requires
-put-byte-requires c κs = search needs
-
-put-byte-requires-2 : tie.Need-put-byte-requires-2
-put-byte-requires-2 c κs = search needs
-
 put-field-requires : tie.Need-put-field-requires
 put-field-requires c κs = let s = c .before .before .before .before .before .before .before .before .before .before .before in omega (arith, number-short (s .args .c) (s .pre .1), c .before .before .before .before .before .before .before .put-byte .ensures .behind, c .before .before .before .before .before .before .before .put-byte .kept .0, c .before .before .before .put-byte2 .ensures .behind, c .before .before .before .put-byte2 .kept .0)
-
-cast-put-field : tie.Need-cast-put-field
-cast-put-field c = search needs
 
 put-field-requires-2 : tie.Need-put-field-requires-2
 put-field-requires-2 c κs = let s = c .before .before .before .before .before .before .before .before .before .before .before .before .before .before .before .before in omega (arith, number-short (s .args .c) (s .pre .1), number-short (s .args .ends .low) (s .pre .2), length-append (numberText (s .args .c)) (44 ∷ []), c .before .before .before .before .before .before .before .before .before .before .before .before .put-byte .ensures .behind, c .before .before .before .before .before .before .before .before .before .before .before .before .put-byte .kept .0, c .before .before .before .before .before .before .before .before .put-byte2 .ensures .behind, c .before .before .before .before .before .before .before .before .put-byte2 .kept .0, c .before .before .before .before .put-field .ensures .behind, c .before .before .before .before .put-field .kept .0)
 
-cast-put-field-2 : tie.Need-cast-put-field-2
-cast-put-field-2 c = search needs
-
 put-field-requires-3 : tie.Need-put-field-requires-3
 put-field-requires-3 c κs = let s = c .before .before .before .before .before .before .before .before .before .before .before .before .before .before .before .before .before .before .before .before .before in omega (arith, number-short (s .args .c) (s .pre .1), number-short (s .args .ends .low) (s .pre .2), number-short (s .args .ends .high) (s .pre .3), length-append (numberText (s .args .c)) (44 ∷ []), length-append (numberText (s .args .ends .low)) (44 ∷ []), c .before .before .before .before .before .before .before .before .before .before .before .before .before .before .before .before .before .put-byte .ensures .behind, c .before .before .before .before .before .before .before .before .before .before .before .before .before .before .before .before .before .put-byte .kept .0, c .before .before .before .before .before .before .before .before .before .before .before .before .before .put-byte2 .ensures .behind, c .before .before .before .before .before .before .before .before .before .before .before .before .before .put-byte2 .kept .0, c .before .before .before .before .before .before .before .before .before .put-field .ensures .behind, c .before .before .before .before .before .before .before .before .before .put-field .kept .0, c .before .before .before .before .put-field2 .ensures .behind, c .before .before .before .before .put-field2 .kept .0)
-
-same-length : tie.Need-same-length
-same-length c = search needs
 
 returns : tie.Need-returns
 returns c =
@@ -53,15 +35,5 @@ returns c =
 
 pub put-answer-spec : {M : Type 1} → statement M
 put-answer-spec =
-    tie.close
-    (tie.spec
-    letter-requires
-    put-byte-requires
-    put-byte-requires-2
-    put-field-requires
-    cast-put-field
-    put-field-requires-2
-    cast-put-field-2
-    put-field-requires-3
-    same-length
-    returns)
+    tie.close (tie.spec (λ c κs. search needs) (λ c κs. search needs) (λ c κs. search needs) put-field-requires (search needs) put-field-requires-2
+    (search needs) put-field-requires-3 (search needs) returns)

@@ -18,9 +18,6 @@ abbrev μ-loop : tie.MeasureT-loop
 shared-slice-read-lines : tie.Need-shared-slice-read-lines Inv-loop μ-loop
 shared-slice-read-lines c = omega (arith, head-of (c .before .before .before .before .args .page .now) (c .before .before .before .before .pre .0))
 
-first-requires : tie.Need-first-requires Inv-loop μ-loop
-first-requires c κs = tt
-
 loop-holds : tie.Need-loop-holds Inv-loop μ-loop
 loop-holds c = let z = c .before .before .before .before .before in (refl, refl, printing-first (z .args .page .now) (z .args .out .now) (z .args .from) (z .pre .0) (omega (arith, z .pre .1)) (c .first .ensures))
 
@@ -60,17 +57,5 @@ returns c = let z = c .before .before .before .before .before .before .before .b
 
 pub put-lines-spec : {M : Type 1} → statement M
 put-lines-spec =
-    tie.close
-    (tie.spec
-    Inv-loop
-    μ-loop
-    shared-slice-read-lines
-    first-requires
-    loop-holds
-    put-line-requires
-    next-requires
-    loop-less
-    loop-again
-    same-length
-    same-length-2
-    returns)
+    tie.close (tie.spec Inv-loop μ-loop shared-slice-read-lines (λ c κs. tt) loop-holds put-line-requires next-requires loop-less loop-again
+    same-length same-length-2 returns)

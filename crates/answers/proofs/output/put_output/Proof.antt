@@ -9,39 +9,18 @@ use borrow.Author.Needs.{needs}
 use Rattle.answers.proofs.output.put_output.Statement.{statement}
 use Rattle.answers.proofs.output.put_output.Tie as tie
 
-slice-aggregate-read-page : tie.Need-slice-aggregate-read-page
-slice-aggregate-read-page c = search needs
-
-read-page-requires : tie.Need-read-page-requires
-read-page-requires c κs = search needs
-
-enum-known-read : tie.Need-enum-known-read
-enum-known-read c = search needs
-
 put-refusal-requires : tie.Need-put-refusal-requires
 put-refusal-requires c κs =
     let s = read-small _ _ (ap answerOf (sym (c .before .before .read .given .1)) ∙ c .before .before .before .before .before .read-page .ensures .0) in
     (omega (arith, c .before .before .before .before .before .before .before .before .before .pre), omega (arith, s .0), omega (arith, s .1))
-
-enum-told : tie.Need-enum-told
-enum-told c = search needs
-
-slice-aggregate-put-page : tie.Need-slice-aggregate-put-page
-slice-aggregate-put-page c = search needs
 
 put-page-requires : tie.Need-put-page-requires
 put-page-requires c κs =
     let r = c .before .before .before .before .before .read-page in
     (ap sound (r .ensures .1) ∙ read-good _ _ (ap answerOf (sym (c .before .before .enum-told .given .1)) ∙ r .ensures .0) .page-sound, c .before .before .before .before .before .before .before .before .before .pre)
 
-same-length : tie.Need-same-length
-same-length c = search needs
-
 returns : tie.Need-returns
 returns c = puts-refusal _ _ (omega arith) (ap answerOf (sym (c .before .before .before .before .before .read .given .1)) ∙ c .before .before .before .before .before .before .before .before .read-page .ensures .0) (c .before .before .put-refusal .ensures)
-
-same-length-2 : tie.Need-same-length-2
-same-length-2 c = search needs
 
 returns-2 : tie.Need-returns-2
 returns-2 c =
@@ -50,16 +29,5 @@ returns-2 c =
 
 pub put-output-spec : {M : Type 1} → statement M
 put-output-spec =
-    tie.close
-    (tie.spec
-    slice-aggregate-read-page
-    read-page-requires
-    enum-known-read
-    put-refusal-requires
-    enum-told
-    slice-aggregate-put-page
-    put-page-requires
-    same-length
-    returns
-    same-length-2
-    returns-2)
+    tie.close (tie.spec (search needs) (λ c κs. search needs) (search needs) put-refusal-requires (λ c. search needs) (search needs) put-page-requires
+    (search needs) returns (search needs) returns-2)

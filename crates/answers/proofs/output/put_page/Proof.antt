@@ -14,9 +14,6 @@ shared-slice-read-put-top c = omega (arith, head-of (c .before .before .before .
 put-top-requires : tie.Need-put-top-requires
 put-top-requires c κs = let z = c .before .before .before .before in (omega (arith, z .pre .1), omega (arith, head-of (z .args .page .now) (z .pre .0)))
 
-slice-aggregate-put-lines : tie.Need-slice-aggregate-put-lines
-slice-aggregate-put-lines c = search needs
-
 put-lines-requires : tie.Need-put-lines-requires
 put-lines-requires c κs =
     let z = c .before .before .before .before .before .before .before .before .before in
@@ -33,21 +30,10 @@ put-end-requires c κs =
     let few = lines-few a (z .pre .0) in
     (omega (arith, z .pre .1, t .kept .0, t .ensures .behind, top-short (topOf a) (omega (arith, head-of a (z .pre .0))), l .kept .1 .1 .0, l .ensures .short, few), omega (arith, l .ensures .counted, few))
 
-same-length : tie.Need-same-length
-same-length c = search needs
-
 returns : tie.Need-returns
 returns c =
     puts-page (c .before .before .before .before .before .before .before .before .before .before .before .before .before .before .before .before .before .args .page .now) (c .before .before .before .before .before .before .before .before .before .before .before .before .put-top .ensures) (c .before .before .before .before .before .before .before .put-lines .ensures) (c .before .before .put-end .ensures)
 
 pub put-page-spec : {M : Type 1} → statement M
 put-page-spec =
-    tie.close
-    (tie.spec
-    shared-slice-read-put-top
-    put-top-requires
-    slice-aggregate-put-lines
-    put-lines-requires
-    put-end-requires
-    same-length
-    returns)
+    tie.close (tie.spec shared-slice-read-put-top put-top-requires (search needs) put-lines-requires put-end-requires (search needs) returns)

@@ -10,35 +10,15 @@ use borrow.Author.Needs.{needs}
 use Rattle.answers.proofs.output.put_refusal.Statement.{statement}
 use Rattle.answers.proofs.output.put_refusal.Tie as tie
 
-slice-aggregate-put-all : tie.Need-slice-aggregate-put-all
-slice-aggregate-put-all c = search needs
-
-put-all-requires : tie.Need-put-all-requires
-put-all-requires c κs = search needs
-
 put-field-requires : tie.Need-put-field-requires
 put-field-requires c κs = let s = c .before .before .before .before .before .before .before in omega (arith, number-short (s .args .number) (s .pre .1), c .before .before .before .put-all .ensures .behind, c .before .before .before .put-all .kept .0)
 
-cast-put-field : tie.Need-cast-put-field
-cast-put-field c = search needs
-
 put-field-requires-2 : tie.Need-put-field-requires-2
 put-field-requires-2 c κs = let s = c .before .before .before .before .before .before .before .before .before .before .before in omega (arith, number-short (s .args .number) (s .pre .1), number-four (s .args .line) (s .pre .2), length-append (numberText (s .args .number)) (44 ∷ []), c .before .before .before .before .before .before .before .put-all .ensures .behind, c .before .before .before .before .before .before .before .put-all .kept .0, c .before .before .before .put-field .ensures .behind, c .before .before .before .put-field .kept .0)
-
-same-length : tie.Need-same-length
-same-length c = search needs
 
 returns : tie.Need-returns
 returns c = let s = c .before .before .before .before .before .before .before .before .before .before .before .before .before .before in wrote-as (refusal-text (record { number = s .args .number; line = s .args .line })) (wrote-then (wrote-then (c .before .before .before .before .before .before .before .before .before .before .put-all .ensures) (c .before .before .before .before .before .before .put-field .ensures)) (c .before .before .put-field2 .ensures))
 
 pub put-refusal-spec : {M : Type 1} → statement M
 put-refusal-spec =
-    tie.close
-    (tie.spec
-    slice-aggregate-put-all
-    put-all-requires
-    put-field-requires
-    cast-put-field
-    put-field-requires-2
-    same-length
-    returns)
+    tie.close (tie.spec (search needs) (λ c κs. search needs) put-field-requires (search needs) put-field-requires-2 (search needs) returns)

@@ -7,22 +7,11 @@ use borrow.Author.Needs.{needs}
 use Rattle.answers.proofs.output.put_top.Statement.{statement}
 use Rattle.answers.proofs.output.put_top.Tie as tie
 
-slice-aggregate-put-all : tie.Need-slice-aggregate-put-all
-slice-aggregate-put-all c = search needs
-
-put-all-requires : tie.Need-put-all-requires
-put-all-requires c κs = search needs
-
 put-field-requires : tie.Need-put-field-requires
 put-field-requires c κs = let s = c .before .before .before .before .before .before .before in omega (arith, number-short (s .args .top) (s .pre .1), c .before .before .before .put-all .ensures .behind, c .before .before .before .put-all .kept .0)
-
-same-length : tie.Need-same-length
-same-length c = search needs
 
 returns : tie.Need-returns
 returns c = wrote-as (top-text (c .before .before .before .before .before .before .before .before .before .before .args .top)) (wrote-then (c .before .before .before .before .before .before .put-all .ensures) (c .before .before .put-field .ensures))
 
 pub put-top-spec : {M : Type 1} → statement M
-put-top-spec =
-    tie.close
-    (tie.spec slice-aggregate-put-all put-all-requires put-field-requires same-length returns)
+put-top-spec = tie.close (tie.spec (search needs) (λ c κs. search needs) put-field-requires (search needs) returns)
