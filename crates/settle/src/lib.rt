@@ -1,7 +1,7 @@
 // One end of every reached condition, settled while the other ends stay.
 ghost use mathlib.Core.Path.{_≡_};
 ghost use mathlib.Core.Bool.{true};
-ghost use Prim.Native.Nat.{ℕ, _*_, _≤_, _<_};
+ghost use Prim.Native.Nat.{ℕ, _+_, _*_, _≤_, _<_};
 ghost use lib.ListN.{length, getD};
 ghost use Rattle.semantics.specs.Area.{sound, conditionsOf, countOf};
 ghost use Rattle.page.specs.Places.{placeOf, LineIn};
@@ -22,15 +22,11 @@ fn base_of(n: usize, end: End) -> usize
     }
 }
 
-// If the line at `at` is an F or R line of a reached condition, that condition's end becomes the line's where the line's is higher;
-// whether it rose.
-fn raise(a: &[u16], at: usize, scratch: &mut [u16], n: usize, end: End) -> bool
-    requires { ⌜ Half (side end) (now a) (now scratch) × (n ≡ conditionsOf (now a)) × LineIn (now a) at ⌝ }
+// If the head of the F or R line at `at` is reached, its end becomes the line's where the line's is higher; whether it rose.
+fn raise_head(a: &[u16], at: usize, scratch: &mut [u16], n: usize, end: End) -> bool
+    requires { ⌜ Half (side end) (now a) (now scratch) × (n ≡ conditionsOf (now a)) × LineIn (now a) at × (getD (now a) (at + 1) 0 ≤ 5) ⌝ }
     ensures { λ r. ⌜ Raised (side end) (now (a .entry)) at (now (scratch .entry)) (now (scratch .exit)) r ⌝ }
 {
-    if 5 < a[at + 1] {
-        return false;
-    }
     let h = a[at] as usize;
     if scratch[4 * n + h] == 0 {
         return false;
@@ -47,6 +43,18 @@ fn raise(a: &[u16], at: usize, scratch: &mut [u16], n: usize, end: End) -> bool
     true
 }
 
+// The same for any line: a query raises nothing.
+fn raise(a: &[u16], at: usize, scratch: &mut [u16], n: usize, end: End) -> bool
+    requires { ⌜ Half (side end) (now a) (now scratch) × (n ≡ conditionsOf (now a)) × LineIn (now a) at ⌝ }
+    ensures { λ r. ⌜ Raised (side end) (now (a .entry)) at (now (scratch .entry)) (now (scratch .exit)) r ⌝ }
+{
+    let k = a[at + 1];
+    match k {
+        0..=5 => raise_head(a, at, scratch, n, end),
+        _ => false,
+    }
+}
+
 // Looks at all lines in page order and raises the ends of their heads; whether any rose.
 fn sweep(a: &[u16], scratch: &mut [u16], n: usize, end: End) -> bool
     requires { ⌜ Half (side end) (now a) (now scratch) × (n ≡ conditionsOf (now a)) ⌝ }
@@ -57,10 +65,11 @@ fn sweep(a: &[u16], scratch: &mut [u16], n: usize, end: End) -> bool
     let mut at = line.at;
     let mut rose = false;
     while at < used {
-        if raise(a, at, scratch, n, end) {
+        let line = at;
+        at += page::span_of(a[line + 1], a[line + 3]);
+        if raise(a, line, scratch, n, end) {
             rose = true;
         }
-        at += page::span_of(a[at + 1], a[at + 3]);
     }
     rose
 }

@@ -178,11 +178,12 @@ pub fn line_end(a: &[u16], at: usize, values: &[u16], end: End) -> u16
     requires { ⌜ (sound (now a) ≡ true) × Grades (topOf (now a)) (conditionsOf (now a)) (now values) × LineOf (now a) (getD (now a) at 0) at ⌝ }
     ensures { λ r. ⌜ LineEnd (side end) (now (a .entry)) (now (values .entry)) at r ⌝ }
 {
-    if 0 < a[at + 1] {
-        return rule_end(a, at, values, end);
-    }
-    match end {
-        End::Lower => a[at + 2],
-        End::Upper => a[at + 3],
+    let k = a[at + 1];
+    match k {
+        0 => match end {
+            End::Lower => a[at + 2],
+            End::Upper => a[at + 3],
+        },
+        _ => rule_end(a, at, values, end),
     }
 }

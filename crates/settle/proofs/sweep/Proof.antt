@@ -1,6 +1,4 @@
--- `sweep` raises the ends of the heads line by line, in page order (`Sweeping`).
-use mathlib.Core.Path.{_∙_}
-use mathlib.Core.Logic.{⊎-elim}
+-- `sweep` raises the ends of the heads line by line, in page order (`Sweeping`); it finds the next line before it looks at one.
 use Prim.Native.Nat.{_-_}
 use native.Mathlib.Omega.{arith}
 use Rattle.page.proofs.Head.{head-of}
@@ -28,38 +26,44 @@ first-requires c κs = tt
 loop-holds : tie.Need-loop-holds Inv-loop μ-loop
 loop-holds c = sweeping-first (c .before .before .before .before .pre .0) (c .before .before .before .before .pre .1) (c .first .ensures)
 
-raise-requires : tie.Need-raise-requires Inv-loop μ-loop
-raise-requires c κs = (c .before .before .loop .inv .looked .half, c .before .before .loop .inv .size, sweep-line (c .before .before .loop .inv) (omega arith))
-
 add-span-of : tie.Need-add-span-of Inv-loop μ-loop
-add-span-of c = let s = c .before .before .before .before .before .before .before .before .before .before .before in let f = line-entry _ (s .pre .0 .page-sound) (sweep-line (c .before .before .before .before .before .before .loop .inv) (omega arith)) in omega (arith, s .good)
+add-span-of c = let s = c .before .before .before .before .before .before in let f = line-entry _ (s .pre .0 .page-sound) (sweep-line (c .before .loop .inv) (omega arith)) in omega (arith, s .good)
 
 mul-span-of : tie.Need-mul-span-of Inv-loop μ-loop
-mul-span-of c = let s = c .before .before .before .before .before .before .before .before .before .before .before in let f = line-entry _ (s .pre .0 .page-sound) (sweep-line (c .before .before .before .before .before .before .loop .inv) (omega arith)) in omega (arith, s .good)
+mul-span-of c = let s = c .before .before .before .before .before .before in let f = line-entry _ (s .pre .0 .page-sound) (sweep-line (c .before .loop .inv) (omega arith)) in omega (arith, s .good)
 
 shared-slice-read-span-of : tie.Need-shared-slice-read-span-of Inv-loop μ-loop
-shared-slice-read-span-of c = let s = c .before .before .before .before .before .before .before .before .before .before .before .before in let f = line-entry _ (s .pre .0 .page-sound) (sweep-line (c .before .before .before .before .before .before .before .loop .inv) (omega arith)) in omega (arith, s .good)
+shared-slice-read-span-of c = let s = c .before .before .before .before .before .before .before in let f = line-entry _ (s .pre .0 .page-sound) (sweep-line (c .before .before .loop .inv) (omega arith)) in omega (arith, s .good)
 
 add-span-of-2 : tie.Need-add-span-of-2 Inv-loop μ-loop
-add-span-of-2 c = let s = c .before .before .before .before .before .before .before .before .before .before .before .before in let f = line-entry _ (s .pre .0 .page-sound) (sweep-line (c .before .before .before .before .before .before .before .loop .inv) (omega arith)) in omega (arith, s .good)
+add-span-of-2 c = let s = c .before .before .before .before .before .before .before in let f = line-entry _ (s .pre .0 .page-sound) (sweep-line (c .before .before .loop .inv) (omega arith)) in omega (arith, s .good)
 
 mul-span-of-2 : tie.Need-mul-span-of-2 Inv-loop μ-loop
-mul-span-of-2 c = let s = c .before .before .before .before .before .before .before .before .before .before .before .before in let f = line-entry _ (s .pre .0 .page-sound) (sweep-line (c .before .before .before .before .before .before .before .loop .inv) (omega arith)) in omega (arith, s .good)
+mul-span-of-2 c = let s = c .before .before .before .before .before .before .before in let f = line-entry _ (s .pre .0 .page-sound) (sweep-line (c .before .before .loop .inv) (omega arith)) in omega (arith, s .good)
 
 shared-slice-read-span-of-2 : tie.Need-shared-slice-read-span-of-2 Inv-loop μ-loop
-shared-slice-read-span-of-2 c = let s = c .before .before .before .before .before .before .before .before .before .before .before .before .before in let f = line-entry _ (s .pre .0 .page-sound) (sweep-line (c .before .before .before .before .before .before .before .before .loop .inv) (omega arith)) in omega (arith, s .good)
+shared-slice-read-span-of-2 c = let s = c .before .before .before .before .before .before .before .before in let f = line-entry _ (s .pre .0 .page-sound) (sweep-line (c .before .before .before .loop .inv) (omega arith)) in omega (arith, s .good)
 
 span-of-requires : tie.Need-span-of-requires Inv-loop μ-loop
 span-of-requires c κs = tt
 
 add-at : tie.Need-add-at Inv-loop μ-loop
-add-at c = omega (arith, sweep-less (c .before .before .before .before .before .before .before .before .before .loop .inv) (omega arith) _ (c .span-of .ensures), c .before .before .before .before .before .before .before .before .before .before .before .before .before .before .good)
+add-at c = omega (arith, sweep-less (c .before .before .before .before .loop .inv) (omega arith) _ (c .span-of .ensures), c .before .before .before .before .before .before .before .before .before .good)
+
+raise-requires : tie.Need-raise-requires Inv-loop μ-loop
+raise-requires c κs = (c .before .before .before .before .before .loop .inv .looked .half, c .before .before .before .before .before .loop .inv .size, sweep-line (c .before .before .before .before .before .loop .inv) (omega arith))
 
 loop-less : tie.Need-loop-less Inv-loop μ-loop
-loop-less c = omega (arith, sweep-less (c .before .before .before .before .before .before .before .before .before .loop .inv) (omega arith) _ (c .span-of .ensures))
+loop-less c = omega (arith, sweep-less (c .before .before .before .before .before .before .before .before .before .loop .inv) (omega arith) _ (c .before .before .before .before .before .span-of .ensures))
 
 loop-again : tie.Need-loop-again Inv-loop μ-loop
-loop-again c = ⊎-elim (λ w. sweeping-next (c .before .before .before .before .before .before .before .before .before .loop .inv) (omega arith) (c .before .before .before .before .before .before .raise .ensures) (w .1 ∙ rw (w .0 .taken)) (c .span-of .ensures)) (λ w. sweeping-next (c .before .before .before .before .before .before .before .before .before .loop .inv) (omega arith) (c .before .before .before .before .before .before .raise .ensures) (w .1 ∙ rw (w .0 .left)) (c .span-of .ensures)) (c .before .before .before .if1 .came)
+loop-again c = sweeping-next (c .before .before .before .before .before .before .before .before .before .loop .inv) (omega arith) (c .before .before .before .raise .ensures) (rw (c .if1 .taken)) (c .before .before .before .before .before .span-of .ensures)
+
+loop-less-2 : tie.Need-loop-less-2 Inv-loop μ-loop
+loop-less-2 c = omega (arith, sweep-less (c .before .before .before .before .before .before .before .before .before .loop .inv) (omega arith) _ (c .before .before .before .before .before .span-of .ensures))
+
+loop-again-2 : tie.Need-loop-again-2 Inv-loop μ-loop
+loop-again-2 c = sweeping-next (c .before .before .before .before .before .before .before .before .before .loop .inv) (omega arith) (c .before .before .before .raise .ensures) (rw (c .if1 .left)) (c .before .before .before .before .before .span-of .ensures)
 
 same-length : tie.Need-same-length Inv-loop μ-loop
 same-length c = c .before .loop .inv .looked .steady .same-length
@@ -77,7 +81,6 @@ sweep-spec =
     cast-used
     first-requires
     loop-holds
-    raise-requires
     add-span-of
     mul-span-of
     shared-slice-read-span-of
@@ -86,7 +89,10 @@ sweep-spec =
     shared-slice-read-span-of-2
     span-of-requires
     add-at
+    raise-requires
     loop-less
     loop-again
+    loop-less-2
+    loop-again-2
     same-length
     returns)
