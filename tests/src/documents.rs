@@ -4,6 +4,7 @@
 //!   of the repository, with each block marked `page NAME` of the same document as a file, and with the C examples on the path.
 //! - A comment `<!-- checked: HOW -->` stands before a table; HOW is one of the words of `check_table`.
 //! - An interval [a;b] in figures anywhere else must be shown by a checked table or a console block of the same document.
+//! - The rules of an operation (`docs/RULES.md`) state its refusals, in order, with the causes of the header.
 //! - A number with a comma in it, as in 1,024, must be a limit that the header states, and so must a limit in words (`PHRASES`).
 
 use std::collections::BTreeSet;
@@ -527,6 +528,75 @@ fn operations(table: &Table) -> Check {
         };
         let stated = table.cell(row, "refusals, in order")?;
         figure(&function, stated, &wanted.replace(" or ", ", "))?;
+        causes(table.cell(row, "operation")?, stated)?;
+    }
+    Ok(())
+}
+
+/// The refusals of the header: number and cause.
+fn header_refusals() -> Check<Vec<(String, BTreeSet<String>)>> {
+    let header = file("include/simjorad.h")?;
+    let (_, part) = header
+        .split_once("/* Refusals")
+        .ok_or("no refusals in the header")?;
+    let (part, _) = part.split_once("/*\n").ok_or("no end of the refusals")?;
+    let one = |line: &str| -> Option<(String, BTreeSet<String>)> {
+        let (define, cause) = line.strip_prefix("#define ")?.split_once("/*")?;
+        let number = define.split_whitespace().nth(1)?;
+        Some((number.to_string(), words(cause)))
+    };
+    Ok(part.lines().filter_map(one).collect())
+}
+
+/// The words of a text in small letters and figures.
+fn words(text: &str) -> BTreeSet<String> {
+    text.split(|c: char| !c.is_ascii_alphanumeric())
+        .filter(|word| !word.is_empty())
+        .map(str::to_ascii_lowercase)
+        .collect()
+}
+
+/// The rules of one operation, from its name in bold on: they state the same refusals in the same order, and the words of each cause have
+/// no more in common with another refusal of the header than with its own.
+fn causes(operation: &str, wanted: &str) -> Check {
+    let rules = file("docs/RULES.md")?;
+    let (_, part) = rules
+        .split_once(&format!("\n**{operation}** ("))
+        .ok_or(format!("no rules of {operation}"))?;
+    let end = part.find("\n**").or_else(|| part.find("\nThe operations"));
+    let (_, part) = part[..end.unwrap_or(part.len())]
+        .split_once(')')
+        .unwrap_or_default();
+    // a number before a colon has its cause behind it; one in a list, or alone in an item, stands for a cause told above
+    let mut stated: Vec<(String, Option<String>)> = Vec::new();
+    let mut listed = true;
+    for word in part.split_whitespace() {
+        let number = word.trim_end_matches(['.', ',', ':']);
+        let is_number = !number.is_empty() && number.bytes().all(|byte| byte.is_ascii_digit());
+        let is_mark = [".", "-"].contains(&word);
+        if is_number && (listed || word.ends_with(':')) {
+            stated.push((number.to_string(), word.ends_with(':').then(String::new)));
+        } else if let (false, Some((_, Some(cause)))) = (is_mark, stated.last_mut()) {
+            cause.push_str(word);
+            cause.push(' ');
+        }
+        listed = is_mark || (listed && is_number && word.ends_with(','));
+    }
+    let numbers: Vec<&str> = stated.iter().map(|(number, _)| &**number).collect();
+    let numbers = match &numbers[..] {
+        [] => "none".to_string(),
+        _ => numbers.join(", "),
+    };
+    figure(&format!("the refusals of {operation}"), &*numbers, wanted)?;
+    let known = header_refusals()?;
+    for (number, cause) in &stated {
+        let Some(cause) = cause else { continue };
+        let (cause, _) = cause.split_once(". ").unwrap_or((cause, ""));
+        let common = |other: &BTreeSet<String>| other.intersection(&words(cause)).count();
+        let most = known.iter().map(|(_, other)| common(other)).max();
+        let own = known.iter().find(|(other, _)| other == number);
+        let own = own.map(|(_, other)| common(other));
+        figure(&format!("{operation}, {number}: {cause}"), own, most)?;
     }
     Ok(())
 }

@@ -81,16 +81,19 @@ fn put_line(
     requires { ⌜ (sound (now page) ≡ true) × (line + 4 ≤ length (now page)) × (every (lineTests (topOf (now page)) (conditionsOf (now page)) (usedOf (now page) - line) (drop line (now page))) ≡ true) × (done .at + 14 ≤ length (now out)) × (done .count < 1024) ⌝ }
     ensures { λ r. ⌜ PutLines (pageOf (now (page .entry))) (lineAt (drop line (now (page .entry))) ∷ []) (now (out .entry)) (done .at) (done .count) (now (out .exit)) (r .at) (r .count) ⌝ }
 {
-    if page[line + 1] != 6 {
-        return done;
-    }
-    let reading = page[line + 2];
-    let c = page[line];
-    let ends = answer(page, reading, c, workspace);
-    let at = put_answer(out, done.at, reading, c, ends);
-    Written {
-        at,
-        count: done.count + 1,
+    let k = page[line + 1];
+    match k {
+        6 => {
+            let reading = page[line + 2];
+            let c = page[line];
+            let ends = answer(page, reading, c, workspace);
+            let at = put_answer(out, done.at, reading, c, ends);
+            Written {
+                at,
+                count: done.count + 1,
+            }
+        }
+        _ => done,
     }
 }
 

@@ -33,14 +33,17 @@ fn take_line(a: &[u16], at: usize, values: &[u8], best: Best) -> Best
     requires { ⌜ (sound (now a) ≡ true) × Mirrored (topOf (now a)) (conditionsOf (now a)) (now values) × LineIn (now a) at ⌝ }
     ensures { λ r. ⌜ Taken (now (a .entry)) (now (values .entry)) (getD (now (a .entry)) at 0) at (best .found) (best .low) (best .high) (r .found) (r .low) (r .high) ⌝ }
 {
-    if 5 < a[at + 1] {
-        return best;
-    }
-    let x = ends::line_ends(a, at, values);
-    Best {
-        found: true,
-        low: value::maximum(best.low, x.low),
-        high: value::maximum(best.high, x.high),
+    let k = a[at + 1];
+    match k {
+        0..=5 => {
+            let x = ends::line_ends(a, at, values);
+            Best {
+                found: true,
+                low: value::maximum(best.low, x.low),
+                high: value::maximum(best.high, x.high),
+            }
+        }
+        _ => best,
     }
 }
 

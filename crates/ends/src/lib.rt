@@ -112,11 +112,12 @@ pub fn line_ends(a: &[u16], at: usize, values: &[u8]) -> Ends
     requires { ⌜ (sound (now a) ≡ true) × Mirrored (topOf (now a)) (conditionsOf (now a)) (now values) × LineOf (now a) (getD (now a) at 0) at ⌝ }
     ensures { λ r. ⌜ LineEnd lower (now (a .entry)) (now (values .entry)) at (r .low) × LineEnd upper (now (a .entry)) (mirrored (topOf (now (a .entry))) (now (values .entry))) at (r .high) ⌝ }
 {
-    if 0 < a[at + 1] {
-        return rule_ends(a, at, values);
-    }
-    Ends {
-        low: a[at + 2],
-        high: a[at + 3],
+    let k = a[at + 1];
+    match k {
+        0 => Ends {
+            low: a[at + 2],
+            high: a[at + 3],
+        },
+        _ => rule_ends(a, at, values),
     }
 }

@@ -3,19 +3,20 @@
 use mathlib.Core.Path.{_≡_, refl, sym, _∙_, ap}
 use mathlib.Core.Logic.{_⊎_, inl, inr, ⊎-elim}
 use mathlib.Core.Bool.{Bool, true, false, _&&_, and-true, and-false, false≢true}
-use mathlib.Core.List.{List, [], _∷_}
+use mathlib.Core.List.{List, [], _∷_, _++_}
 use Prim.Native.Nat.{ℕ, zero, suc, _+_, _*_, _-_, _≤_, _<_}
 use native.Mathlib.Numerals.{add-one}
 use native.Mathlib.Decide.{ℕ-discrete}
 use native.Mathlib.Omega.{arith}
-use lib.Dec.{eqb, leb}
+use lib.Dec.{eqb, leb, ltb}
 use lib.ListN.{length, getD, take, drop, List·getD-eq-default}
 use lib.Seq.{getD-drop, drop-drop, drop-cons}
-use borrow.Author.Tests.{le-leb, lt-leb, lt-ltb, le-ltb, eq-eqb, ne-eqb, leb-true, leb-false, ltb-true, eqb-true, eqb-false}
+use borrow.Author.Tests.{le-leb, lt-leb, lt-ltb, le-ltb, eq-eqb, ne-eqb, leb-true, leb-false, ltb-true, ltb-false, eqb-true, eqb-false}
 use Rattle.semantics.specs.Area.{Kind, factKind, ruleKind, queryKind, noKind, kind, spanAs, span, lineAs, lineAt, every, allUnder, fieldTests, lineTests, linesOk, headTests, sound, topOf, conditionsOf, countOf, usedOf}
 use Rattle.semantics.specs.Grade.{Op, M, X, L, B, P}
 use Rattle.semantics.proofs.Soundness.{every-true, both-true}
 use Rattle.page.specs.Lines.{stepAt, EntryIn}
+use Rattle.page.specs.Checks.{headOk, ruleTests, ruleOk}
 
 -- r numbers from x on: the first of them, and those behind it
 pub part-cons : (a : List ℕ) (x r : ℕ) → x < length a → 0 < r → take r (drop x a) ≡ getD a x 0 ∷ take (r - 1) (drop (x + 1) a)
@@ -55,16 +56,16 @@ pub under-none : (a : List ℕ) (limit r : ℕ) → r ≡ 0 → allUnder limit (
 unfolding allUnder
 under-none a limit r e = rw e
 
--- the scan of literals: all m lie under the limit exactly when it ends at m
+-- the scan of literals: one that is not under the limit decides, and behind the last all are
 module _ (a : List ℕ) (from m limit : ℕ) {j : ℕ} (s : Remaining (allUnder limit) a from m j) where
   pub under-next : j < m → getD a (from + j) 0 < limit → Remaining (allUnder limit) a from m (j + 1)
   under-next l h = remaining-next (allUnder limit) a from m s l (under-ok a (from + j) limit (omega arith) (m - j) (omega arith) h)
 
-  pub under-break : j < m → limit ≤ getD a (from + j) 0 → eqb j m ≡ allUnder limit (take m (drop from a))
-  under-break l h = ne-eqb j m (λ e. omega arith) ∙ sym (s .is ∙ under-bad a (from + j) limit (omega arith) (m - j) (omega arith) h)
+  pub under-break : j < m → limit ≤ getD a (from + j) 0 → allUnder limit (take m (drop from a)) ≡ false
+  under-break l h = s .is ∙ under-bad a (from + j) limit (omega arith) (m - j) (omega arith) h
 
-  pub under-last : m ≤ j → eqb j m ≡ allUnder limit (take m (drop from a))
-  under-last h = eq-eqb j m (omega arith) ∙ sym (s .is ∙ under-none (drop (from + j) a) limit (m - j) (omega arith))
+  pub under-last : m ≤ j → allUnder limit (take m (drop from a)) ≡ true
+  under-last h = s .is ∙ under-none (drop (from + j) a) limit (m - j) (omega arith)
 
 -- the kinds: 0 a fact, 1 to 5 a rule, 6 a query, no other
 pub rule-kind : (k : ℕ) → 1 ≤ k → k ≤ 5 → (op : Op) × (kind k ≡ ruleKind op)
@@ -119,15 +120,23 @@ every-fails (t ∷ ts) zero e = rw e
 every-fails (t ∷ ts) (suc i) e = rw (every-fails ts i e, and-false t)
 
 -- the fields of a rule: the first four tests, and then its literals
-module _ (top n x y : ℕ) (lits : List ℕ) where
-  abbrev rule-tests : List Bool
-  rule-tests = fieldTests top n (ruleKind M) x y lits
+pub and-assoc : (a b c : Bool) → (a && (b && c)) ≡ ((a && b) && c)
+and-assoc true b c = refl
+and-assoc false b c = refl
 
-  pub rule-fails : (i : ℕ) → getD rule-tests i true ≡ false → every rule-tests ≡ false
-  rule-fails = every-fails rule-tests
+every-last : (ts : List Bool) (b : Bool) → every (ts ++ b ∷ []) ≡ (every ts && b)
+every-last [] b = and-true b
+every-last (t ∷ ts) b = ap (λ (u : Bool). t && u) (every-last ts b) ∙ and-assoc t (every ts) b
 
-  pub literals-decide : {r : Bool} → 1 ≤ x → x ≤ top → 1 ≤ y → y ≤ 8 → r ≡ allUnder (2 * n) lits → r ≡ every rule-tests
-  literals-decide a b c d e = rw (le-leb 1 x a, le-leb x top b, le-leb 1 y c, le-leb y 8 d, and-true (allUnder (2 * n) lits)) e
+module _ (top x y : ℕ) where
+  pub rule-fails : (i : ℕ) → getD (ruleTests top x y) i true ≡ false → every (ruleTests top x y) ≡ false
+  rule-fails = every-fails (ruleTests top x y)
+
+  pub rule-last : 1 ≤ x → x ≤ top → 1 ≤ y → leb y 8 ≡ every (ruleTests top x y)
+  rule-last a b c = rw (le-leb 1 x a, le-leb x top b, le-leb 1 y c, and-true (leb y 8))
+
+  pub rule-split : (n : ℕ) (op : Op) (lits : List ℕ) → every (fieldTests top n (ruleKind op) x y lits) ≡ (every (ruleTests top x y) && allUnder (2 * n) lits)
+  rule-split n op lits = every-last (ruleTests top x y) (allUnder (2 * n) lits)
 
 -- the fields of an entry, by its kind
 module _ (top n k x y : ℕ) (lits : List ℕ) where
@@ -140,11 +149,8 @@ module _ (top n k x y : ℕ) (lits : List ℕ) where
   pub fact-decides : k ≡ 0 → x ≤ y → leb y top ≡ every (fieldTests top n (kind k) x y lits)
   fact-decides e l = sym (fields-fact e ∙ rw (le-leb x y l, and-true (leb y top)))
 
-  pub fields-rule : 1 ≤ k → k ≤ 5 → every (fieldTests top n (kind k) x y lits) ≡ every (fieldTests top n (ruleKind M) x y lits)
-  fields-rule l h = rw (rule-kind k l h .1)
-
-  pub rule-decides : {r : Bool} → 1 ≤ k → k ≤ 5 → r ≡ every (fieldTests top n (ruleKind M) x y lits) → r ≡ every (fieldTests top n (kind k) x y lits)
-  rule-decides l h e = e ∙ sym (fields-rule l h)
+  pub fields-rule : 1 ≤ k → k ≤ 5 → every (fieldTests top n (kind k) x y lits) ≡ (every (ruleTests top x y) && allUnder (2 * n) lits)
+  fields-rule l h = let q = rule-kind k l h in rw (q .1) (rule-split top x y n (q .0) lits)
 
   pub fields-query : k ≡ 6 → every (fieldTests top n (kind k) x y lits) ≡ (leb x 1 && (eqb y 0 && true))
   fields-query e = rw (query-kind k e)
@@ -205,28 +211,39 @@ module _ (top n left : ℕ) (a : List ℕ) (at : ℕ) where
           drop-drop 4 at a,
         )
 
-    pub fields-decide : {r : Bool} → getD a at 0 < n
-        → r ≡ every (fieldTests top n (kind (getD a (at + 1) 0)) (getD a (at + 2) 0) (getD a (at + 3) 0) (take (getD a (at + 3) 0) (drop (at + 4) a))) → r ≡ tests
-    fields-decide h e = e ∙ sym (entry-fields h)
+-- the entry at a place where the numbers end at `used`: its head, a rule whose head is in range, and any other entry
+module _ (top n used : ℕ) (a : List ℕ) (at : ℕ) where
+  abbrev passes : Bool
+  passes = every (lineTests top n (used - at) (drop at a))
 
--- the entry at a place where the numbers end at `used`: a rule whose head is in range, and any other entry
-module _ (top n used : ℕ) (a : List ℕ) (at : ℕ) (o : at + 4 ≤ used) (b : getD a at 0 < n) {r : Bool} where
-  pub rule-entry : 1 ≤ getD a (at + 1) 0 → getD a (at + 1) 0 ≤ 5
-      → r ≡ (leb (at + 4 + getD a (at + 3) 0) used && every (fieldTests top n (ruleKind M) (getD a (at + 2) 0) (getD a (at + 3) 0) (take (getD a (at + 3) 0) (drop (at + 4) a))))
-      → r ≡ every (lineTests top n (used - at) (drop at a))
-  rule-entry l h e = go (leb (at + 4 + getD a (at + 3) 0) used) refl
+  pub head-entry : headOk n used a at ≡ false → false ≡ passes
+  head-entry e = go (leb (at + 4) used) refl
     where
-      z : spanAs (kind (getD a (at + 1) 0)) (getD a (at + 3) 0) ≡ 4 + getD a (at + 3) 0
-      z = span-rule (getD a (at + 1) 0) (getD a (at + 3) 0) l h
+      go : (t : Bool) → leb (at + 4) used ≡ t → false ≡ passes
+      go true t = sym (entry-high top n (used - at) a at (ltb-false (getD a at 0) n (rw t at e)))
+      go false t = sym (entry-short top n (used - at) a at (omega (arith, leb-false (at + 4) used t)))
 
-      go : (t : Bool) → leb (at + 4 + getD a (at + 3) 0) used ≡ t → r ≡ every (lineTests top n (used - at) (drop at a))
-      go true t = fields-decide top n (used - at) a at (omega (arith, leb-true (at + 4 + getD a (at + 3) 0) used t, z)) b (rule-decides top n (getD a (at + 1) 0) (getD a (at + 2) 0) (getD a (at + 3) 0) _ l h (rw t at e))
-      go false t = rw t at e ∙ sym (entry-long top n (used - at) a at (omega (arith, leb-false (at + 4 + getD a (at + 3) 0) used t, z)))
+  pub head-in : headOk n used a at ≡ true → (at + 4 ≤ used) × (getD a at 0 < n)
+  head-in e = let b = both-true (leb (at + 4) used) (ltb (getD a at 0) n) e in (leb-true (at + 4) used (b .0), ltb-true (getD a at 0) n (b .1))
 
-  pub short-entry : (1 ≤ getD a (at + 1) 0 → 6 ≤ getD a (at + 1) 0)
-      → r ≡ every (fieldTests top n (kind (getD a (at + 1) 0)) (getD a (at + 2) 0) (getD a (at + 3) 0) (take (getD a (at + 3) 0) (drop (at + 4) a)))
-      → r ≡ every (lineTests top n (used - at) (drop at a))
-  short-entry f e = fields-decide top n (used - at) a at (omega (arith, span-short (getD a (at + 1) 0) (getD a (at + 3) 0) f)) b e
+  module _ (o : (at + 4 ≤ used) × (getD a at 0 < n)) where
+    pub rule-entry : 1 ≤ getD a (at + 1) 0 → getD a (at + 1) 0 ≤ 5
+        → (ruleOk top used a at (getD a (at + 3) 0) && allUnder (2 * n) (take (getD a (at + 3) 0) (drop (at + 4) a))) ≡ passes
+    rule-entry l h = go (leb (at + 4 + getD a (at + 3) 0) used) refl
+      where
+        z : spanAs (kind (getD a (at + 1) 0)) (getD a (at + 3) 0) ≡ 4 + getD a (at + 3) 0
+        z = span-rule (getD a (at + 1) 0) (getD a (at + 3) 0) l h
+
+        go : (t : Bool) → leb (at + 4 + getD a (at + 3) 0) used ≡ t
+            → ((t && every (ruleTests top (getD a (at + 2) 0) (getD a (at + 3) 0))) && allUnder (2 * n) (take (getD a (at + 3) 0) (drop (at + 4) a))) ≡ passes
+        go true t =
+            sym (entry-fields top n (used - at) a at (omega (arith, leb-true (at + 4 + getD a (at + 3) 0) used t, z)) (o .1) ∙ fields-rule top n (getD a (at + 1) 0) (getD a (at + 2) 0) (getD a (at + 3) 0) _ l h)
+        go false t = sym (entry-long top n (used - at) a at (omega (arith, leb-false (at + 4 + getD a (at + 3) 0) used t, z)))
+
+    pub short-entry : {r : Bool} → (1 ≤ getD a (at + 1) 0 → 6 ≤ getD a (at + 1) 0)
+        → r ≡ every (fieldTests top n (kind (getD a (at + 1) 0)) (getD a (at + 2) 0) (getD a (at + 3) 0) (take (getD a (at + 3) 0) (drop (at + 4) a)))
+        → r ≡ passes
+    short-entry f e = e ∙ sym (entry-fields top n (used - at) a at (omega (arith, span-short (getD a (at + 1) 0) (getD a (at + 3) 0) f)) (o .1))
 
 -- an entry that passes its tests lies in the area, and its condition is below C
 pub entry-fits : (top n left : ℕ) (a : List ℕ) (at : ℕ) → every (lineTests top n left (drop at a)) ≡ true → spanAs (kind (getD a (at + 1) 0)) (getD a (at + 3) 0) ≤ left

@@ -1,20 +1,19 @@
--- What the check of one entry answers: whether it passes its tests, and the place behind it if it does. Assumes nothing.
-use mathlib.Core.Path.{_≡_}
-use mathlib.Core.Bool.{Bool, true, _&&_}
-use mathlib.Core.List.{List}
-use Prim.Native.Nat.{ℕ, _+_, _-_}
-use lib.Dec.{leb}
-use lib.ListN.{getD, take, drop}
-use Rattle.semantics.specs.Area.{ruleKind, every, fieldTests, lineTests}
-use Rattle.semantics.specs.Grade.{M}
-use Rattle.page.specs.Lines.{stepAt}
+-- The tests of one entry of a page area in the order of the code: its first numbers, and those of a rule but for its literals. Assumes nothing.
+use mathlib.Core.Bool.{Bool, _&&_}
+use mathlib.Core.List.{List, [], _∷_}
+use Prim.Native.Nat.{ℕ, _+_}
+use lib.Dec.{ltb, leb}
+use lib.ListN.{getD}
+use Rattle.semantics.specs.Area.{every}
 
--- the entry at a place, of the numbers up to `used`
-pub record Passes (top n : ℕ) (a : List ℕ) (at used : ℕ) (passes : Bool) (to : ℕ) : Type 0 where
-  pub is : passes ≡ every (lineTests top n (used - at) (drop at a))
-  pub behind : passes ≡ true → to ≡ at + stepAt a at
+-- the four numbers of the entry at a place end at `used` or before, and its condition is below C, which is n
+abbrev pub headOk : ℕ → ℕ → List ℕ → ℕ → Bool
+headOk n used a at = leb (at + 4) used && ltb (getD a at 0) n
 
--- the same of an entry that is a rule with y literals and its head in range
-pub record RulePasses (top n : ℕ) (a : List ℕ) (at used y : ℕ) (passes : Bool) (to : ℕ) : Type 0 where
-  pub is : passes ≡ (leb (at + 4 + y) used && every (fieldTests top n (ruleKind M) (getD a (at + 2) 0) y (take y (drop (at + 4) a))))
-  pub behind : passes ≡ true → to ≡ at + 4 + y
+-- the fields of a rule but for its literals: weight x 1 to top, 1 to 8 literals
+abbrev pub ruleTests : ℕ → ℕ → ℕ → List Bool
+ruleTests top x y = leb 1 x ∷ leb x top ∷ leb 1 y ∷ leb y 8 ∷ []
+
+-- the rule at a place, with y literals, ends at `used` or before, with those fields in range
+abbrev pub ruleOk : ℕ → ℕ → List ℕ → ℕ → ℕ → Bool
+ruleOk top used a at y = leb (at + 4 + y) used && every (ruleTests top (getD a (at + 2) 0) y)

@@ -1,14 +1,12 @@
 // Code on raw page areas (document 01, "Areas"): a cursor over the lines, soundness, and which condition an R line names.
 ghost use mathlib.Core.Path.{_≡_};
-ghost use mathlib.Core.Bool.{false};
 ghost use mathlib.Core.List.{List, map};
 ghost use Prim.Native.Nat.{ℕ, _≤_, _<_, _+_, _-_};
 ghost use lib.ListN.{length, take, drop};
-ghost use Rattle.semantics.specs.Grade.{M};
 ghost use Rattle.semantics.specs.Page.{mentions};
-ghost use Rattle.semantics.specs.Area.{sound, linesOk, lineTests, fieldTests, every, allUnder, kind, spanAs, firstLine, ruleKind, literalOf, lineAt};
+ghost use Rattle.semantics.specs.Area.{sound, linesOk, fieldTests, every, kind, spanAs, firstLine, literalOf, lineAt};
 ghost use Rattle.page.specs.Lines.{EntryIn, Next, lineNames};
-ghost use Rattle.page.specs.Checks.{Passes, RulePasses};
+ghost use Rattle.page.specs.Checks.{ruleTests, headOk, ruleOk};
 
 // How many numbers an entry of the kind k takes, with y as its fourth.
 pub fn span_of(k: u16, y: u16) -> usize
@@ -47,25 +45,9 @@ impl Cursor {
     }
 }
 
-// Whether the m literals from `from` on lie under the limit. The scan leaves at the first that does not.
-fn literals_ok(a: &[u16], from: usize, m: u16, limit: u16) -> bool
-    requires { ⌜ from + m ≤ length (now a) ⌝ }
-    ensures { λ r. ⌜ r ≡ allUnder limit (take m (drop from (now (a .entry)))) ⌝ }
-{
-    let mut j: u16 = 0;
-    'scan: while j < m {
-        if limit <= a[from + j as usize] {
-            break 'scan;
-        }
-        j += 1;
-    }
-    j == m
-}
-
-// Whether the fields of a rule are in range: weight x 1 to top, 1 to 8 literals, each of a condition below C, which is n.
-fn rule_ok(a: &[u16], from: usize, x: u16, y: u16, top: u16, n: u16) -> bool
-    requires { ⌜ (from + y ≤ length (now a)) × (n ≤ 512) ⌝ }
-    ensures { λ r. ⌜ r ≡ every (fieldTests top n (ruleKind M) x y (take y (drop from (now (a .entry))))) ⌝ }
+// Whether the numbers of a rule are in range, its literals apart: weight x 1 to top, 1 to 8 literals.
+fn rule_ok(x: u16, y: u16, top: u16) -> bool
+    ensures { λ r. ⌜ r ≡ every (ruleTests top x y) ⌝ }
 {
     if x < 1 {
         return false;
@@ -76,10 +58,7 @@ fn rule_ok(a: &[u16], from: usize, x: u16, y: u16, top: u16, n: u16) -> bool
     if y < 1 {
         return false;
     }
-    if 8 < y {
-        return false;
-    }
-    literals_ok(a, from, y, 2 * n)
+    y <= 8
 }
 
 // Whether the fields of an entry without literals are in range: 0 is a fact, 6 a query, and no other is a kind.
@@ -104,73 +83,70 @@ fn short_ok(k: u16, x: u16, y: u16, top: u16) -> bool
     }
 }
 
-// Whether an entry passes its tests, and the place behind it if it does.
-struct Passed {
-    passes: bool,
-    to: usize,
-}
-
-fn fails() -> Passed
-    ensures { λ r. ⌜ r .passes ≡ false ⌝ }
-{
-    Passed {
-        passes: false,
-        to: 0,
-    }
-}
-
-// Whether the rule at `at` with y literals ends at `used` or before, with every field after its kind in range.
-fn rule_passes(a: &[u16], at: usize, used: usize, y: u16, top: u16, n: u16) -> Passed
-    requires { ⌜ (at + 4 ≤ used) × (used ≤ length (now a)) × (n ≤ 512) ⌝ }
-    ensures { λ r. ⌜ RulePasses top n (now (a .entry)) at used y (r .passes) (r .to) ⌝ }
-{
-    let to = at + 4 + y as usize;
-    if used < to {
-        return fails();
-    }
-    Passed {
-        passes: rule_ok(a, at + 4, a[at + 2], y, top, n),
-        to,
-    }
-}
-
-// Whether the entry at `at` ends at `used` or before, with every field in range: 1 to 5 is a rule.
-fn entry_passes(a: &[u16], at: usize, used: usize, top: u16, n: u16) -> Passed
-    requires { ⌜ (at ≤ used) × (used ≤ length (now a)) × (n ≤ 512) ⌝ }
-    ensures { λ r. ⌜ Passes top n (now (a .entry)) at used (r .passes) (r .to) ⌝ }
+// Whether the first four numbers of the entry at `at` end at `used` or before, and its condition is below C, which is n.
+fn head_passes(a: &[u16], at: usize, used: usize, n: u16) -> bool
+    requires { ⌜ (at ≤ used) × (used ≤ length (now a)) ⌝ }
+    ensures { λ r. ⌜ r ≡ headOk n used (now (a .entry)) at ⌝ }
 {
     if used < at + 4 {
-        return fails();
+        return false;
     }
-    if n <= a[at] {
-        return fails();
-    }
-    let k = a[at + 1];
-    let y = a[at + 3];
-    match k {
-        1..=5 => rule_passes(a, at, used, y, top, n),
-        _ => Passed {
-            passes: short_ok(k, a[at + 2], y, top),
-            to: at + 4,
-        },
-    }
+    a[at] < n
 }
 
-// Whether the numbers from where the lines begin up to `used` are exactly `count` entries.
+// Whether the rule at `at` with y literals ends at `used` or before, and its numbers, its literals apart, are in range.
+fn rule_passes(a: &[u16], at: usize, used: usize, y: u16, top: u16) -> bool
+    requires { ⌜ (at + 4 ≤ used) × (used ≤ length (now a)) ⌝ }
+    ensures { λ r. ⌜ r ≡ ruleOk top used (now (a .entry)) at y ⌝ }
+{
+    if used < at + 4 + y as usize {
+        return false;
+    }
+    rule_ok(a[at + 2], y, top)
+}
+
+// Whether the numbers from where the lines begin up to `used` are exactly `count` entries. What is not in range ends the scan of the lines,
+// a literal too: from inside the scan of literals, by the label.
 fn lines_ok(a: &[u16], used: usize, count: u16, top: u16, n: u16) -> bool
     requires { ⌜ (used ≤ length (now a)) × (firstLine (now a) ≤ used) × (n ≤ 512) ⌝ }
     ensures { λ r. ⌜ r ≡ linesOk top n count (used - firstLine (now (a .entry))) (drop (firstLine (now (a .entry))) (now (a .entry))) ⌝ }
 {
     let mut line = Cursor::first(a);
-    while line.passed < count {
-        let entry = entry_passes(a, line.at, used, top, n);
-        if !entry.passes {
-            return false;
+    'lines: while line.passed < count {
+        let at = line.at;
+        if !head_passes(a, at, used, n) {
+            break 'lines;
         }
+        let k = a[at + 1];
+        let y = a[at + 3];
+        let to = match k {
+            1..=5 => {
+                if !rule_passes(a, at, used, y, top) {
+                    break 'lines;
+                }
+                let mut j: u16 = 0;
+                while j < y {
+                    if 2 * n <= a[at + 4 + j as usize] {
+                        break 'lines;
+                    }
+                    j += 1;
+                }
+                at + 4 + y as usize
+            }
+            _ => {
+                if !short_ok(k, a[at + 2], y, top) {
+                    break 'lines;
+                }
+                at + 4
+            }
+        };
         line = Cursor {
-            at: entry.to,
+            at: to,
             passed: line.passed + 1,
         };
+    }
+    if line.passed < count {
+        return false;
     }
     line.at == used
 }
@@ -213,9 +189,9 @@ fn literals_name(a: &[u16], from: usize, m: u16, c: u16) -> bool
     ensures { λ r. ⌜ r ≡ mentions (map literalOf (take m (drop from (now (a .entry))))) c ⌝ }
 {
     let mut j: u16 = 0;
-    'scan: while j < m {
+    while j < m {
         if a[from + j as usize] / 2 == c {
-            break 'scan;
+            break;
         }
         j += 1;
     }

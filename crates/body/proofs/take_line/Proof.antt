@@ -7,17 +7,14 @@ use borrow.Author.Needs.{needs}
 use Rattle.body.proofs.take_line.Statement.{statement}
 use Rattle.body.proofs.take_line.Tie as tie
 
-add-if1 : tie.Need-add-if1
-add-if1 c = let e = here-entry (c .before .before .args .a .now) (c .before .before .pre .0) (c .before .before .pre .2) in omega arith
+add-k : tie.Need-add-k
+add-k c = let e = here-entry (c .before .before .args .a .now) (c .before .before .pre .0) (c .before .before .pre .2) in omega arith
 
-mul-if1 : tie.Need-mul-if1
-mul-if1 c = let e = here-entry (c .before .before .args .a .now) (c .before .before .pre .0) (c .before .before .pre .2) in omega arith
+mul-k : tie.Need-mul-k
+mul-k c = let e = here-entry (c .before .before .args .a .now) (c .before .before .pre .0) (c .before .before .pre .2) in omega arith
 
-shared-slice-read-if1 : tie.Need-shared-slice-read-if1
-shared-slice-read-if1 c = let e = here-entry (c .before .before .before .args .a .now) (c .before .before .before .pre .0) (c .before .before .before .pre .2) in omega arith
-
-returns : tie.Need-returns
-returns c = inl (record { not-here = λ o. omega (arith, o .body, c .if1 .taken); found-same = refl; low-same = refl; high-same = refl })
+shared-slice-read-k : tie.Need-shared-slice-read-k
+shared-slice-read-k c = let e = here-entry (c .before .before .before .args .a .now) (c .before .before .before .pre .0) (c .before .before .before .pre .2) in omega arith
 
 line-ends-requires : tie.Need-line-ends-requires
 line-ends-requires c κs = (c .before .before .before .before .pre .0, c .before .before .before .before .pre .1, here-line (c .before .before .before .before .pre .2) refl (omega arith))
@@ -28,8 +25,8 @@ maximum-requires c κs = search needs
 maximum-requires-2 : tie.Need-maximum-requires-2
 maximum-requires-2 c κs = search needs
 
-returns-2 : tie.Need-returns-2
-returns-2 c =
+returns : tie.Need-returns
+returns c =
     inr
     (record {
       here = here-line (c .before .before .before .before .before .before .before .pre .2) refl (omega arith);
@@ -42,7 +39,10 @@ returns-2 c =
       high-most = c .maximum2 .ensures;
     })
 
+returns-2 : tie.Need-returns-2
+returns-2 c = inl (record { not-here = λ o. omega (arith, o .body, c .if1 .left); found-same = refl; low-same = refl; high-same = refl })
+
 pub take-line-spec : {M : Type 1} → statement M
 take-line-spec =
     tie.close
-    (tie.spec add-if1 mul-if1 shared-slice-read-if1 returns line-ends-requires maximum-requires maximum-requires-2 returns-2)
+    (tie.spec add-k mul-k shared-slice-read-k line-ends-requires maximum-requires maximum-requires-2 returns returns-2)

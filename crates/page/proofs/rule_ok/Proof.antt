@@ -1,43 +1,30 @@
--- `rule_ok` answers as a rule's tests do: each `return` is the first that fails, and behind them the literals decide.
+-- `rule_ok` answers as a rule's tests do: each `return` is the first that fails, and behind them the count of literals decides.
 use mathlib.Core.Path.{sym}
 use native.Mathlib.Omega.{arith}
 use borrow.Author.Tests.{lt-leb}
-use Rattle.page.proofs.Scan.{rule-fails, literals-decide}
+use Rattle.page.proofs.Scan.{rule-fails, rule-last}
 use Rattle.page.proofs.rule_ok.Statement.{statement}
 use Rattle.page.proofs.rule_ok.Tie as tie
 
 returns : tie.Need-returns
 returns c =
-    let z = c .before .before .args in
-    sym (rule-fails (z .top) (z .n) (z .x) (z .y) _ 0 (lt-leb 1 (z .x) (omega arith)))
+    let z = c .before .args in
+    sym (rule-fails (z .top) (z .x) (z .y) 0 (lt-leb 1 (z .x) (omega arith)))
 
 returns-2 : tie.Need-returns-2
 returns-2 c =
-    let z = c .before .before .before .args in
-    sym (rule-fails (z .top) (z .n) (z .x) (z .y) _ 1 (lt-leb (z .x) (z .top) (omega arith)))
+    let z = c .before .before .args in
+    sym (rule-fails (z .top) (z .x) (z .y) 1 (lt-leb (z .x) (z .top) (omega arith)))
 
 returns-3 : tie.Need-returns-3
 returns-3 c =
-    let z = c .before .before .before .before .args in
-    sym (rule-fails (z .top) (z .n) (z .x) (z .y) _ 2 (lt-leb 1 (z .y) (omega arith)))
+    let z = c .before .before .before .args in
+    sym (rule-fails (z .top) (z .x) (z .y) 2 (lt-leb 1 (z .y) (omega arith)))
 
 returns-4 : tie.Need-returns-4
 returns-4 c =
-    let z = c .before .before .before .before .before .args in
-    sym (rule-fails (z .top) (z .n) (z .x) (z .y) _ 3 (lt-leb (z .y) 8 (omega arith)))
-
-mul-literals-ok : tie.Need-mul-literals-ok
-mul-literals-ok c = omega arith
-
-literals-ok-requires : tie.Need-literals-ok-requires
-literals-ok-requires c κs = omega arith
-
-returns-5 : tie.Need-returns-5
-returns-5 c =
-    let z = c .before .before .before .before .before .before .args in
-    literals-decide (z .top) (z .n) (z .x) (z .y) _ (omega arith) (omega arith) (omega arith) (omega arith) (c .literals-ok .ensures)
+    let z = c .before .before .before .args in
+    rule-last (z .top) (z .x) (z .y) (omega arith) (omega arith) (omega arith)
 
 pub rule-ok-spec : {M : Type 1} → statement M
-rule-ok-spec =
-    tie.close
-    (tie.spec returns returns-2 returns-3 returns-4 mul-literals-ok literals-ok-requires returns-5)
+rule-ok-spec = tie.close (tie.spec returns returns-2 returns-3 returns-4)

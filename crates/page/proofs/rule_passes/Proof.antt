@@ -1,6 +1,4 @@
--- `rule_passes` answers as a rule's tests do: it ends at `used` or before, and its fields decide.
-use mathlib.Core.Path.{refl, sym, _∙_}
-use mathlib.Core.Bool.{false≢true}
+-- `rule_passes` answers as `ruleOk` does: the rule ends at `used` or before, and its numbers decide.
 use Prim.Native.Nat.{_+_}
 use native.Mathlib.Omega.{arith}
 use borrow.Author.Needs.{needs}
@@ -8,25 +6,17 @@ use borrow.Author.Tests.{le-leb, lt-leb}
 use Rattle.page.proofs.rule_passes.Statement.{statement}
 use Rattle.page.proofs.rule_passes.Tie as tie
 
-add-to : tie.Need-add-to
-add-to c = search needs
+add-if1 : tie.Need-add-if1
+add-if1 c = search needs
 
-add-to-2 : tie.Need-add-to-2
-add-to-2 c = omega (arith, c .before .good)
-
-fails-requires : tie.Need-fails-requires
-fails-requires c κs = search needs
+add-if1-2 : tie.Need-add-if1-2
+add-if1-2 c = search needs
 
 returns : tie.Need-returns
-returns c =
-    let z = c .before .before .before .args in
-    record { is = rw (lt-leb (z .at + 4 + z .y) (z .used) (omega arith)) (c .fails .ensures); behind = λ e. absurd (false≢true (sym (c .fails .ensures) ∙ e)) }
+returns c = let z = c .before .before .args in rw (lt-leb (z .at + 4 + z .y) (z .used) (omega arith))
 
 add-rule-ok : tie.Need-add-rule-ok
 add-rule-ok c = search needs
-
-add-rule-ok-2 : tie.Need-add-rule-ok-2
-add-rule-ok-2 c = search needs
 
 mul-rule-ok : tie.Need-mul-rule-ok
 mul-rule-ok c = search needs
@@ -38,20 +28,16 @@ rule-ok-requires : tie.Need-rule-ok-requires
 rule-ok-requires c κs = search needs
 
 returns-2 : tie.Need-returns-2
-returns-2 c =
-    let z = c .before .before .before .before .args in
-    record { is = rw (le-leb (z .at + 4 + z .y) (z .used) (omega arith)) (c .rule-ok .ensures); behind = λ e. refl }
+returns-2 c = let z = c .before .before .before .before .args in rw (le-leb (z .at + 4 + z .y) (z .used) (omega arith)) (c .rule-ok .ensures)
 
 pub rule-passes-spec : {M : Type 1} → statement M
 rule-passes-spec =
     tie.close
     (tie.spec
-    add-to
-    add-to-2
-    fails-requires
+    add-if1
+    add-if1-2
     returns
     add-rule-ok
-    add-rule-ok-2
     mul-rule-ok
     shared-slice-read-rule-ok
     rule-ok-requires

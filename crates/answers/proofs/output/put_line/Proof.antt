@@ -14,20 +14,14 @@ use Rattle.answers.proofs.output.put_line.Tie as tie
 low : (z : tie.Start) → getD (z .args .page .now) (z .args .line) 0 < conditionsOf (z .args .page .now)
 low z = let a = z .args .page .now in let at = z .args .line in entry-head (topOf a) (conditionsOf a) (usedOf a - at) a at (z .pre .2)
 
-add-if1 : tie.Need-add-if1
-add-if1 c = search needs
+add-k : tie.Need-add-k
+add-k c = search needs
 
-mul-if1 : tie.Need-mul-if1
-mul-if1 c = search needs
+mul-k : tie.Need-mul-k
+mul-k c = search needs
 
-shared-slice-read-if1 : tie.Need-shared-slice-read-if1
-shared-slice-read-if1 c = search needs
-
-returns : tie.Need-returns
-returns c =
-    let z = c .before .before .before .before .before in
-    let a = z .args .page .now in
-    puts-none (pageOf a) _ (no-query a (z .args .line) (z .pre .2) (c .if1 .taken)) (z .args .out .now) (z .args .done .at) (z .args .done .count) (omega (arith, z .pre .3))
+shared-slice-read-k : tie.Need-shared-slice-read-k
+shared-slice-read-k c = search needs
 
 add-reading : tie.Need-add-reading
 add-reading c = search needs
@@ -54,8 +48,8 @@ put-answer-requires c κs =
     let k = reads-small a (z .pre .0) (readingOf (getD a (z .args .line + 2) 0)) (c .before .before .before .answer .ensures) (low z) in
     (z .pre .3, k .0, k .1, k .2)
 
-add-t13 : tie.Need-add-t13
-add-t13 c = search needs
+add-t19 : tie.Need-add-t19
+add-t19 c = search needs
 
 same-length : tie.Need-same-length
 same-length c = search needs
@@ -63,21 +57,26 @@ same-length c = search needs
 same-length-2 : tie.Need-same-length-2
 same-length-2 c = search needs
 
-returns-2 : tie.Need-returns-2
-returns-2 c =
+returns : tie.Need-returns
+returns c =
     let z = c .before .before .before .before .before .before .before .before .before .before .before .before .before .before .before .before in
     let a = z .args .page .now in
     let h = c .before .before .before .before .before .before .before .answer .ensures in
-    puts-one (pageOf a) _ _ _ (a-query a (z .args .line) (c .before .before .before .before .before .before .before .before .before .before .before .if1 .left)) h (reads-small a (z .pre .0) (readingOf (getD a (z .args .line + 2) 0)) h (low z)) (c .before .before .before .put-answer .ensures)
+    puts-one (pageOf a) _ _ _ (a-query a (z .args .line) (c .before .before .before .before .before .before .before .before .before .before .before .match .keys1)) h (reads-small a (z .pre .0) (readingOf (getD a (z .args .line + 2) 0)) h (low z)) (c .before .before .before .put-answer .ensures)
+
+returns-2 : tie.Need-returns-2
+returns-2 c =
+    let z = c .before .before .before .before .before in
+    let a = z .args .page .now in
+    puts-none (pageOf a) _ (no-query a (z .args .line) (z .pre .2) (c .match .rest .1)) (z .args .out .now) (z .args .done .at) (z .args .done .count) (omega (arith, z .pre .3))
 
 pub put-line-spec : {M : Type 1} → statement M
 put-line-spec =
     tie.close
     (tie.spec
-    add-if1
-    mul-if1
-    shared-slice-read-if1
-    returns
+    add-k
+    mul-k
+    shared-slice-read-k
     add-reading
     mul-reading
     shared-slice-read-reading
@@ -85,7 +84,8 @@ put-line-spec =
     shared-slice-read-c
     answer-requires
     put-answer-requires
-    add-t13
+    add-t19
     same-length
     same-length-2
+    returns
     returns-2)
