@@ -22,9 +22,9 @@ use Rattle.value.specs.LineEnds.{LineEnd}
 use Rattle.body.specs.FirstLine.{FirstLine}
 use Rattle.body.proofs.Gathering.{place-first, place-next}
 
-module _ (a values : List ℕ) (low : ℕ) where
+module _ (a : List ℕ) (low : ℕ) where
   -- whether the line at a place has this low end: an F or R line by its value, any other never
-  pub low-of-line : {at x : ℕ} → LineEnd lower a values at x → (I : Assign) → EndTable lower (topOf a) (conditionsOf a) I values
+  pub low-of-line : {values : List ℕ} {at x : ℕ} → LineEnd lower a values at x → (I : Assign) → EndTable lower (topOf a) (conditionsOf a) I values
       → eqb x low ≡ hasLow low (lineBody (topOf a) I (getD a at 0) (lineAt (drop at a)))
   low-of-line v I t = let w = v .is I t in sym (ap (hasLow low) (w .1) ∙ ap (λ (y : ℕ). eqb y low) (sym (w .2)))
 
@@ -71,7 +71,7 @@ module _ (a values : List ℕ) (c low : ℕ) where
     onward-by : (I : Assign) → EndTable lower (topOf a) (conditionsOf a) I values → {t : Bool} → t ≡ hasLow low (lineBody (topOf a) I c (lineAt (drop at a)))
         → firstWith (topOf a) I c low 2 (pageOf a .lines) ≡ cond t (k + 2) (firstWith (topOf a) I c low (suc (k + 2)) (linesLeft a (placeOf a (suc k)) (suc k)))
     unfolding firstWith
-    onward-by I t {b} e =
+    onward-by I t e =
         s .onward I t
         ∙ ap (firstWith (topOf a) I c low (k + 2)) (lines-from a ok k l)
         ∙ ap (λ (x : Bool). cond x (k + 2) (firstWith (topOf a) I c low (suc (k + 2)) (linesLeft a (placeOf a (suc k)) (suc k))))
