@@ -1,50 +1,55 @@
+-- `step::line_told` meets its contract. Assumes nothing.
+use mathlib.Core.Path.{sym, subst}
+use mathlib.Core.List.{List}
+use Prim.Native.Nat.{ℕ}
+use native.Mathlib.Omega.{arith}
+use Rattle.semantics.specs.Area.{topOf, conditionsOf}
+use Rattle.page.proofs.Head.{head-of}
+use Rattle.ends.specs.Mirror.{Mirrored}
+use Rattle.worklist.proofs.Evaluation.{long-of}
+use Rattle.step.proofs.Telling.{restored-grades, told-before}
 use borrow.Author.Needs.{needs}
 use Rattle.step.proofs.line_told.Statement.{statement}
 use Rattle.step.proofs.line_told.Tie as tie
-use Rattle.step.proofs.line_told.Reads as reads
-use Rattle.step.proofs.line_told.Lts as lts
-use Rattle.body.proofs.first_line.Reads as first-line-reads
-use Rattle.ends.proofs.store.Reads as store-reads
 
--- src/lib.rt:86:15
 shared-slice-read-top : tie.Need-shared-slice-read-top
-shared-slice-read-top c = ?
+shared-slice-read-top c = omega (arith, head-of (c .before .before .before .before .args .a .now) (c .before .before .before .before .pre .0))
 
--- src/lib.rt:87:40
 sub-store : tie.Need-sub-store
 sub-store c = search needs
 
--- src/lib.rt:87:5
 store-requires : tie.Need-store-requires
-store-requires c κs = ?
+store-requires c κs =
+    let z = c .before .before .before .before .before .before in
+    let h = head-of (z .args .a .now) (z .pre .0) in
+    (omega (arith, z .pre .2, z .pre .4), omega (arith, z .pre .5, h .top-most), omega (arith, h .top-most))
 
--- src/lib.rt:88:44
 cast-first-line : tie.Need-cast-first-line
 cast-first-line c = search needs
 
--- src/lib.rt:88:40
 mul-first-line : tie.Need-mul-first-line
 mul-first-line c = search needs
 
--- src/lib.rt:88:36
 mul-first-line-2 : tie.Need-mul-first-line-2
 mul-first-line-2 c = search needs
 
--- src/lib.rt:88:36
 shared-slice-read-first-line : tie.Need-shared-slice-read-first-line
-shared-slice-read-first-line c = ?
+shared-slice-read-first-line c = omega (arith, long-of (c .before .before .before .before .before .before .before .before .before .before .before .args .a .now) (c .before .before .before .before .before .before .before .before .before .before .before .args .run .now) (c .before .before .before .before .before .before .before .before .before .before .before .pre .1), c .before .before .before .before .before .before .before .before .before .before .before .pre .4)
 
--- src/lib.rt:88:5
 first-line-requires : tie.Need-first-line-requires
-first-line-requires c κs = ?
+first-line-requires c κs =
+    let z = c .before .before .before .before .before .before .before .before .before .before .before in
+    (z .pre .0, subst (λ (v : List ℕ). Mirrored (topOf (z .args .a .now)) (conditionsOf (z .args .a .now)) v) (sym (c .before .before .before .before .store .ensures))
+    (restored-grades (z .args .a .now) (z .args .run .now) (z .args .values .now) (z .args .before .condition) (z .args .before .low) (z .args .before .high) (z .pre .4) (z .pre .2) (z .pre .3) (z .pre .0) (z .pre .1) (z .pre .5) (z .pre .6)))
 
--- src/lib.rt:81:1
 same-length : tie.Need-same-length
 same-length c = search needs
 
--- src/lib.rt:81:1
 returns : tie.Need-returns
-returns c = ?
+returns c =
+    let z = c .before .before .before .before .before .before .before .before .before .before .before .before in
+    told-before (z .args .a .now) (z .args .run .now) (z .args .values .now) (z .args .before .condition) (z .args .before .low) (z .args .before .high) (z .pre .4) (z .pre .2) (z .pre .3)
+    (rw (c .before .before .before .before .before .store .ensures) at (c .first-line .ensures))
 
 pub line-told-spec : {M : Type 1} → statement M
 line-told-spec =
