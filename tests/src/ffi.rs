@@ -14,11 +14,12 @@ pub enum Call {
     Drive,
     DriveIndexed,
     Value,
+    Line,
     Closed,
     ClosedIndexed,
 }
 
-pub const CALLS: [Call; 9] = [
+pub const CALLS: [Call; 10] = [
     Call::Read,
     Call::ShowLine,
     Call::Open,
@@ -26,6 +27,7 @@ pub const CALLS: [Call; 9] = [
     Call::Drive,
     Call::DriveIndexed,
     Call::Value,
+    Call::Line,
     Call::Closed,
     Call::ClosedIndexed,
 ];
@@ -40,6 +42,7 @@ impl Call {
             Call::Drive => "drive",
             Call::DriveIndexed => "drive_indexed",
             Call::Value => "value",
+            Call::Line => "line",
             Call::Closed => "closed",
             Call::ClosedIndexed => "closed_indexed",
         }
@@ -58,6 +61,7 @@ impl Call {
             Call::Drive => simjorad_drive as *const (),
             Call::DriveIndexed => simjorad_drive_indexed as *const (),
             Call::Value => simjorad_value as *const (),
+            Call::Line => simjorad_line as *const (),
             Call::Closed => simjorad_closed as *const (),
             Call::ClosedIndexed => simjorad_closed_indexed as *const (),
         }
@@ -113,6 +117,7 @@ extern "C" {
         run_length: usize,
         allowance: u32,
         taken: *mut u32,
+        line: *mut u32,
     ) -> i32;
 
     pub fn simjorad_drive_indexed(
@@ -124,6 +129,7 @@ extern "C" {
         workspace_length: usize,
         allowance: u32,
         taken: *mut u32,
+        line: *mut u32,
     ) -> i32;
 
     pub fn simjorad_value(
@@ -134,6 +140,14 @@ extern "C" {
         condition: u32,
         low: *mut u16,
         high: *mut u16,
+    ) -> i32;
+
+    pub fn simjorad_line(
+        page: *const u16,
+        page_length: usize,
+        run: *const u16,
+        run_length: usize,
+        condition: u32,
     ) -> i32;
 
     pub fn simjorad_closed(

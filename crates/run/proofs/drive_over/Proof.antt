@@ -38,11 +38,23 @@ slice-aggregate-drive-steps-2 c = search needs
 drive-steps-requires : tie.Need-drive-steps-requires
 drive-steps-requires c κs = (c .before .before .before .before .before .before .before .before .before .before .before .before .before .before .before .before .before .before .pre .0, c .before .before .before .before .before .before .before .before .before .before .before .before .before .before .before .before .before .before .pre .1, c .before .before .before .before .before .before .before .before .before .before .before .before .before .before .before .before .before .before .pre .2, c .before .before .before .before .before .before .before .before .before .before .before .before .before .before .before .before .before .before .pre .3, record { size = c .before .before .before .before .fill-words .ensures .size; long = omega (arith, head-of (c .before .before .before .before .before .before .before .before .before .before .before .before .before .before .before .before .before .before .args .a .now) (c .before .before .before .before .before .before .before .before .before .before .before .before .before .before .before .before .before .before .pre .0), c .before .before .before .before .before .before .before .before .before .fill .kept .1 .1 .1 .0); table = c .before .before .before .before .before .before .before .before .before .fill .ensures }, c .before .before .before .before .fill-words .ensures)
 
+slice-aggregate-last-line : tie.Need-slice-aggregate-last-line
+slice-aggregate-last-line c = search needs
+
+last-line-requires : tie.Need-last-line-requires
+last-line-requires c κs = c .before .before .before .before .before .before .drive-steps .ensures .ready
+
 same-length : tie.Need-same-length
 same-length c = search needs
 
 returns : tie.Need-returns
-returns c = search needs
+returns c = rw (c .if1 .taken) at (c .before .before .before .before .before .before .before .before .before .drive-steps .ensures .answers (c .before .before .last-line .result) (c .before .before .last-line .ensures))
+
+same-length-2 : tie.Need-same-length-2
+same-length-2 c = search needs
+
+returns-2 : tie.Need-returns-2
+returns-2 c = rw (c .if1 .left) at (c .before .before .before .before .before .before .before .before .before .drive-steps .ensures .answers (c .before .before .last-line .result) (c .before .before .last-line .ensures))
 
 pub drive-over-spec : {M : Type 1} → statement M
 drive-over-spec =
@@ -58,5 +70,9 @@ drive-over-spec =
     slice-aggregate-drive-steps
     slice-aggregate-drive-steps-2
     drive-steps-requires
+    slice-aggregate-last-line
+    last-line-requires
     same-length
-    returns)
+    returns
+    same-length-2
+    returns-2)

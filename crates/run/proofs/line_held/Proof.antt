@@ -1,75 +1,81 @@
+-- `run::line_held` meets its contract. Assumes nothing.
+use mathlib.Core.Path.{_≡_, sym, _∙_}
+use mathlib.Core.Bool.{true}
+use native.Mathlib.Omega.{arith}
+use borrow.Author.Tests.{not-true, not-false}
+use Rattle.semantics.specs.Area.{sound, pageOf}
+use Rattle.semantics.specs.Call.{lineHeld}
+use Rattle.semantics.specs.RunArea.{runSound}
+use Rattle.worklist.proofs.Evaluation.{long-of}
+use Rattle.page.proofs.Head.{head-of}
+use Rattle.run.proofs.Answering.{refused-10, refused-14, line-15, line-17, line-answers}
 use borrow.Author.Needs.{needs}
 use Rattle.run.proofs.line_held.Statement.{statement}
 use Rattle.run.proofs.line_held.Tie as tie
-use Rattle.run.proofs.line_held.Reads as reads
-use Rattle.run.proofs.line_held.Lts as lts
-use Rattle.page.proofs.page_sound.Reads as page-sound-reads
-use Rattle.run.proofs.line_now.Reads as line-now-reads
-use Rattle.worklist.proofs.run_sound.Reads as run-sound-reads
 
--- src/lib.rt:124:9
+page-ok : (c : tie.Else1) → sound (c .before .before .before .before .args .page .now) ≡ true
+page-ok c = sym (c .before .page-sound .ensures) ∙ not-false (c .before .page-sound .result) (c .if1 .left)
+
+run-ok : (c : tie.Else2) → runSound (pageOf (c .before .before .before .before .before .before .args .page .now)) (c .before .before .before .before .before .before .args .run .now) ≡ true
+run-ok c = sym (c .before .run-sound .ensures) ∙ not-false (c .before .run-sound .result) (c .if2 .left)
+
 page-sound-requires : tie.Need-page-sound-requires
 page-sound-requires c κs = search needs
 
--- src/lib.rt:125:9
 returns : tie.Need-returns
-returns c = ?
+returns c =
+    let z = c .before .before .before .before .args in
+    refused-10 (z .page .now) (z .run .now) (sym (c .before .page-sound .ensures) ∙ not-true (c .before .page-sound .result) (c .if1 .taken)) (lineHeld (z .condition)) .answer-is
 
--- src/lib.rt:127:9
 run-sound-requires : tie.Need-run-sound-requires
-run-sound-requires c κs = ?
+run-sound-requires c κs = page-ok c
 
--- src/lib.rt:128:9
 returns-2 : tie.Need-returns-2
-returns-2 c = ?
+returns-2 c =
+    let z = c .before .before .before .before .before .before .args in
+    refused-14 (z .page .now) (z .run .now) (page-ok (c .before .before)) (sym (c .before .run-sound .ensures) ∙ not-true (c .before .run-sound .result) (c .if2 .taken)) (lineHeld (z .condition)) .answer-is
 
--- src/lib.rt:130:13
 shared-slice-read-n : tie.Need-shared-slice-read-n
-shared-slice-read-n c = ?
+shared-slice-read-n c = omega (arith, head-of (c .before .before .before .before .before .before .before .args .page .now) (page-ok (c .before .before .before)))
 
--- src/lib.rt:131:8
 cast-if3 : tie.Need-cast-if3
-cast-if3 c = ?
+cast-if3 c = omega (arith, head-of (c .before .before .before .before .before .before .before .args .page .now) (page-ok (c .before .before .before)))
 
--- src/lib.rt:132:9
 returns-3 : tie.Need-returns-3
-returns-3 c = ?
+returns-3 c =
+    let z = c .before .before .before .before .before .before .before .before .args in
+    line-15 (z .page .now) (z .run .now) (page-ok (c .before .before .before .before)) (run-ok (c .before .before)) (z .condition) (c .if3 .taken)
 
--- src/lib.rt:134:13
 cast-c : tie.Need-cast-c
-cast-c c = ?
+cast-c c = omega (arith, head-of (c .before .before .before .before .before .before .before .before .args .page .now) (page-ok (c .before .before .before .before)))
 
--- src/lib.rt:135:16
 cast-if4 : tie.Need-cast-if4
 cast-if4 c = search needs
 
--- src/lib.rt:135:12
 mul-if4 : tie.Need-mul-if4
 mul-if4 c = search needs
 
--- src/lib.rt:135:12
 add-if4 : tie.Need-add-if4
 add-if4 c = search needs
 
--- src/lib.rt:135:8
 mul-if4-2 : tie.Need-mul-if4-2
 mul-if4-2 c = search needs
 
--- src/lib.rt:135:8
 shared-slice-read-if4 : tie.Need-shared-slice-read-if4
-shared-slice-read-if4 c = ?
+shared-slice-read-if4 c = omega (arith, long-of (c .before .before .before .before .before .before .before .before .before .args .page .now) (c .before .before .before .before .before .before .before .before .before .args .run .now) (run-ok (c .before .before .before)))
 
--- src/lib.rt:136:9
 returns-4 : tie.Need-returns-4
-returns-4 c = ?
+returns-4 c =
+    let z = c .before .before .before .before .before .before .before .before .before .before .args in
+    line-17 (z .page .now) (z .run .now) (page-ok (c .before .before .before .before .before .before)) (run-ok (c .before .before .before .before)) (z .condition) (omega arith) (omega arith)
 
--- src/lib.rt:138:22
 line-now-requires : tie.Need-line-now-requires
-line-now-requires c κs = ?
+line-now-requires c κs = (page-ok (c .before .before .before .before .before .before), run-ok (c .before .before .before .before), omega arith)
 
--- src/lib.rt:121:1
 returns-5 : tie.Need-returns-5
-returns-5 c = ?
+returns-5 c =
+    let z = c .before .before .before .before .before .before .before .before .before .before .before .args in
+    line-answers (z .page .now) (z .run .now) (page-ok (c .before .before .before .before .before .before .before)) (run-ok (c .before .before .before .before .before)) (z .condition) (omega arith) (omega arith) (c .line-now .ensures)
 
 pub line-held-spec : {M : Type 1} → statement M
 line-held-spec =
