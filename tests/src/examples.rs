@@ -107,10 +107,12 @@ fn refused_calls(_: &mut Trial, _: u64) -> Check {
         ("evaluate", &[10, 14, 15]),
         ("drive", &[10, 14]),
         ("value", &[10, 14, 15, 17]),
+        ("line", &[10, 14, 15, 17]),
     ] {
         for number in numbers {
             for first in 0..3 {
-                if call == "open" && first > 0 {
+                // An opening and a movement without the cup come once.
+                if (call == "open" || call == "line") && first > 0 {
                     continue;
                 }
                 let plan = format!("{call} {first} {number}");

@@ -135,9 +135,9 @@ pub fn first_line(a: &[u16], values: &[u8], c: u16, low: u16) -> u16
     let count = a[2];
     let mut line = page::Cursor::first(a);
     while line.passed < count {
-        let at = line.at;
-        if a[at] == c {
-            if has_low(a, at, values, low) {
+        let here = line.at;
+        if a[here] == c {
+            if has_low(a, here, values, low) {
                 return line.passed + 2;
             }
         }

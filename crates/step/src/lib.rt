@@ -84,6 +84,7 @@ pub fn line_told(a: &[u16], run: &[u16], values: &mut [u8], before: Before) -> u
 {
     let c = before.condition;
     let top = a[0];
+    let low = run[3 * c as usize];
     ends::store(values, c, before.low, top - before.high);
-    body::first_line(a, values, c, run[3 * c as usize])
+    body::first_line(a, values, c, low)
 }

@@ -1,6 +1,6 @@
 -- `capi::simjorad_drive` meets its contract: its numbers are those of the answer. Assumes nothing.
 use mathlib.Core.Path.{ap, _∙_}
-use Rattle.capi.specs.Codes.{answerCode, takenOr}
+use Rattle.capi.specs.Codes.{answerCode, takenOr, lineOr}
 use Rattle.capi.proofs.Signs.{returned}
 use borrow.Author.Needs.{needs}
 use Rattle.capi.proofs.simjorad_drive.Statement.{statement}
@@ -16,7 +16,7 @@ same-length : tie.Need-same-length
 same-length c = search needs
 
 returns : tie.Need-returns
-returns c = let d = c .before .before .before .before .drive .ensures in let k = c .drive-code in (returned (k .result) (k .ok) ∙ k .ensures .0 ∙ ap answerCode (d .answer-is), (d .run-is, k .ensures .1 ∙ ap (takenOr _) (d .answer-is)))
+returns c = let d = c .before .before .before .before .before .drive .ensures in let k = c .drive-code in (returned (k .result) (k .ok) ∙ k .ensures .0 ∙ ap answerCode (d .answer-is), (d .run-is, (k .ensures .1 .0 ∙ ap (takenOr _) (d .answer-is), k .ensures .1 .1 ∙ ap (lineOr _) (d .answer-is))))
 
 pub simjorad-drive-spec : {M : Type 1} → statement M
 simjorad-drive-spec = tie.close (tie.spec drive-requires drive-code-requires same-length returns)
