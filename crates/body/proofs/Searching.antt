@@ -1,7 +1,7 @@
 -- The search for the first line of a condition with a low end, in the code's own terms. Assumes nothing.
 use mathlib.Core.Path.{_≡_, refl, sym, _∙_, ap, subst}
-use mathlib.Core.Logic.{⊎-elim}
-use mathlib.Core.Bool.{Bool, true, false, cond}
+use mathlib.Core.Logic.{⊎-elim, inl, inr}
+use mathlib.Core.Bool.{Bool, true, false, cond, true≢false}
 use mathlib.Core.List.{List, [], _∷_}
 use Prim.Native.Nat.{ℕ, suc, _+_, _≤_, _<_}
 use native.Mathlib.Numerals.{add-one}
@@ -19,12 +19,13 @@ use Rattle.page.proofs.Scanning.{linesLeft, lines-first, lines-none}
 use Rattle.page.proofs.LineNumbers.{lines-from, shape, line-of}
 use Rattle.value.specs.Table.{EndTable}
 use Rattle.value.specs.LineEnds.{LineEnd}
+use Rattle.body.specs.Body.{Taken}
 use Rattle.body.specs.FirstLine.{FirstLine}
-use Rattle.body.proofs.Gathering.{place-first, place-next}
+use Rattle.body.proofs.Gathering.{here-line, place-first, place-next}
 
 module _ (a : List ℕ) (low : ℕ) where
   -- whether the line at a place has this low end: an F or R line by its value, any other never
-  pub low-of-line : {values : List ℕ} {at x : ℕ} → LineEnd lower a values at x → (I : Assign) → EndTable lower (topOf a) (conditionsOf a) I values
+  low-of-line : {values : List ℕ} {at x : ℕ} → LineEnd lower a values at x → (I : Assign) → EndTable lower (topOf a) (conditionsOf a) I values
       → eqb x low ≡ hasLow low (lineBody (topOf a) I (getD a at 0) (lineAt (drop at a)))
   low-of-line v I t = let w = v .is I t in sym (ap (hasLow low) (w .1) ∙ ap (λ (y : ℕ). eqb y low) (sym (w .2)))
 
@@ -41,6 +42,18 @@ module _ (a : List ℕ) (low : ℕ) where
 
     pub low-of-none : (getD a at 0 ≡ c → getD a (at + 1) 0 ≤ 5 → ⊥) → false ≡ hasLow low (lineBody (topOf a) I c (lineAt (drop at a)))
     low-of-none n = sym (ap (hasLow low) (adds-nothing n))
+
+  -- by taking the line in alone
+  module _ {values : List ℕ} {at : ℕ} (h : LineIn a at) {found₀ : Bool} {low₀ high₀ : ℕ} (z : (found₀ ≡ false) × (low₀ ≡ 0) × (high₀ ≡ 0)) {found : Bool} {low′ high′ : ℕ} where
+    pub low-taken : Taken a values (getD a at 0) at found₀ low₀ high₀ found low′ high′ → found ≡ true → (I : Assign) → EndTable lower (topOf a) (conditionsOf a) I values
+        → eqb low′ low ≡ hasLow low (lineBody (topOf a) I (getD a at 0) (lineAt (drop at a)))
+    low-taken (inl t) e I s = absurd (true≢false (sym e ∙ t .found-same ∙ z .0))
+    low-taken (inr t) e I s = let q : low′ ≡ t .low-end = omega (arith, t .low-most, z .1) in ap (λ (y : ℕ). eqb y low) q ∙ low-of-line (t .low-is) I s
+
+    pub low-passed : Taken a values (getD a at 0) at found₀ low₀ high₀ found low′ high′ → found ≡ false → (I : Assign)
+        → false ≡ hasLow low (lineBody (topOf a) I (getD a at 0) (lineAt (drop at a)))
+    low-passed (inl t) e I = low-of-none h (getD a at 0) I (λ q b. t .not-here (here-line h q b))
+    low-passed (inr t) e I = absurd (true≢false (sym (t .found) ∙ e))
 
 module _ (a values : List ℕ) (c low : ℕ) where
   -- k lines are passed and none of them is it: the search goes on with the line at `at`

@@ -51,7 +51,7 @@ fn take_line(a: &[u16], at: usize, values: &[u8], best: Best) -> Best
 }
 
 // The lines of c, by a scan of the page.
-fn by_scan(a: &[u16], values: &[u8], c: u16) -> Best
+pub fn by_scan(a: &[u16], values: &[u8], c: u16) -> Best
     requires { ⌜ (sound (now a) ≡ true) × Mirrored (topOf (now a)) (conditionsOf (now a)) (now values) ⌝ }
     ensures { λ r. ⌜ BestOf (now (a .entry)) (now (values .entry)) c (r .found) (r .low) (r .high) ⌝ }
 {
@@ -117,14 +117,11 @@ fn has_low(a: &[u16], at: usize, values: &[u8], low: u16) -> bool
     requires { ⌜ (sound (now a) ≡ true) × Mirrored (topOf (now a)) (conditionsOf (now a)) (now values) × LineIn (now a) at ⌝ }
     ensures { λ r. ⌜ ((I : Assign) → EndTable lower (topOf (now (a .entry))) (conditionsOf (now (a .entry))) I (now (values .entry)) → r ≡ hasLow low (lineBody (topOf (now (a .entry))) I (getD (now (a .entry)) at 0) (lineAt (drop at (now (a .entry)))))) ⌝ }
 {
-    let k = a[at + 1];
-    match k {
-        0..=5 => {
-            let x = ends::line_ends(a, at, values);
-            x.low == low
-        }
-        _ => false,
+    let one = take_line(a, at, values, no_line());
+    if one.found {
+        return one.low == low;
     }
+    false
 }
 
 // The number of the first F or R line of c with this low end, 0 if there is none. Every line of the page counts, and the G line is line 1.
