@@ -520,11 +520,7 @@ impl Engine {
     }
 }
 
-fn driven(
-    code: i32,
-    taken: &Out<u32>,
-    line: &Out<u32>,
-) -> Result<Result<Driven, Refusal>, String> {
+fn driven(code: i32, taken: &Out<u32>, line: &Out<u32>) -> Result<Result<Driven, Refusal>, String> {
     match code {
         0 | 1 => Ok(Ok(Driven {
             taken: taken.set("taken")?,

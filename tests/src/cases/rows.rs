@@ -190,33 +190,31 @@ fn row_07_step_by_step(trial: &mut Trial, _: u64) -> Check {
 
 /// Document 02, ticket 1: the line of an evaluation, and the line of the intervals then held.
 fn held_lines(trial: &mut Trial, _: u64) -> Check {
-    trial.pages += 2;
-    let once = |allowance, line, rest| {
-        Ok(Driven {
-            taken: allowance,
-            line,
-            rest,
-        })
-    };
+    trial.pages += 3;
+    let took = |taken, line, rest| Ok(Driven { taken, line, rest });
     // F,0,5,5 and R,0,10,B,0,0: the fact, and then the rule.
     let twice = [10, 1, 2, 14, 0, 0, 5, 5, 0, 4, 10, 2, 0, 0];
     let mut run = [0, 10, WAITING_MARK];
     figure("before", trial.line(&twice, &run, 0)?, Ok(2))?;
     let driven = trial.drive(&twice, &mut run, 1)?;
-    figure("the evaluation", driven, once(1, 2, false))?;
+    figure("the evaluation", driven, took(1, 2, false))?;
     figure("then held", trial.line(&twice, &run, 0)?, Ok(3))?;
     let driven = trial.drive(&twice, &mut run, 1)?;
-    figure("the next one", driven, once(1, 3, false))?;
+    figure("the next one", driven, took(1, 3, false))?;
     // Q,K,0, F,0,0,4 and Q,K,1: a Q line counts and holds nothing; condition 1 has no line.
     let asked = [10, 2, 3, 16, 0, 6, 0, 0, 0, 0, 0, 4, 1, 6, 0, 0];
     let mut run = [0, 10, WAITING_MARK, 0, 10, WAITING_MARK];
     let driven = trial.drive(&asked, &mut run, 1)?;
-    figure("behind a query", driven, once(1, 3, false))?;
+    figure("behind a query", driven, took(1, 3, false))?;
     let driven = trial.drive(&asked, &mut run, 1)?;
-    figure("without lines", driven, once(1, 0, true))?;
+    figure("without lines", driven, took(1, 0, true))?;
     figure("no line", trial.line(&asked, &run, 1)?, Ok(0))?;
     let driven = trial.drive(&asked, &mut run, 9)?;
-    figure("no evaluation", driven, once(0, 0, true))
+    figure("no evaluation", driven, took(0, 0, true))?;
+    // The last of the four is that of 1, with the low end of its fact and of its rule.
+    let mut run = [0, 10, WAITING_MARK, 0, 10, WAITING_MARK];
+    let driven = trial.drive(&RIVALS, &mut run, 4)?;
+    figure("the first of two", driven, took(4, 3, true))
 }
 
 /// Reads closed with scratch and answers for up to six conditions.
