@@ -52,7 +52,7 @@ static void answer(unsigned reading, uint16_t condition, uint16_t ends[2])
         return;
     }
     OPEN(page, page[3], &condition, 1, run, 3 * page[1], &a, &b, &c);
-    DRIVE(page, page[3], run, 3 * page[1], UINT32_MAX, &a);
+    DRIVE(page, page[3], run, 3 * page[1], UINT32_MAX, &a, &b);
     scan_value(page, page[3], run, 3 * page[1], condition, &ends[0], &ends[1]);
 }
 

@@ -11,16 +11,17 @@ int32_t scan_open(const uint16_t *page, size_t page_length, const uint16_t *quer
                   uint16_t *run, size_t run_length, uint32_t *reached, uint32_t *edges, uint32_t *bound);
 int32_t scan_evaluate(const uint16_t *page, size_t page_length, uint16_t *run, size_t run_length, uint32_t condition);
 int32_t scan_drive(const uint16_t *page, size_t page_length, uint16_t *run, size_t run_length, uint32_t allowance,
-                   uint32_t *taken);
+                   uint32_t *taken, uint32_t *line);
 int32_t scan_value(const uint16_t *page, size_t page_length, const uint16_t *run, size_t run_length, uint32_t condition,
                    uint16_t *low, uint16_t *high);
+int32_t scan_line(const uint16_t *page, size_t page_length, const uint16_t *run, size_t run_length, uint32_t condition);
 int32_t scan_closed(const uint16_t *page, size_t page_length, const uint16_t *queries, size_t queries_length,
                     uint16_t *scratch, size_t scratch_length, uint16_t *answers, size_t answers_length);
 
 int32_t indexed_open(const uint16_t *page, size_t page_length, const uint16_t *queries, size_t queries_length,
                      uint16_t *run, size_t run_length, uint32_t *reached, uint32_t *edges, uint32_t *bound);
 int32_t indexed_drive(const uint16_t *page, size_t page_length, uint16_t *run, size_t run_length, uint32_t allowance,
-                      uint32_t *taken);
+                      uint32_t *taken, uint32_t *line);
 int32_t indexed_closed(const uint16_t *page, size_t page_length, const uint16_t *queries, size_t queries_length,
                        uint16_t *scratch, size_t scratch_length, uint16_t *answers, size_t answers_length);
 

@@ -14,10 +14,10 @@
 #include "impl.h"
 #include "pages.h"
 
-enum { READ, SHOW, SOUND, OPEN, EVALUATE, DRIVE, DRIVE1, VALUE, CLOSED, OPS };
+enum { READ, SHOW, SOUND, OPEN, EVALUATE, DRIVE, DRIVE1, VALUE, LINE, CLOSED, OPS };
 
 static const char *const op_names[OPS] = { "read", "show", "sound", "open", "evaluate", "drive", "drive1", "value",
-                                           "closed" };
+                                           "line", "closed" };
 
 /* Every area is followed by a few numbers that no call may touch. */
 enum { AFTER = 16, FILL = 0xa5a5, OUTS = 5 };
@@ -109,7 +109,8 @@ static void prepare(int op)
     for (i = 0; i < SIMJORAD_WORKSPACE_MAX; i++)
         workspace[i] = FILL;
 #endif
-    if (op == SOUND || op == EVALUATE || op == DRIVE || op == DRIVE1 || op == VALUE)
+    if (op == SOUND || op == EVALUATE || op == DRIVE || op == DRIVE1 || op == VALUE ||
+        op == LINE)
         memcpy(result.area, given.run, result.length * sizeof *result.area);
 }
 
@@ -139,13 +140,17 @@ __attribute__((noinline, noclone)) void measured(const struct impl *impl, int op
         result.code = impl->evaluate(given.page, given.page_length, result.area, result.length, given.condition);
         break;
     case DRIVE:
-        result.code = impl->drive(given.page, given.page_length, result.area, result.length, UINT32_MAX, &out[0]);
+        result.code = impl->drive(given.page, given.page_length, result.area, result.length, UINT32_MAX, &out[0],
+                                  &out[1]);
         break;
     case DRIVE1:
-        result.code = impl->drive(given.page, given.page_length, result.area, result.length, 1, &out[0]);
+        result.code = impl->drive(given.page, given.page_length, result.area, result.length, 1, &out[0], &out[1]);
         break;
     case VALUE:
         result.code = impl->value(given.page, given.page_length, result.area, result.length, given.queries[0], &low, &high);
+        break;
+    case LINE:
+        result.code = impl->line(given.page, given.page_length, result.area, result.length, given.condition);
         break;
     case CLOSED:
         result.code = impl->closed(given.page, given.page_length, given.spread, SIMJORAD_QUERIES_MAX, result.area,

@@ -12,8 +12,9 @@ struct impl {
     int32_t (*open)(const uint16_t *, size_t, const uint16_t *, size_t, uint16_t *, size_t, uint32_t *, uint32_t *,
                     uint32_t *);
     int32_t (*evaluate)(const uint16_t *, size_t, uint16_t *, size_t, uint32_t);
-    int32_t (*drive)(const uint16_t *, size_t, uint16_t *, size_t, uint32_t, uint32_t *);
+    int32_t (*drive)(const uint16_t *, size_t, uint16_t *, size_t, uint32_t, uint32_t *, uint32_t *);
     int32_t (*value)(const uint16_t *, size_t, const uint16_t *, size_t, uint32_t, uint16_t *, uint16_t *);
+    int32_t (*line)(const uint16_t *, size_t, const uint16_t *, size_t, uint32_t);
     int32_t (*closed)(const uint16_t *, size_t, const uint16_t *, size_t, uint16_t *, size_t, uint16_t *, size_t);
 };
 
@@ -22,10 +23,10 @@ struct impl {
 static uint16_t workspace[SIMJORAD_WORKSPACE_MAX];
 
 static int32_t drive_with_workspace(const uint16_t *page, size_t page_length, uint16_t *run, size_t run_length,
-                                    uint32_t allowance, uint32_t *taken)
+                                    uint32_t allowance, uint32_t *taken, uint32_t *line)
 {
     return simjorad_drive_indexed(page, page_length, run, run_length, workspace, SIMJORAD_WORKSPACE_MAX, allowance,
-                                  taken);
+                                  taken, line);
 }
 
 static int32_t closed_with_workspace(const uint16_t *page, size_t page_length, const uint16_t *queries,
@@ -38,13 +39,15 @@ static int32_t closed_with_workspace(const uint16_t *page, size_t page_length, c
 #endif
 
 static const struct impl impls[] = {
-    { "scan", scan_read, scan_show_line, scan_open, scan_evaluate, scan_drive, scan_value, scan_closed },
-    { "indexed", scan_read, scan_show_line, indexed_open, scan_evaluate, indexed_drive, scan_value, indexed_closed },
+    { "scan", scan_read, scan_show_line, scan_open, scan_evaluate, scan_drive, scan_value, scan_line,
+      scan_closed },
+    { "indexed", scan_read, scan_show_line, indexed_open, scan_evaluate, indexed_drive, scan_value, scan_line,
+      indexed_closed },
 #ifdef WITH_ENGINE
     { "engine", simjorad_read, simjorad_show_line, simjorad_open, simjorad_evaluate, simjorad_drive, simjorad_value,
-      simjorad_closed },
+      simjorad_line, simjorad_closed },
     { "engine-indexed", simjorad_read, simjorad_show_line, simjorad_open, simjorad_evaluate, drive_with_workspace,
-      simjorad_value, closed_with_workspace },
+      simjorad_value, simjorad_line, closed_with_workspace },
 #endif
 };
 

@@ -378,6 +378,25 @@ static int step(const uint16_t *page, uint16_t *run, unsigned condition)
     return 1;
 }
 
+/* The first F or R line of a condition with this low end, by its number; 0 if there is none. */
+static uint32_t line_with(const uint16_t *page, const uint16_t *run, unsigned condition, unsigned low)
+{
+    const uint16_t *p, *end = page + page[3];
+    unsigned top = page[0], number = 2, a, b;
+
+    for (p = page + HEAD; p < end; p = next_line(p), number++) {
+        if (p[0] != condition || p[1] == QUERY)
+            continue;
+        if (p[1] == FACT)
+            a = p[2];
+        else
+            rule_ends(p, run, top, &a, &b);
+        if (a == low)
+            return number;
+    }
+    return 0;
+}
+
 int32_t scan_evaluate(const uint16_t *page, size_t page_length, uint16_t *run, size_t run_length, uint32_t condition)
 {
     if (!page_sound(page, page_length))
@@ -392,9 +411,10 @@ int32_t scan_evaluate(const uint16_t *page, size_t page_length, uint16_t *run, s
 }
 
 int32_t scan_drive(const uint16_t *page, size_t page_length, uint16_t *run, size_t run_length, uint32_t allowance,
-                   uint32_t *taken)
+                   uint32_t *taken, uint32_t *line)
 {
-    unsigned count, c;
+    unsigned count, c, last = 0, low;
+    uint16_t before[2] = { 0, 0 }, after[2], *own;  /* what the condition of the last evaluation held */
     uint32_t done = 0;
 
     if (!page_sound(page, page_length))
@@ -407,10 +427,22 @@ int32_t scan_drive(const uint16_t *page, size_t page_length, uint16_t *run, size
             ;
         if (c == count || done == allowance)
             break;
+        last = c;
+        before[0] = run[3 * c];
+        before[1] = run[3 * c + 1];
         step(page, run, c);
         done++;
     }
     *taken = done;
+    *line = 0;
+    if (done > 0) {
+        own = run + 3 * last;
+        after[0] = own[0], after[1] = own[1];
+        low = own[0];
+        own[0] = before[0], own[1] = before[1];
+        *line = line_with(page, run, last, low);
+        own[0] = after[0], own[1] = after[1];
+    }
     return c == count;
 }
 
@@ -433,6 +465,32 @@ int32_t scan_value(const uint16_t *page, size_t page_length, const uint16_t *run
     for (c = 0; c < count && run[3 * c + 2] != 2; c++)
         ;
     return c == count;
+}
+
+int32_t scan_line(const uint16_t *page, size_t page_length, const uint16_t *run, size_t run_length, uint32_t condition)
+{
+    const uint16_t *p, *end;
+    unsigned low = 0, a, b;
+
+    if (!page_sound(page, page_length))
+        return -10;
+    if (!run_sound(run, run_length, page[0], page[1]))
+        return -14;
+    if (condition >= page[1])
+        return -15;
+    if (run[3 * condition + 2] == 0)
+        return -17;
+    end = page + page[3];
+    for (p = page + HEAD; p < end; p = next_line(p)) {
+        if (p[0] != condition || p[1] == QUERY)
+            continue;
+        if (p[1] == FACT)
+            a = p[2];
+        else
+            rule_ends(p, run, page[0], &a, &b);
+        low = a > low ? a : low;
+    }
+    return line_with(page, run, condition, low);
 }
 
 /* ---- The closed reading ---- */

@@ -396,12 +396,41 @@ static int ref_lowest(const uint16_t *page, const uint16_t *run)
     return -1;
 }
 
-static int ref_drive(const uint16_t *page, uint16_t *run, uint32_t allowance, uint32_t *taken)
+/* The first F or R line of a condition whose low end is that of its body value, by its number; 0 if there is none. */
+static uint32_t ref_holder(const uint16_t *page, const uint16_t *run, int condition)
+{
+    static uint16_t one[AREA];
+    struct pair held[512], t;
+    int c, count = page[1], i = 4, k;
+    unsigned line, length;
+
+    for (c = 0; c < count; c++)
+        held[c].low = run[3 * c], held[c].high = run[3 * c + 1];
+    t = body(page, held, condition);
+    for (line = 0; line < page[2]; line++, i += length) {
+        const uint16_t *p = page + i;
+
+        length = p[1] >= 1 && p[1] <= 5 ? 4 + p[3] : 4;
+        if (p[0] != condition || p[1] == 6)
+            continue;
+        one[0] = page[0], one[1] = page[1], one[2] = 1, one[3] = 4 + length;    /* a page of this line alone */
+        for (k = 0; k < (int)length; k++)
+            one[4 + k] = p[k];
+        if (body(one, held, condition).low == t.low)
+            return line + 2;
+    }
+    return 0;
+}
+
+static int ref_drive(const uint16_t *page, uint16_t *run, uint32_t allowance, uint32_t *taken, uint32_t *line)
 {
     int c;
 
-    for (*taken = 0; (c = ref_lowest(page, run)) >= 0 && *taken < allowance; ++*taken)
+    *line = 0;
+    for (*taken = 0; (c = ref_lowest(page, run)) >= 0 && *taken < allowance; ++*taken) {
+        *line = ref_holder(page, run, c);
         ref_step(page, run, c);
+    }
     return c < 0;
 }
 
@@ -439,9 +468,9 @@ static void held(int used, uint32_t condition, int rest, int low, int high)
 
 static void driven(int used, uint32_t allowance, int rest, unsigned count)
 {
-    uint32_t taken = 0;
+    uint32_t taken = 0, line = 0;
 
-    same("drive", at->drive(page, used, run, RUN, allowance, &taken), rest);
+    same("drive", at->drive(page, used, run, RUN, allowance, &taken, &line), rest);
     same("taken", taken, count);
 }
 
@@ -478,7 +507,7 @@ static void attach(const char *text, char *out)
         queries++;
         if (p[2] == 0) {
             at->open(page, used, p, 1, run, RUN, &r, &e, &bound);
-            at->drive(page, used, run, RUN, bound, &taken);
+            at->drive(page, used, run, RUN, bound, &taken, &line);
             same("attach at rest", at->value(page, used, run, RUN, p[0], &low, &high), 1);
             out += sprintf(out, "K,%u,%u,%u\n", p[0], low, high);
         } else {
@@ -711,10 +740,10 @@ static void random_page(void)
     static uint16_t first[RUN], want[RUN], unsound[AREA];
     struct pair plain[512], closed[512];
     uint16_t queries[16], low, high;
-    uint32_t line, r, e, bound, taken, want_taken, allowance;
+    uint32_t line, r, e, bound, taken, want_taken, want_line, allowance;
     unsigned want_r, want_e, used, c, i, n, count, order, state, length = random_text(text);
     int32_t code;
-    int fault, k;
+    int fault, fault_line, k;
 
     order = seed;
     fault = ref_read(text, length, page, SIMJORAD_PAGE_MAX, &line);
@@ -757,10 +786,14 @@ static void random_page(void)
         memcpy(want, first, sizeof want);
         do {
             allowance = draw(3) ? draw(4) : draw(60);
-            taken = want_taken = 0;
-            fault = ref_drive(page, want, allowance, &want_taken);
-            same("drive", at->drive(page, used, run, 3 * count, allowance, &taken), fault);
+            taken = want_taken = line = want_line = 0;
+            fault = ref_drive(page, want, allowance, &want_taken, &want_line);
+            same("drive", at->drive(page, used, run, 3 * count, allowance, &taken, &line), fault);
             same("drive, taken", taken, want_taken);
+            same("drive, line", line, want_line);
+            c = draw(count + 1);
+            fault_line = c == count ? -15 : want[3 * c + 2] == 0 ? -17 : (int)ref_holder(page, want, c);
+            same("line", at->line(page, used, run, 3 * count, c), fault_line);
             same("drive, area", memcmp(run, want, sizeof run), 0);
         } while (!fault);
         for (c = 0; c < count; c++) {
@@ -799,12 +832,14 @@ static void random_page(void)
             run[draw(3 * count)] = draw(page[0] + 3);
         memcpy(want, run, sizeof want);
         allowance = draw(40);
-        taken = want_taken = 0;
-        fault = ref_run_sound(page, run, 3 * count) ? ref_drive(page, want, allowance, &want_taken) : -14;
-        same("drive, any run", at->drive(page, used, run, 3 * count, allowance, &taken), fault);
+        taken = want_taken = line = want_line = 0;
+        fault = ref_run_sound(page, run, 3 * count) ? ref_drive(page, want, allowance, &want_taken, &want_line) : -14;
+        same("drive, any run", at->drive(page, used, run, 3 * count, allowance, &taken, &line), fault);
         same("drive, any run, taken", taken, want_taken);
+        same("drive, any run, line", line, want_line);
         same("drive, any run, area", memcmp(run, want, sizeof run), 0);
-        same("drive, run short", at->drive(page, used, run, 3 * count - 1, allowance, &taken), -14);
+        same("drive, run short", at->drive(page, used, run, 3 * count - 1, allowance, &taken, &line), -14);
+        same("line, run short", at->line(page, used, run, 3 * count - 1, 0), -14);
         same("evaluate, run short", at->evaluate(page, used, run, 3 * count - 1, 0), -14);
 
         /* closed reading */
@@ -843,7 +878,8 @@ static void random_page(void)
         same("open, any page", at->open(unsound, i, NULL, 0, run, 0, &r, &e, &bound), fault);
         same("closed, any page", at->closed(unsound, i, NULL, 0, NULL, 0, NULL, 0), fault);
         fault = fault == -11 ? -14 : -10;
-        same("drive, any page", at->drive(unsound, i, NULL, 0, 1, &taken), fault);
+        same("drive, any page", at->drive(unsound, i, NULL, 0, 1, &taken, &line), fault);
+        same("line, any page", at->line(unsound, i, NULL, 0, 0), fault);
         same("evaluate, any page", at->evaluate(unsound, i, NULL, 0, 0), fault);
         same("value, any page", at->value(unsound, i, NULL, 0, 0, &low, &high), fault);
         state = seed;

@@ -12,7 +12,7 @@
 #include <string.h>
 #include "simjorad.h"
 
-enum { READ, SHOW_LINE, OPEN, EVALUATE, DRIVE, DRIVE_INDEXED, VALUE, CLOSED, CLOSED_INDEXED, FUNCTIONS };
+enum { READ, SHOW_LINE, OPEN, EVALUATE, DRIVE, DRIVE_INDEXED, VALUE, LINE, CLOSED, CLOSED_INDEXED, FUNCTIONS };
 enum { SLICES = 5, OUTS = 3 };
 
 /* What a call is lent and answers. A slice that is not lent has no place here: its size is 0. */
@@ -35,9 +35,10 @@ int32_t engine_read(const uint8_t *, size_t, uint16_t *, size_t, uint32_t *);
 size_t engine_show_line(const uint8_t *, size_t, size_t, size_t *);
 int32_t engine_open(const uint16_t *, size_t, const uint16_t *, size_t, uint16_t *, size_t, uint32_t *, uint32_t *, uint32_t *);
 int32_t engine_evaluate(const uint16_t *, size_t, uint16_t *, size_t, uint32_t);
-int32_t engine_drive(const uint16_t *, size_t, uint16_t *, size_t, uint32_t, uint32_t *);
-int32_t engine_drive_indexed(const uint16_t *, size_t, uint16_t *, size_t, uint16_t *, size_t, uint32_t, uint32_t *);
+int32_t engine_drive(const uint16_t *, size_t, uint16_t *, size_t, uint32_t, uint32_t *, uint32_t *);
+int32_t engine_drive_indexed(const uint16_t *, size_t, uint16_t *, size_t, uint16_t *, size_t, uint32_t, uint32_t *, uint32_t *);
 int32_t engine_value(const uint16_t *, size_t, const uint16_t *, size_t, uint32_t, uint16_t *, uint16_t *);
+int32_t engine_line(const uint16_t *, size_t, const uint16_t *, size_t, uint32_t);
 int32_t engine_closed(const uint16_t *, size_t, const uint16_t *, size_t, uint16_t *, size_t, uint16_t *, size_t);
 int32_t engine_closed_indexed(const uint16_t *, size_t, const uint16_t *, size_t, uint16_t *, size_t, uint16_t *, size_t, uint16_t *,
                               size_t);
@@ -67,16 +68,19 @@ static void make(struct call *c)
         c->answer = (uint32_t)NAME(evaluate)(s[0].at, s[0].length, s[1].at, s[1].length, c->number);
         break;
     case DRIVE:
-        c->answer = (uint32_t)NAME(drive)(s[0].at, s[0].length, s[1].at, s[1].length, c->number, &c->outs[0]);
+        c->answer = (uint32_t)NAME(drive)(s[0].at, s[0].length, s[1].at, s[1].length, c->number, &c->outs[0], &c->outs[1]);
         break;
     case DRIVE_INDEXED:
         c->answer = (uint32_t)NAME(drive_indexed)(s[0].at, s[0].length, s[1].at, s[1].length, s[2].at, s[2].length, c->number,
-                                                  &c->outs[0]);
+                                                  &c->outs[0], &c->outs[1]);
         break;
     case VALUE:
         c->answer = (uint32_t)NAME(value)(s[0].at, s[0].length, s[1].at, s[1].length, c->number, &low, &high);
         c->outs[0] = low;
         c->outs[1] = high;
+        break;
+    case LINE:
+        c->answer = (uint32_t)NAME(line)(s[0].at, s[0].length, s[1].at, s[1].length, c->number);
         break;
     case CLOSED:
         c->answer = (uint32_t)NAME(closed)(s[0].at, s[0].length, s[1].at, s[1].length, s[2].at, s[2].length, s[3].at, s[3].length);
@@ -214,21 +218,24 @@ int32_t simjorad_evaluate(const uint16_t *page, size_t page_length, uint16_t *ru
     return (int32_t)c.answer;
 }
 
-int32_t simjorad_drive(const uint16_t *page, size_t page_length, uint16_t *run, size_t run_length, uint32_t allowance, uint32_t *taken)
+int32_t simjorad_drive(const uint16_t *page, size_t page_length, uint16_t *run, size_t run_length, uint32_t allowance, uint32_t *taken,
+                       uint32_t *line)
 {
-    struct call c = {.function = DRIVE, NUMBERS(0, page), NUMBERS(1, run), .number = allowance, .outs = {*taken}};
+    struct call c = {.function = DRIVE, NUMBERS(0, page), NUMBERS(1, run), .number = allowance, .outs = {*taken, *line}};
     hand_on(&c);
     *taken = c.outs[0];
+    *line = c.outs[1];
     return (int32_t)c.answer;
 }
 
 int32_t simjorad_drive_indexed(const uint16_t *page, size_t page_length, uint16_t *run, size_t run_length, uint16_t *workspace,
-                               size_t workspace_length, uint32_t allowance, uint32_t *taken)
+                               size_t workspace_length, uint32_t allowance, uint32_t *taken, uint32_t *line)
 {
     struct call c = {.function = DRIVE_INDEXED, NUMBERS(0, page), NUMBERS(1, run), NUMBERS(2, workspace), .number = allowance,
-                     .outs = {*taken}};
+                     .outs = {*taken, *line}};
     hand_on(&c);
     *taken = c.outs[0];
+    *line = c.outs[1];
     return (int32_t)c.answer;
 }
 
@@ -239,6 +246,13 @@ int32_t simjorad_value(const uint16_t *page, size_t page_length, const uint16_t 
     hand_on(&c);
     *low = (uint16_t)c.outs[0];
     *high = (uint16_t)c.outs[1];
+    return (int32_t)c.answer;
+}
+
+int32_t simjorad_line(const uint16_t *page, size_t page_length, const uint16_t *run, size_t run_length, uint32_t condition)
+{
+    struct call c = {.function = LINE, NUMBERS(0, page), NUMBERS(1, run), .number = condition};
+    hand_on(&c);
     return (int32_t)c.answer;
 }
 
@@ -262,8 +276,8 @@ int32_t simjorad_closed_indexed(const uint16_t *page, size_t page_length, const 
 
 #else
 
-static const char *const names[FUNCTIONS] = {"read", "show_line", "open", "evaluate", "drive", "drive_indexed", "value", "closed",
-                                             "closed_indexed"};
+static const char *const names[FUNCTIONS] = {"read", "show_line", "open", "evaluate", "drive", "drive_indexed", "value", "line",
+                                             "closed", "closed_indexed"};
 static FILE *file;
 
 static unsigned byte(void)

@@ -82,7 +82,7 @@ static uint32_t allowance(uint32_t used)
 static int32_t work(const char **call)
 {
     static const uint32_t urgent[] = {SENSOR_A, SENSOR_B, PULSATOR};
-    uint32_t used = 0, taken = 0;
+    uint32_t used = 0, taken = 0, line = 0;
 
     *call = "evaluate";
     for (size_t i = 0; i < sizeof urgent / sizeof urgent[0] && allowance(used) > 0; i++) {
@@ -95,16 +95,31 @@ static int32_t work(const char **call)
         spent++;
     }
     *call = "drive";
-    int32_t rest = simjorad_drive(page, page_length, run, RUN_NUMBERS, allowance(used), &taken);
+    int32_t rest = simjorad_drive(page, page_length, run, RUN_NUMBERS, allowance(used), &taken, &line);
     if (rest >= 0)
         spent += taken;
     return rest;
 }
 
-/* Prints whether the cup is permitted now. Returns 0, or the refusal that stops the arm. */
-static int32_t decide(unsigned movement, int rest)
+/* Shows the line to look at while the arm waits: the one that holds the low end of a condition. Returns 0, or the refusal that stops the arm. */
+static int32_t show_holder(uint32_t condition)
+{
+    int32_t line = simjorad_line(page, page_length, run, RUN_NUMBERS, condition);
+    if (line < 0)
+        return line;
+    size_t start = 0, length = simjorad_show_line(text, text_length, (size_t)line, &start);
+    if (line == 0)
+        printf("  condition %u has no line\n", (unsigned)condition);
+    else
+        printf("  condition %u is held by line %d: %.*s\n", (unsigned)condition, (int)line, (int)length, (const char *)text + start);
+    return 0;
+}
+
+/* Prints whether the cup is permitted now, and if not, the line to look at. Returns 0, or the refusal that stops the arm, with its call in *call. */
+static int32_t decide(unsigned movement, int rest, const char **call)
 {
     uint16_t attach_low, attach_high, pulsator_low, pulsator_high;
+    *call = "value";
     int32_t code = simjorad_value(page, page_length, run, RUN_NUMBERS, ATTACH, &attach_low, &attach_high);
     if (code < 0)
         return code;
@@ -114,7 +129,8 @@ static int32_t decide(unsigned movement, int rest)
     int permitted = attach_low >= ATTACH_NEEDED && pulsator_low >= PULSATOR_NEEDED;
     printf("movement %u: permission [%u;%u], pulsator [%u;%u]: %s, %s\n", movement, attach_low, attach_high, pulsator_low,
            pulsator_high, permitted ? "cup permitted" : "no cup", rest ? "at rest" : "work left");
-    return 0;
+    *call = "line";
+    return permitted ? 0 : show_holder(attach_low < ATTACH_NEEDED ? ATTACH : PULSATOR);
 }
 
 int main(int argc, char **argv)
@@ -138,9 +154,9 @@ int main(int argc, char **argv)
         rest = work(&call);
         if (rest < 0)
             return stop(call, rest);
-        code = decide(movement, rest);
+        code = decide(movement, rest, &call);
         if (code < 0)
-            return stop("value", code);
+            return stop(call, code);
         if (rest == 0 && spent == bound) { /* the bound is proved: the engine or its memory is damaged */
             printf("arm stopped: work left after %u evaluations\n", (unsigned)spent);
             return 1;

@@ -29,9 +29,10 @@
  *   show_line        one pass over the text, up to the line
  *   open             one scan of the page for each reached condition
  *   evaluate         a scan of the page for the lines of the condition, and one for its dependants if it changed
- *   drive            as evaluate, for each evaluation; the areas are checked once
+ *   drive            as evaluate, for each evaluation; the areas are checked once, and the line is found by one scan at the end
  *   drive_indexed    an index is built by a few scans; then each evaluation looks at the lines of the condition and at its dependants only
  *   value            no more than the check
+ *   line             a scan of the page for the lines of the condition, and one up to the line
  *   closed           scans of the page until nothing changes, which can be many
  *   closed_indexed   an index, then only the lines of what waits
  *
@@ -56,7 +57,7 @@ extern "C" {
  * measurements and do not count). SIMJORAD_LAYOUT is raised whenever the layout of a page area or a run area changes: an area that was
  * kept under another layout must be read or opened again.
  */
-#define SIMJORAD_VERSION 1
+#define SIMJORAD_VERSION 2
 #define SIMJORAD_LAYOUT 1
 
 /*
@@ -101,10 +102,11 @@ extern "C" {
 #define SIMJORAD_STACK_READ 384
 #define SIMJORAD_STACK_SHOW_LINE 64
 #define SIMJORAD_STACK_OPEN 1280
-#define SIMJORAD_STACK_EVALUATE 1472
-#define SIMJORAD_STACK_DRIVE 1600
-#define SIMJORAD_STACK_DRIVE_INDEXED 1664
+#define SIMJORAD_STACK_EVALUATE 1600
+#define SIMJORAD_STACK_DRIVE 1792
+#define SIMJORAD_STACK_DRIVE_INDEXED 1856
 #define SIMJORAD_STACK_VALUE 192
+#define SIMJORAD_STACK_LINE 1408
 #define SIMJORAD_STACK_CLOSED 1280
 #define SIMJORAD_STACK_CLOSED_INDEXED 1344
 
@@ -148,17 +150,20 @@ int32_t simjorad_open(const uint16_t *page, size_t page_length, const uint16_t *
 
 /*
  * Evaluate a condition that waits. Returns 1 if its interval changed, 0 if not, or minus 10, 14, 15 or 16. That it does not wait (16)
- * is no fault: it is up to date. Writes among the first 3 * C numbers of run.
+ * is no fault: it is up to date. Writes among the first 3 * C numbers of run. Which line holds the low end is asked by simjorad_line, or
+ * told by a drive.
  */
 int32_t simjorad_evaluate(const uint16_t *page, size_t page_length, uint16_t *run, size_t run_length, uint32_t condition);
 
 /*
  * Drive: evaluates the lowest waiting condition until none waits or the allowance is used.
- * Returns 1 for rest, 0 for spent, or minus 10 or 14. Sets *taken to the evaluations taken.
- * Writes among the first 3 * C numbers of run.
+ * Returns 1 for rest, 0 for spent, or minus 10 or 14. Sets *taken to the evaluations taken, and *line to the line that its last evaluation
+ * tells: the number of the first F or R line of that condition whose low end, on the intervals held before that evaluation, is the
+ * condition's new low end (lines count from 1, and the G line is 1). *line is 0 if the condition has no F or R lines, or if no evaluation
+ * was taken. Writes among the first 3 * C numbers of run.
  */
 int32_t simjorad_drive(const uint16_t *page, size_t page_length, uint16_t *run, size_t run_length, uint32_t allowance,
-                       uint32_t *taken);
+                       uint32_t *taken, uint32_t *line);
 
 /*
  * Drive, with an index in the workspace: returns, sets and writes what simjorad_drive does. The workspace may have any length
@@ -166,7 +171,8 @@ int32_t simjorad_drive(const uint16_t *page, size_t page_length, uint16_t *run, 
  * its first SIMJORAD_WORKSPACE_LENGTH numbers end as zero and the rest stays. A refused call leaves it as it is.
  */
 int32_t simjorad_drive_indexed(const uint16_t *page, size_t page_length, uint16_t *run, size_t run_length,
-                               uint16_t *workspace, size_t workspace_length, uint32_t allowance, uint32_t *taken);
+                               uint16_t *workspace, size_t workspace_length, uint32_t allowance, uint32_t *taken,
+                               uint32_t *line);
 
 /*
  * Value: the interval that a reached condition holds. Returns 1 if the whole run is at rest, 0 if not,
@@ -174,6 +180,16 @@ int32_t simjorad_drive_indexed(const uint16_t *page, size_t page_length, uint16_
  */
 int32_t simjorad_value(const uint16_t *page, size_t page_length, const uint16_t *run, size_t run_length, uint32_t condition,
                        uint16_t *low, uint16_t *high);
+
+/*
+ * Which line holds the low end: the number of the first F or R line of a reached condition whose low end, on the intervals now held, is
+ * the low end of the condition's body value on them (lines count from 1, and the G line is 1), or 0 if it has no F or R lines. Returns the
+ * line, or minus 10, 14, 15 or 17. Nothing is written.
+ * It may differ from the line that the condition's own evaluation tells, which is of the intervals before: on the page G,10,1 F,0,5,5
+ * R,0,10,B,0,0 the first evaluation of 0 gives the low end 5 and tells line 2, and this call then gives 3. At rest the low end that a
+ * condition holds is that of its body value, and simjorad_show_line shows the line.
+ */
+int32_t simjorad_line(const uint16_t *page, size_t page_length, const uint16_t *run, size_t run_length, uint32_t condition);
 
 /*
  * Closed reading. Returns 0, or minus 10, 11, 12, 18 or 19. Writes low, high per query in list order to answers;

@@ -74,7 +74,7 @@ static void runs(void)
 {
     static const uint16_t queries[] = {0}, opened[] = {0, 10, 2, 0, 10, 2}, spent[] = {2, 7, 1, 3, 8, 2}, rest[] = {2, 7, 1, 3, 8, 1};
     uint16_t run[SIMJORAD_RUN_LENGTH(2)] = {0}, workspace[INDEX] = {0}, low = 77, high = 78;
-    uint32_t reached = 77, edges = 78, bound = 79, taken = 77;
+    uint32_t reached = 77, edges = 78, bound = 79, taken = 77, line = 76;
 
     CHECK(simjorad_open(area, USED - 1, queries, 1, run, 6, &reached, &edges, &bound) == -SIMJORAD_PAGE_UNSOUND);
     CHECK(simjorad_open(area, USED, NULL, 0, run, 6, &reached, &edges, &bound) == -SIMJORAD_QUERY_COUNT);
@@ -84,26 +84,31 @@ static void runs(void)
     CHECK(simjorad_open(area, USED, queries, 1, run, 6, &reached, &edges, &bound) == 0);
     CHECK(reached == 2 && edges == 2 && bound == 22 && same(run, opened, 6));
 
-    CHECK(simjorad_drive(area, USED, run, 5, 3, &taken) == -SIMJORAD_RUN_UNSOUND && taken == 77);
-    CHECK(simjorad_drive(area, USED, run, 6, 3, &taken) == 0 && taken == 3 && same(run, spent, 6));
+    CHECK(simjorad_drive(area, USED, run, 5, 3, &taken, &line) == -SIMJORAD_RUN_UNSOUND && taken == 77 && line == 76);
+    CHECK(simjorad_drive(area, USED, run, 6, 0, &taken, &line) == 0 && taken == 0 && line == 0 && same(run, opened, 6));
+    CHECK(simjorad_drive(area, USED, run, 6, 3, &taken, &line) == 0 && taken == 3 && line == 2 && same(run, spent, 6));
     CHECK(simjorad_value(area, USED, run, 6, 1, &low, &high) == 0 && low == 3 && high == 8);
     CHECK(simjorad_evaluate(area, USED, run, 6, 0) == -SIMJORAD_NOT_WAITING);
     CHECK(simjorad_evaluate(area, USED, run, 6, 2) == -SIMJORAD_CONDITION_RANGE);
     CHECK(simjorad_evaluate(area, USED, run, 6, 1) == 0 && same(run, rest, 6));
+    CHECK(simjorad_line(area, USED, run, 6, 1) == 3 && simjorad_line(area, USED, run, 6, 2) == -SIMJORAD_CONDITION_RANGE);
     CHECK(simjorad_value(area, USED, run, 6, 0, &low, &high) == 1 && low == 2 && high == 7);
     CHECK(simjorad_value(area, USED, run, 6, 65536, &low, &high) == -SIMJORAD_CONDITION_RANGE && low == 2 && high == 7);
 
     memcpy(run, opened, sizeof run);
     memset(workspace, 0xff, sizeof workspace);
-    CHECK(simjorad_drive_indexed(area, USED, run, 6, workspace, INDEX - 1, 2, &taken) == 0 && taken == 2 && workspace[0] == 0xffff);
-    CHECK(simjorad_drive_indexed(area, USED, run, 6, workspace, INDEX, bound - 2, &taken) == 1 && taken == 2 && same(run, rest, 6));
-    CHECK(workspace[0] == 0 && workspace[INDEX - 1] == 0);
-    CHECK(simjorad_drive_indexed(area, 3, run, 6, NULL, 0, 1, &taken) == -SIMJORAD_PAGE_UNSOUND && taken == 2);
+    CHECK(simjorad_drive_indexed(area, USED, run, 6, workspace, INDEX - 1, 2, &taken, &line) == 0 && taken == 2 && line == 3);
+    CHECK(workspace[0] == 0xffff);
+    CHECK(simjorad_drive_indexed(area, USED, run, 6, workspace, INDEX, bound - 2, &taken, &line) == 1 && taken == 2 && line == 3);
+    CHECK(same(run, rest, 6) && workspace[0] == 0 && workspace[INDEX - 1] == 0);
+    CHECK(simjorad_drive_indexed(area, 3, run, 6, NULL, 0, 1, &taken, &line) == -SIMJORAD_PAGE_UNSOUND && taken == 2 && line == 3);
     memcpy(run, opened, sizeof run);
     CHECK(simjorad_evaluate(area, USED, run, 6, 0) == 1 && run[0] == 2 && run[1] == 10 && run[2] == 1);
     run[2] = 0;
     run[0] = 0;
     CHECK(simjorad_value(area, USED, run, 6, 0, &low, &high) == -SIMJORAD_NOT_REACHED);
+    CHECK(simjorad_line(area, USED, run, 6, 0) == -SIMJORAD_NOT_REACHED);
+    CHECK(simjorad_line(area, USED, run, 5, 0) == -SIMJORAD_RUN_UNSOUND && simjorad_line(area, 3, run, 6, 0) == -SIMJORAD_PAGE_UNSOUND);
 }
 
 /* A sound run area that no opening left need not come to rest: 0 denies itself and goes to and fro. */
@@ -111,9 +116,20 @@ static void no_rest(void)
 {
     static const uint16_t page[] = {1, 1, 1, 9, 0, 1, 1, 1, 1};
     uint16_t run[] = {0, 0, 2};
-    uint32_t taken = 0;
+    uint32_t taken = 0, line = 0;
 
-    CHECK(simjorad_drive(page, 9, run, 3, 1000, &taken) == 0 && taken == 1000 && run[2] == 2);
+    CHECK(simjorad_drive(page, 9, run, 3, 1000, &taken, &line) == 0 && taken == 1000 && line == 2 && run[2] == 2);
+}
+
+/* The line that an evaluation tells, and the one of the intervals then held: F,0,5,5 and then R,0,10,B,0,0. */
+static void held_lines(void)
+{
+    static const uint16_t page[] = {10, 1, 2, 14, 0, 0, 5, 5, 0, 4, 10, 2, 0, 0};
+    uint16_t run[] = {0, 10, 2};
+    uint32_t taken = 0, line = 0;
+
+    CHECK(simjorad_drive(page, 14, run, 3, 1, &taken, &line) == 0 && taken == 1 && line == 2 && run[0] == 5);
+    CHECK(simjorad_line(page, 14, run, 3, 0) == 3);
 }
 
 static void closed(void)
@@ -140,6 +156,7 @@ int main(void)
     long_texts();
     runs();
     no_rest();
+    held_lines();
     closed();
     printf("%d passed, %d failed\n", passed, failed);
     return failed != 0;

@@ -13,10 +13,12 @@ int32_t __wrap_simjorad_open(const uint16_t *, size_t, const uint16_t *, size_t,
                              uint32_t *);
 int32_t __real_simjorad_evaluate(const uint16_t *, size_t, uint16_t *, size_t, uint32_t);
 int32_t __wrap_simjorad_evaluate(const uint16_t *, size_t, uint16_t *, size_t, uint32_t);
-int32_t __real_simjorad_drive(const uint16_t *, size_t, uint16_t *, size_t, uint32_t, uint32_t *);
-int32_t __wrap_simjorad_drive(const uint16_t *, size_t, uint16_t *, size_t, uint32_t, uint32_t *);
+int32_t __real_simjorad_drive(const uint16_t *, size_t, uint16_t *, size_t, uint32_t, uint32_t *, uint32_t *);
+int32_t __wrap_simjorad_drive(const uint16_t *, size_t, uint16_t *, size_t, uint32_t, uint32_t *, uint32_t *);
 int32_t __real_simjorad_value(const uint16_t *, size_t, const uint16_t *, size_t, uint32_t, uint16_t *, uint16_t *);
 int32_t __wrap_simjorad_value(const uint16_t *, size_t, const uint16_t *, size_t, uint32_t, uint16_t *, uint16_t *);
+int32_t __real_simjorad_line(const uint16_t *, size_t, const uint16_t *, size_t, uint32_t);
+int32_t __wrap_simjorad_line(const uint16_t *, size_t, const uint16_t *, size_t, uint32_t);
 
 /* Minus the refusal if this call of this name is to refuse, else 0. */
 static int32_t refusal(const char *call)
@@ -46,10 +48,10 @@ int32_t __wrap_simjorad_evaluate(const uint16_t *page, size_t page_length, uint1
 }
 
 int32_t __wrap_simjorad_drive(const uint16_t *page, size_t page_length, uint16_t *run, size_t run_length, uint32_t allowance,
-                              uint32_t *taken)
+                              uint32_t *taken, uint32_t *line)
 {
     int32_t code = refusal("drive");
-    return code ? code : __real_simjorad_drive(page, page_length, run, run_length, allowance, taken);
+    return code ? code : __real_simjorad_drive(page, page_length, run, run_length, allowance, taken, line);
 }
 
 int32_t __wrap_simjorad_value(const uint16_t *page, size_t page_length, const uint16_t *run, size_t run_length, uint32_t condition,
@@ -57,4 +59,10 @@ int32_t __wrap_simjorad_value(const uint16_t *page, size_t page_length, const ui
 {
     int32_t code = refusal("value");
     return code ? code : __real_simjorad_value(page, page_length, run, run_length, condition, low, high);
+}
+
+int32_t __wrap_simjorad_line(const uint16_t *page, size_t page_length, const uint16_t *run, size_t run_length, uint32_t condition)
+{
+    int32_t code = refusal("line");
+    return code ? code : __real_simjorad_line(page, page_length, run, run_length, condition);
 }

@@ -35,10 +35,11 @@ pub struct Opened {
     pub bound: u32,
 }
 
-/// What a drive returns; `rest` is false for `spent`.
+/// What a drive returns; `rest` is false for `spent`. The line is that of its last evaluation, 0 if it took none.
 #[derive(Clone, Copy, Debug, PartialEq, Eq)]
 pub struct Driven {
     pub taken: u32,
+    pub line: u32,
     pub rest: bool,
 }
 

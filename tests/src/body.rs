@@ -90,6 +90,20 @@ pub fn line_value(line: &Line, top: u16, held: &[Pair]) -> Option<(u16, Pair)> {
     }
 }
 
+/// Which line holds the low end: the number of the condition's first F or R line whose low end at the pairs held is that of T, 0 if it has
+/// no such lines. Every line of the page counts, and the G line is line 1.
+pub fn holding_line(page: &Page, held: &[Pair], cond: u16) -> u32 {
+    let new = body_value(page, held, cond);
+    for (line, number) in page.lines.iter().zip(2..) {
+        if let Some((head, value)) = line_value(line, page.top, held) {
+            if head == cond && value.low == new.low {
+                return number;
+            }
+        }
+    }
+    0
+}
+
 /// T of every condition at the pairs held.
 pub fn body_values(page: &Page, held: &[Pair]) -> Vec<Pair> {
     let mut values = vec![Pair::new(0, 0); usize::from(page.count)];

@@ -12,8 +12,8 @@ use crate::reach;
 #[derive(Clone, Debug)]
 pub struct Book {
     top: u16,
-    /// The F and R lines of each condition.
-    lines: Vec<Vec<Line>>,
+    /// The F and R lines of each condition, with their numbers.
+    lines: Vec<Vec<(u32, Line)>>,
     /// For each condition, those with an R line naming it.
     followers: Vec<BTreeSet<u16>>,
     reached: BTreeSet<u16>,
@@ -26,10 +26,10 @@ impl Book {
     pub fn new(page: &Page, queries: &[u16]) -> Book {
         let count = usize::from(page.count);
         let mut lines = vec![Vec::new(); count];
-        for line in &page.lines {
+        for (line, number) in page.lines.iter().zip(2..) {
             match line {
                 Line::Fact { cond: head, .. } | Line::Rule { head, .. } => {
-                    lines[usize::from(*head)].push(line.clone())
+                    lines[usize::from(*head)].push((number, line.clone()))
                 }
                 Line::Query { .. } => {}
             }
@@ -65,20 +65,31 @@ impl Book {
         &self.waiting
     }
 
-    fn take(&mut self, cond: u16) -> bool {
-        self.waiting.remove(&cond);
+    /// T of a condition, and the first of its lines that has the low end of T; 0 if it has no lines.
+    fn body(&self, cond: u16) -> (Pair, u32) {
         let mut total = Pair::new(0, 0);
-        for line in &self.lines[usize::from(cond)] {
+        let mut holder = 0;
+        for (number, line) in &self.lines[usize::from(cond)] {
             let (_, value) = line_value(line, self.top, &self.pairs).expect("the line has a value");
+            if holder == 0 || value.low > total.low {
+                holder = *number;
+            }
             total = Pair::new(total.low.max(value.low), total.high.max(value.high));
         }
+        (total, holder)
+    }
+
+    /// Evaluates a waiting condition; whether its pair changed, and the line.
+    fn take(&mut self, cond: u16) -> (bool, u32) {
+        self.waiting.remove(&cond);
+        let (total, line) = self.body(cond);
         let changed = total != self.pairs[usize::from(cond)];
         self.pairs[usize::from(cond)] = total;
         if changed {
             let woken = self.followers[usize::from(cond)].intersection(&self.reached);
             self.waiting.extend(woken);
         }
-        changed
+        (changed, line)
     }
 
     fn in_range(&self, cond: u32) -> Result<u16, Refusal> {
@@ -94,19 +105,24 @@ impl Book {
         if !self.waiting.contains(&cond) {
             return Err(NOT_WAITING);
         }
-        Ok(self.take(cond))
+        Ok(self.take(cond).0)
     }
 
     pub fn drive(&mut self, allowance: u32) -> Driven {
         let mut taken = 0;
+        let mut line = 0;
         while let Some(cond) = self.waiting.first().copied() {
             if taken == allowance {
-                return Driven { taken, rest: false };
+                break;
             }
-            self.take(cond);
+            line = self.take(cond).1;
             taken += 1;
         }
-        Driven { taken, rest: true }
+        Driven {
+            taken,
+            line,
+            rest: self.at_rest(),
+        }
     }
 
     pub fn value(&self, cond: u32) -> Result<Valued, Refusal> {
@@ -120,6 +136,14 @@ impl Book {
             high: pair.high,
             rest: self.at_rest(),
         })
+    }
+
+    pub fn line(&self, cond: u32) -> Result<u32, Refusal> {
+        let cond = self.in_range(cond)?;
+        if !self.reached.contains(&cond) {
+            return Err(NOT_REACHED);
+        }
+        Ok(self.body(cond).1)
     }
 
     /// The run area that the book stands for.

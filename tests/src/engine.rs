@@ -348,6 +348,7 @@ impl Engine {
             .as_deref()
             .map(|numbers| self.lend_area(2, numbers));
         let mut taken = self.out(|number| number as u32);
+        let mut line = self.out(|number| number as u32);
         let slices = [
             Self::note(page, page_loan.ptr() as usize),
             Self::note(run, run_loan.ptr() as usize),
@@ -364,14 +365,18 @@ impl Engine {
             arguments.extend([loan.ptr_mut() as usize, *length]);
             call = Call::DriveIndexed;
         }
-        arguments.extend([allowance as usize, taken.ptr() as usize]);
+        arguments.extend([
+            allowance as usize,
+            taken.ptr() as usize,
+            line.ptr() as usize,
+        ]);
         let code = self.call(call, u64::from(allowance), &slices, &arguments)? as i32;
         page_loan.end_const("page", page)?;
         run_loan.end_mut("run", run)?;
         if let (Some((loan, _)), Some(numbers)) = (room, workspace) {
             loan.end_mut("workspace", numbers)?;
         }
-        driven(code, &taken)
+        driven(code, &taken, &line)
     }
 
     pub fn value(
@@ -411,6 +416,35 @@ impl Engine {
                 high.kept("high")?;
                 Ok(Err(-code))
             }
+            _ => Err(format!("returned {code}")),
+        }
+    }
+
+    pub fn line(
+        &mut self,
+        page: &[u16],
+        run: &[u16],
+        cond: u32,
+    ) -> Result<Result<u32, Refusal>, String> {
+        let (page_loan, page_length) = self.lend_area(0, page);
+        let (run_loan, run_length) = self.lend_area(1, run);
+        let slices = [
+            Self::note(page, page_loan.ptr() as usize),
+            Self::note(run, run_loan.ptr() as usize),
+        ];
+        let arguments = [
+            page_loan.ptr() as usize,
+            page_length,
+            run_loan.ptr() as usize,
+            run_length,
+            cond as usize,
+        ];
+        let code = self.call(Call::Line, u64::from(cond), &slices, &arguments)? as i32;
+        page_loan.end_const("page", page)?;
+        run_loan.end_const("run", run)?;
+        match code {
+            0 | 2..=1025 => Ok(Ok(code as u32)),
+            -10 | -14 | -15 | -17 => Ok(Err(-code)),
             _ => Err(format!("returned {code}")),
         }
     }
@@ -486,14 +520,16 @@ impl Engine {
     }
 }
 
-fn driven(code: i32, taken: &Out<u32>) -> Result<Result<Driven, Refusal>, String> {
+fn driven(code: i32, taken: &Out<u32>, line: &Out<u32>) -> Result<Result<Driven, Refusal>, String> {
     match code {
         0 | 1 => Ok(Ok(Driven {
             taken: taken.set("taken")?,
+            line: line.set("line")?,
             rest: code == 1,
         })),
         -10 | -14 => {
             taken.kept("taken")?;
+            line.kept("line")?;
             Ok(Err(-code))
         }
         _ => Err(format!("returned {code}")),

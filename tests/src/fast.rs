@@ -13,12 +13,20 @@ struct Rule {
     literals: Vec<usize>,
 }
 
+#[derive(Clone)]
+enum Source {
+    Fact(u16),
+    Rule(usize),
+}
+
 /// A page by its heads.
 pub struct Index {
     top: u16,
     /// The facts of a condition put together: [largest low; largest high], [0;0] if it has none.
     facts: Vec<Pair>,
     rules: Vec<Vec<Rule>>,
+    /// The numbers of a condition's F and R lines in page order, each with the low end of a fact or the place of a rule in `rules`.
+    numbers: Vec<Vec<(u32, Source)>>,
     /// The conditions with a rule that names a condition.
     namers: Vec<Vec<usize>>,
     /// Those with a rule that names it plain.
@@ -33,12 +41,14 @@ impl Index {
             top: page.top,
             facts: vec![Pair::new(0, 0); count],
             rules: (0..count).map(|_| Vec::new()).collect(),
+            numbers: vec![Vec::new(); count],
             namers: lists(),
             plain_namers: lists(),
         };
-        for line in &page.lines {
+        for (line, number) in page.lines.iter().zip(2..) {
             match line {
                 Line::Fact { cond, low, high } => {
+                    index.numbers[usize::from(*cond)].push((number, Source::Fact(*low)));
                     let fact = &mut index.facts[usize::from(*cond)];
                     *fact = Pair::new(fact.low.max(*low), fact.high.max(*high));
                 }
@@ -49,6 +59,7 @@ impl Index {
                     body,
                 } => {
                     let head = usize::from(*head);
+                    index.numbers[head].push((number, Source::Rule(index.rules[head].len())));
                     for literal in body {
                         let cond = usize::from(literal.cond);
                         index.namers[cond].push(head);
@@ -87,13 +98,33 @@ impl Index {
     fn end(&self, cond: usize, fact: u16, literal: impl Fn(usize) -> u16) -> u16 {
         let mut best = fact;
         for rule in &self.rules[cond] {
-            let mut value = literal(rule.literals[0]);
-            for other in &rule.literals[1..] {
-                value = combine(rule.op, self.top, value, literal(*other));
-            }
-            best = best.max((u32::from(value) * rule.weight / u32::from(self.top)) as u16);
+            best = best.max(self.rule_end(rule, &literal));
         }
         best
+    }
+
+    fn rule_end(&self, rule: &Rule, literal: impl Fn(usize) -> u16) -> u16 {
+        let mut value = literal(rule.literals[0]);
+        for other in &rule.literals[1..] {
+            value = combine(rule.op, self.top, value, literal(*other));
+        }
+        (u32::from(value) * rule.weight / u32::from(self.top)) as u16
+    }
+
+    /// The first line of a condition with this low end at the pairs held, 0 if it has no lines.
+    fn line(&self, cond: usize, low: u16, held: &[Pair]) -> u32 {
+        let low_end = |literal: usize| match literal % 2 {
+            0 => held[literal / 2].low,
+            _ => self.top - held[literal / 2].high,
+        };
+        let holds = |source: &Source| match source {
+            Source::Fact(end) => *end == low,
+            Source::Rule(place) => self.rule_end(&self.rules[cond][*place], low_end) == low,
+        };
+        let mut lines = self.numbers[cond].iter();
+        lines
+            .find(|(_, source)| holds(source))
+            .map_or(0, |(number, _)| *number)
     }
 
     /// T of a condition at the pairs held.
@@ -242,14 +273,27 @@ impl<'a> Run<'a> {
 
     pub fn drive(&mut self, allowance: u32) -> Driven {
         let mut taken = 0;
+        let mut last = None;
         while let Some(cond) = self.lowest() {
             if taken == allowance {
-                return Driven { taken, rest: false };
+                break;
             }
+            last = Some((cond, self.pairs[cond]));
             self.take(cond);
             taken += 1;
         }
-        Driven { taken, rest: true }
+        Driven {
+            taken,
+            line: last.map_or(0, |(cond, old)| self.line_before(cond, old)),
+            rest: self.lowest().is_none(),
+        }
+    }
+
+    /// The line of the last evaluation, of a condition that held another pair before it.
+    fn line_before(&self, cond: usize, old: Pair) -> u32 {
+        let mut before = self.pairs.clone();
+        before[cond] = old;
+        self.index.line(cond, self.pairs[cond].low, &before)
     }
 
     /// The run area that this run stands for.

@@ -49,6 +49,7 @@ calls! {
     Drive simjorad_drive,
     DriveIndexed simjorad_drive_indexed,
     Value simjorad_value,
+    Line simjorad_line,
     Closed simjorad_closed,
     ClosedIndexed simjorad_closed_indexed,
 }

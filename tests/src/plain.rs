@@ -1,9 +1,9 @@
 //! The plain reading, and a run over lent areas: sections "The two readings" (plain), "Open a run",
-//! "Evaluate", "Drive" and "Value".
+//! "Evaluate", "Drive", "Value" and "Line held".
 
 use crate::answer::*;
 use crate::area::*;
-use crate::body::{body_value, body_values, Pair};
+use crate::body::{body_value, body_values, holding_line, Pair};
 use crate::page::{Line, Page, QUERIES_MAX};
 use crate::reach;
 
@@ -115,13 +115,14 @@ pub fn evaluate(page_area: &[u16], run: &mut [u16], cond: u32) -> Result<bool, R
 pub fn drive(page_area: &[u16], run: &mut [u16], allowance: u32) -> Result<Driven, Refusal> {
     let page = check_areas(page_area, run)?;
     let mut taken = 0;
+    let mut line = 0;
     loop {
-        let Some(cond) = lowest_waiting(&page, run) else {
-            return Ok(Driven { taken, rest: true });
+        let waiting = lowest_waiting(&page, run);
+        let rest = waiting.is_none();
+        let (Some(cond), false) = (waiting, taken == allowance) else {
+            return Ok(Driven { taken, line, rest });
         };
-        if taken == allowance {
-            return Ok(Driven { taken, rest: false });
-        }
+        line = holding_line(&page, &held_pairs(&page, run), cond);
         evaluate_waiting(&page, run, cond);
         taken += 1;
     }
@@ -139,4 +140,14 @@ pub fn value(page_area: &[u16], run: &[u16], cond: u32) -> Result<Valued, Refusa
         high: run[at + 1],
         rest: lowest_waiting(&page, run).is_none(),
     })
+}
+
+/// Which line holds the low end of T of the intervals held.
+pub fn line(page_area: &[u16], run: &[u16], cond: u32) -> Result<u32, Refusal> {
+    let page = check_areas(page_area, run)?;
+    let cond = check_condition(&page, cond)?;
+    if mark(run, cond) == NOT_REACHED_MARK {
+        return Err(NOT_REACHED);
+    }
+    Ok(holding_line(&page, &held_pairs(&page, run), cond))
 }

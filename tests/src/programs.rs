@@ -127,7 +127,7 @@ pub fn built(name: &'static str) -> Check<PathBuf> {
             build("controller", &["examples/controller.c"], &[])?;
             build("closed", &["examples/closed.c"], &[])?;
             build("every", &["tests/c/every.c"], &[])?;
-            let wrapped: Vec<String> = ["open", "evaluate", "drive", "value"]
+            let wrapped: Vec<String> = ["open", "evaluate", "drive", "value", "line"]
                 .iter()
                 .map(|call| format!("-Wl,--wrap=simjorad_{call}"))
                 .collect();

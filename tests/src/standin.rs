@@ -347,6 +347,51 @@ pub const FAULTS: &[(&str, &str, &str)] = &[
         "row_02_goes_on_after_it_is_spent",
     ),
     (
+        "line_of_the_last_holder",
+        "quick only CASE",
+        "the_line_that_holds_the_low_end_is_told",
+    ),
+    (
+        "line_counted_without_the_head",
+        "quick only CASE",
+        "the_line_that_holds_the_low_end_is_told",
+    ),
+    (
+        "line_of_the_intervals_after",
+        "quick only CASE",
+        "the_line_that_holds_the_low_end_is_told",
+    ),
+    (
+        "line_of_a_query",
+        "quick only CASE",
+        "the_line_that_holds_the_low_end_is_told",
+    ),
+    (
+        "line_of_the_first_evaluation",
+        "quick only CASE",
+        "the_line_that_holds_the_low_end_is_told",
+    ),
+    (
+        "drive_line_left_where_none_was_taken",
+        "quick only CASE",
+        "the_line_that_holds_the_low_end_is_told",
+    ),
+    (
+        "line_of_the_high_end",
+        "quick only CASE",
+        "drive_agrees_on_arbitrary_sound_areas",
+    ),
+    (
+        "drive_sets_line_on_refusal",
+        "quick only CASE",
+        "refusal_order_of_evaluate_drive_and_value",
+    ),
+    (
+        "line_of_unreached",
+        "quick only CASE",
+        "refusal_order_of_evaluate_drive_and_value",
+    ),
+    (
         "value_of_unreached",
         "quick only CASE",
         "value_agrees_on_arbitrary_sound_areas",
@@ -915,7 +960,45 @@ const STEPWISE: &[&str] = &[
     "drive_misses_condition_64",
     "support_from_top",
     "closed_stops_after_two_rounds",
+    "line_of_the_last_holder",
+    "line_counted_without_the_head",
+    "line_of_the_intervals_after",
+    "line_of_a_query",
+    "line_of_the_high_end",
+    "line_of_the_first_evaluation",
 ];
+
+/// Which line holds the low end at the pairs held, with the planted fault.
+fn holding_line(page: &Page, held: &[Pair], cond: u16) -> u32 {
+    let new = body_value(page, held, cond);
+    let mut found = 0;
+    for (line, number) in page.lines.iter().zip(2..) {
+        let one = |line: &Line| Page {
+            lines: vec![line.clone()],
+            ..page.clone()
+        };
+        let holds = match line {
+            Line::Fact { cond: head, .. } | Line::Rule { head, .. } if *head == cond => {
+                let value = body_value(&one(line), held, cond);
+                match fault("line_of_the_high_end") {
+                    true => value.high == new.high,
+                    false => value.low == new.low,
+                }
+            }
+            Line::Query { cond: asked, .. } => {
+                *asked == cond && new.low == 0 && fault("line_of_a_query")
+            }
+            _ => false,
+        };
+        if holds && (found == 0 || fault("line_of_the_last_holder")) {
+            found = number;
+        }
+    }
+    if found > 0 && fault("line_counted_without_the_head") {
+        found -= 1;
+    }
+    found
+}
 
 fn drive(page: &Page, run: &mut [u16], allowance: u32) -> Driven {
     if !STEPWISE.contains(&planted()) {
@@ -927,15 +1010,23 @@ fn drive(page: &Page, run: &mut [u16], allowance: u32) -> Driven {
         return driven;
     }
     let mut taken = 0;
+    let mut line = 0;
     let mut from = 0;
     loop {
-        let Some(cond) = next_waiting(page, run, from) else {
-            return Driven { taken, rest: true };
+        let waiting = next_waiting(page, run, from);
+        let rest = waiting.is_none();
+        let (Some(cond), false) = (waiting, taken == allowance) else {
+            return Driven { taken, line, rest };
         };
-        if taken == allowance {
-            return Driven { taken, rest: false };
-        }
+        let before = held_pairs(page, run);
         step(page, run, cond);
+        let told = match fault("line_of_the_intervals_after") {
+            true => held_pairs(page, run),
+            false => before,
+        };
+        if taken == 0 || !fault("line_of_the_first_evaluation") {
+            line = holding_line(page, &told, cond);
+        }
         from = cond + 1;
         taken += 1;
     }
@@ -1294,15 +1385,21 @@ fn drive_call(page_area: &[u16], run: &mut [u16], allowance: u32) -> Result<Driv
 }
 
 /// What a drive in either form hands back.
-unsafe fn drive_code(result: Result<Driven, Refusal>, taken: *mut u32) -> i32 {
+unsafe fn drive_code(result: Result<Driven, Refusal>, taken: *mut u32, line: *mut u32) -> i32 {
     match result {
         Ok(driven) => {
             *taken = driven.taken;
+            if driven.taken > 0 || !fault("drive_line_left_where_none_was_taken") {
+                *line = driven.line;
+            }
             i32::from(driven.rest)
         }
         Err(number) => {
             if fault("drive_sets_taken_on_refusal") {
                 *taken = 0;
+            }
+            if fault("drive_sets_line_on_refusal") {
+                *line = 0;
             }
             -number
         }
@@ -1326,13 +1423,14 @@ pub unsafe extern "C" fn simjorad_drive(
     run_length: usize,
     allowance: u32,
     taken: *mut u32,
+    line: *mut u32,
 ) -> i32 {
     if fault("drive_takes_much_stack") {
         take_stack::<131_072>();
     }
     let run = lent_mut(run, run_length);
     let result = drive_call(lent(page, page_length), run, allowance);
-    drive_code(result, taken)
+    drive_code(result, taken, line)
 }
 
 /// The numbers that the index takes, with the planted fault.
@@ -1411,6 +1509,7 @@ pub unsafe extern "C" fn simjorad_drive_indexed(
     workspace_length: usize,
     allowance: u32,
     taken: *mut u32,
+    line: *mut u32,
 ) -> i32 {
     let (page, run) = (lent(page, page_length), lent_mut(run, run_length));
     let workspace = lent_mut(workspace, workspace_length);
@@ -1427,7 +1526,7 @@ pub unsafe extern "C" fn simjorad_drive_indexed(
         drive_call(page, run, allowance)
     };
     leave_workspace(page, workspace, &result);
-    drive_code(result, taken)
+    drive_code(result, taken, line)
 }
 
 fn value(page_area: &[u16], run: &[u16], cond: u32) -> Result<Valued, Refusal> {
@@ -1465,6 +1564,28 @@ pub unsafe extern "C" fn simjorad_value(
             *high = valued.high;
             i32::from(valued.rest)
         }
+        Err(number) => -number,
+    }
+}
+
+fn line(page_area: &[u16], run: &[u16], cond: u32) -> Result<u32, Refusal> {
+    let page = check_areas(page_area, run)?;
+    let cond = condition(&page, cond)?;
+    if run[3 * usize::from(cond) + 2] == NOT_REACHED_MARK && !fault("line_of_unreached") {
+        return Err(NOT_REACHED);
+    }
+    Ok(holding_line(&page, &held_pairs(&page, run), cond))
+}
+
+pub unsafe extern "C" fn simjorad_line(
+    page: *const u16,
+    page_length: usize,
+    run: *const u16,
+    run_length: usize,
+    condition: u32,
+) -> i32 {
+    match line(lent(page, page_length), lent(run, run_length), condition) {
+        Ok(line) => line as i32,
         Err(number) => -number,
     }
 }

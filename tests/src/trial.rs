@@ -367,6 +367,23 @@ impl Trial {
         same(&input, &got, &wanted)?;
         let code = wanted.map_or_else(|number| number, |valued| i32::from(valued.rest));
         self.saw("value", code);
+        let _ = self.line(page, run, cond)?;
+        Ok(got)
+    }
+
+    /// Which line holds the low end: seen as 0 where it is told, and as 1 where there is none.
+    pub fn line(&mut self, page: &[u16], run: &[u16], cond: u32) -> Check<Result<u32, Refusal>> {
+        let wanted = plain::line(page, run, cond);
+        let got = self.engine.line(page, run, cond);
+        let input = Input {
+            op: "line",
+            slices: vec![("page", Slice::Numbers(page)), ("run", Slice::Numbers(run))],
+            numbers: vec![("condition", u64::from(cond))],
+        };
+        let got = got.map_err(|reason| breach(&input, reason))?;
+        same(&input, &got, &wanted)?;
+        let code = wanted.map_or_else(|number| number, |line| i32::from(line == 0));
+        self.saw("line", code);
         Ok(got)
     }
 

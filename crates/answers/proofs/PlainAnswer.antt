@@ -65,7 +65,7 @@ module _ (a : List ℕ) (ok : sound a ≡ true) (c : ℕ) (l : c < conditionsOf 
 
     -- what the book says of the two calls
     book : performBook page (c ∷ []) (drive B ∷ value c ∷ [])
-        ≡ record { answers = drove (end .taken) (status (end .state)) ∷ valued (intervalOf (end .state .intervals) c) (status (end .state)) ∷ []; state = end .state }
+        ≡ record { answers = drove (end .taken) (end .line) (status (end .state)) ∷ valued (intervalOf (end .state .intervals) c) (status (end .state)) ∷ []; state = end .state }
     unfolding performFrom outcome
     book = rw (lt-leb (page .conditions) c (rw (conditions-is a) l), keeps .reached-are c .1 reaches)
 

@@ -1,14 +1,20 @@
-// Both ends of the body value T of a condition, over its lines: by the index, or by a scan where there is none.
+// Both ends of the body value T of a condition, over its lines: by the index, or by a scan where there is none. Which line holds the low end.
 ghost use mathlib.Core.Path.{_≡_};
 ghost use mathlib.Core.Bool.{true, false};
 ghost use Prim.Native.Nat.{_<_};
-ghost use lib.ListN.{getD};
-ghost use Rattle.semantics.specs.Area.{sound, topOf, conditionsOf};
+ghost use lib.ListN.{getD, drop};
+ghost use Rattle.fixpoint.specs.Interval.{Assign};
+ghost use Rattle.semantics.specs.Area.{sound, topOf, conditionsOf, lineAt};
+ghost use Rattle.semantics.specs.Body.{lineBody};
+ghost use Rattle.semantics.specs.Grade.{lower};
+ghost use Rattle.semantics.specs.Holding.{hasLow};
 ghost use Rattle.ends.specs.Mirror.{Mirrored};
 ghost use Rattle.index.specs.Groups.{LinesByHead};
 ghost use Rattle.index.specs.Parts.{MaybeLines};
 ghost use Rattle.page.specs.Places.{LineIn};
+ghost use Rattle.value.specs.Table.{EndTable};
 ghost use Rattle.body.specs.Body.{Taken, BestOf, Body};
+ghost use Rattle.body.specs.FirstLine.{FirstLine};
 use value::Ends;
 
 // The largest ends over the lines of a condition that are seen, and whether there is one.
@@ -48,7 +54,7 @@ fn take_line(a: &[u16], at: usize, values: &[u8], best: Best) -> Best
 }
 
 // The lines of c, by a scan of the page.
-fn by_scan(a: &[u16], values: &[u8], c: u16) -> Best
+pub fn by_scan(a: &[u16], values: &[u8], c: u16) -> Best
     requires { ⌜ (sound (now a) ≡ true) × Mirrored (topOf (now a)) (conditionsOf (now a)) (now values) ⌝ }
     ensures { λ r. ⌜ BestOf (now (a .entry)) (now (values .entry)) c (r .found) (r .low) (r .high) ⌝ }
 {
@@ -107,4 +113,35 @@ pub fn body(a: &[u16], lines: &[u16], values: &[u8], c: u16) -> Ends
         };
     }
     value::bodyless(a, c)
+}
+
+// Whether the line at `at` is an F or R line with this low end.
+fn has_low(a: &[u16], at: usize, values: &[u8], low: u16) -> bool
+    requires { ⌜ (sound (now a) ≡ true) × Mirrored (topOf (now a)) (conditionsOf (now a)) (now values) × LineIn (now a) at ⌝ }
+    ensures { λ r. ⌜ ((I : Assign) → EndTable lower (topOf (now (a .entry))) (conditionsOf (now (a .entry))) I (now (values .entry)) → r ≡ hasLow low (lineBody (topOf (now (a .entry))) I (getD (now (a .entry)) at 0) (lineAt (drop at (now (a .entry)))))) ⌝ }
+{
+    let one = take_line(a, at, values, no_line());
+    if one.found {
+        return one.low == low;
+    }
+    false
+}
+
+// The number of the first F or R line of c with this low end, 0 if there is none. Every line of the page counts, and the G line is line 1.
+pub fn first_line(a: &[u16], values: &[u8], c: u16, low: u16) -> u16
+    requires { ⌜ (sound (now a) ≡ true) × Mirrored (topOf (now a)) (conditionsOf (now a)) (now values) ⌝ }
+    ensures { λ r. ⌜ FirstLine (now (a .entry)) (now (values .entry)) c low r ⌝ }
+{
+    let count = a[2];
+    let mut line = page::Cursor::first(a);
+    while line.passed < count {
+        let here = line.at;
+        if a[here] == c {
+            if has_low(a, here, values, low) {
+                return line.passed + 2;
+            }
+        }
+        line = line.next(a);
+    }
+    0
 }

@@ -4,7 +4,7 @@ use mathlib.Core.Option.{Option, none, some}
 use Prim.Native.Nat.{ℕ}
 use lib.IntN.{ℤ, pos, negℤ}
 use Rattle.fixpoint.specs.Interval.{Interval}
-use Rattle.semantics.specs.Call.{Answer, refused, unchanged, changed, drove, valued, firstOf}
+use Rattle.semantics.specs.Call.{Answer, refused, unchanged, changed, drove, valued, heldBy, firstOf}
 use Rattle.semantics.specs.Operation.{Opening, refusedOpening, openedWith, closedCauses}
 use Rattle.semantics.specs.ReadPage.{ReadAnswer, refusedPage, readPage}
 use Rattle.semantics.specs.Worklist.{Status, rest, spent}
@@ -18,28 +18,40 @@ abbrev pub statusCode : Status → ℤ
 statusCode rest = pos 1
 statusCode spent = pos 0
 
--- evaluate, drive and value: "minus the refusal number, 0 unchanged, 1 changed"
+-- evaluate, drive, value and line held: "minus the refusal number, 0 unchanged, 1 changed"; the line. What evaluate and drive tell of a line is
+-- not in the code.
 abbrev pub answerCode : Answer → ℤ
 answerCode (refused k) = minus k
-answerCode unchanged = pos 0
-answerCode changed = pos 1
-answerCode (drove taken s) = statusCode s
+answerCode (unchanged line) = pos 0
+answerCode (changed line) = pos 1
+answerCode (drove taken line s) = statusCode s
 answerCode (valued p s) = statusCode s
+answerCode (heldBy line) = pos line
 
--- What drive leaves in `taken`, and value in `low` and `high`; any other answer leaves what was there.
+-- What drive leaves in `taken` and `line`, and value in `low` and `high`; any other answer leaves what was there.
 abbrev pub takenOr : ℕ → Answer → ℕ
 takenOr old (refused k) = old
-takenOr old unchanged = old
-takenOr old changed = old
-takenOr old (drove taken s) = taken
+takenOr old (unchanged line) = old
+takenOr old (changed line) = old
+takenOr old (drove taken line s) = taken
 takenOr old (valued p s) = old
+takenOr old (heldBy line) = old
+
+abbrev pub lineOr : ℕ → Answer → ℕ
+lineOr old (refused k) = old
+lineOr old (unchanged line) = old
+lineOr old (changed line) = old
+lineOr old (drove taken line s) = line
+lineOr old (valued p s) = old
+lineOr old (heldBy line) = old
 
 abbrev pub intervalOr : Interval → Answer → Interval
 intervalOr old (refused k) = old
-intervalOr old unchanged = old
-intervalOr old changed = old
-intervalOr old (drove taken s) = old
+intervalOr old (unchanged line) = old
+intervalOr old (changed line) = old
+intervalOr old (drove taken line s) = old
 intervalOr old (valued p s) = p
+intervalOr old (heldBy line) = old
 
 -- open: minus the refusal number, or 0
 abbrev pub openCode : Opening → ℤ

@@ -3,10 +3,10 @@ ghost use mathlib.Core.Path.{_≡_};
 ghost use Prim.Native.Nat.{_+_, _≤_};
 ghost use lib.ListN.{length, take, drop};
 ghost use Rattle.semantics.specs.ReadPage.{readOf, lineOf, startOf};
-ghost use Rattle.semantics.specs.Operation.{openOf, evaluateOf, driveOf, valueOf, ClosedOf, driveWorkspace, closedWorkspace};
+ghost use Rattle.semantics.specs.Operation.{openOf, evaluateOf, driveOf, valueOf, lineHeldOf, ClosedOf, driveWorkspace, closedWorkspace};
 ghost use Rattle.run.specs.Answers.{statusIf, driveAnswerOf};
 ghost use Rattle.closed.specs.Answer.{refusalTold};
-ghost use Rattle.capi.specs.Codes.{minus as Codes·minus, statusCode, answerCode, takenOr, intervalOr, openCode, countsOr, readCode, lineTold, closedCode, closedRefusal};
+ghost use Rattle.capi.specs.Codes.{minus as Codes·minus, statusCode, answerCode, takenOr, lineOr, intervalOr, openCode, countsOr, readCode, lineTold, closedCode, closedRefusal};
 use closed::ClosedAnswer;
 use run::DriveAnswer;
 
@@ -96,24 +96,27 @@ pub extern "C" fn simjorad_evaluate(page: &[u16], run: &mut [u16], condition: u3
     let answer = run::evaluate(page, run, condition);
     match answer {
         run::EvaluateAnswer::Refused(k) => minus(k),
-        run::EvaluateAnswer::Unchanged => 0,
-        run::EvaluateAnswer::Changed => 1,
+        run::EvaluateAnswer::Unchanged(_) => 0,
+        run::EvaluateAnswer::Changed(_) => 1,
     }
 }
 
-// What a drive answers: 1 rest, 0 spent, or minus a refusal; the count is told unless it is refused.
-fn drive_code(answer: DriveAnswer, taken: &mut u32) -> i32
+// What a drive answers: 1 rest, 0 spent, or minus a refusal; the count and the line are told unless it is refused.
+fn drive_code(answer: DriveAnswer, taken: &mut u32, line: &mut u32) -> i32
     ensures code { λ r. ⌜ r ≡ answerCode (driveAnswerOf answer) ⌝ }
     ensures count { λ _. ⌜ now (taken .exit) ≡ takenOr (now (taken .entry)) (driveAnswerOf answer) ⌝ }
+    ensures line { λ _. ⌜ now (line .exit) ≡ lineOr (now (line .entry)) (driveAnswerOf answer) ⌝ }
 {
     match answer {
         DriveAnswer::Refused(k) => minus(k),
-        DriveAnswer::Rest(k) => {
+        DriveAnswer::Rest { taken: k, line: l } => {
             *taken = k;
+            *line = l as u32;
             1
         }
-        DriveAnswer::Spent(k) => {
+        DriveAnswer::Spent { taken: k, line: l } => {
             *taken = k;
+            *line = l as u32;
             0
         }
     }
@@ -126,13 +129,15 @@ pub extern "C" fn simjorad_drive(
     run: &mut [u16],
     allowance: u32,
     taken: &mut u32,
+    line: &mut u32,
 ) -> i32
     ensures code { λ r. ⌜ r ≡ answerCode (driveOf (now (page .entry)) (now (run .entry)) allowance .answer) ⌝ }
     ensures area { λ _. ⌜ now (run .exit) ≡ driveOf (now (page .entry)) (now (run .entry)) allowance .run ⌝ }
     ensures count { λ _. ⌜ now (taken .exit) ≡ takenOr (now (taken .entry)) (driveOf (now (page .entry)) (now (run .entry)) allowance .answer) ⌝ }
+    ensures line { λ _. ⌜ now (line .exit) ≡ lineOr (now (line .entry)) (driveOf (now (page .entry)) (now (run .entry)) allowance .answer) ⌝ }
 {
     let answer = run::drive(page, run, allowance);
-    drive_code(answer, taken)
+    drive_code(answer, taken, line)
 }
 
 // Drive, with an index in the workspace.
@@ -143,14 +148,16 @@ pub extern "C" fn simjorad_drive_indexed(
     workspace: &mut [u16],
     allowance: u32,
     taken: &mut u32,
+    line: &mut u32,
 ) -> i32
     ensures code { λ r. ⌜ r ≡ answerCode (driveOf (now (page .entry)) (now (run .entry)) allowance .answer) ⌝ }
     ensures area { λ _. ⌜ now (run .exit) ≡ driveOf (now (page .entry)) (now (run .entry)) allowance .run ⌝ }
     ensures workspace { λ _. ⌜ now (workspace .exit) ≡ driveWorkspace (now (page .entry)) (now (run .entry)) (now (workspace .entry)) ⌝ }
     ensures count { λ _. ⌜ now (taken .exit) ≡ takenOr (now (taken .entry)) (driveOf (now (page .entry)) (now (run .entry)) allowance .answer) ⌝ }
+    ensures line { λ _. ⌜ now (line .exit) ≡ lineOr (now (line .entry)) (driveOf (now (page .entry)) (now (run .entry)) allowance .answer) ⌝ }
 {
     let answer = run::drive_indexed(page, run, workspace, allowance);
-    drive_code(answer, taken)
+    drive_code(answer, taken, line)
 }
 
 // Value: 1 if the run is at rest, 0 if not, or minus 10, 14, 15 or 17.
@@ -177,6 +184,18 @@ pub extern "C" fn simjorad_value(
             *high = h;
             rest_code(rest)
         }
+    }
+}
+
+// Line held: the line, or minus 10, 14, 15 or 17.
+#[no_mangle]
+pub extern "C" fn simjorad_line(page: &[u16], run: &[u16], condition: u32) -> i32
+    ensures { λ r. ⌜ r ≡ answerCode (lineHeldOf (now (page .entry)) (now (run .entry)) condition) ⌝ }
+{
+    let answer = run::line_held(page, run, condition);
+    match answer {
+        run::LineAnswer::Refused(k) => minus(k),
+        run::LineAnswer::Held(l) => l as i32,
     }
 }
 

@@ -1,26 +1,32 @@
 -- A drive, evaluation by evaluation, in the code's own terms. Assumes nothing.
 use mathlib.Core.Path.{_≡_, refl, sym, _∙_, ap, ap₂}
-use mathlib.Core.Bool.{Bool, true}
+use mathlib.Core.Logic.{_⊎_, inl, inr, ⊎-elim}
+use mathlib.Core.Bool.{Bool, true, false}
 use mathlib.Core.List.{List, _++_}
 use Prim.Native.Nat.{ℕ, suc, _+_, _*_, _-_, _≤_, _<_}
 use native.Mathlib.Omega.{arith}
-use lib.ListN.{length, drop}
-use Rattle.semantics.specs.Area.{sound, pageOf, conditionsOf}
-use Rattle.semantics.specs.Call.{drove, drive}
+use lib.ListN.{length, getD, drop}
+use Rattle.semantics.specs.Area.{sound, pageOf, topOf, conditionsOf}
+use Rattle.semantics.specs.Call.{drove, drive, Answer}
 use Rattle.semantics.specs.Operation.{Left, operation}
 use Rattle.semantics.specs.Page.{Page}
 use Rattle.semantics.specs.RunArea.{markAt, runOf, worklistOf, reachedOf, runSound}
-use Rattle.semantics.specs.Worklist.{Worklist, evaluated, lowest, Status, rest, spent, statusAs, status, Driven, oneMore, driven}
+use Rattle.semantics.specs.Worklist.{Worklist, evaluated, holder, lowest, Status, rest, spent, statusAs, status, Driven, lastOf, oneMore, driven}
 use Rattle.semantics.proofs.Areas.{Encodable, sound-encodable, state-back, reached-back, rest-back, reencoded, waits-at}
-use Rattle.semantics.proofs.Drives.{driven-none, driven-spent, driven-next}
+use Rattle.semantics.proofs.Drives.{driven-none, driven-spent, driven-next, driven-line}
 use Rattle.semantics.proofs.Operations.{drive-done}
 use Rattle.semantics.proofs.Soundness.{sound-proper}
 use Rattle.semantics.proofs.Steps.{encodable-evaluated}
 use borrow.Author.Tests.{eq-eqb}
 use Rattle.worklist.specs.Cells.{Lowest}
 use Rattle.worklist.specs.Evaluation.{Evaluated}
+use Rattle.worklist.proofs.Evaluation.{graded-of}
+use Rattle.step.specs.Before.{ToldBefore}
+use Rattle.step.specs.Beside.{Beside}
+use Rattle.step.proofs.Telling.{told-holder}
 use Rattle.page.proofs.Head.{conditions-is}
-use Rattle.run.specs.Answers.{Answered}
+use Rattle.run.specs.Answers.{Answered, statusIf}
+use Rattle.run.specs.Steps.{Ready, LastLine, Stopped}
 use Rattle.run.proofs.Answering.{rest-of, waits-of}
 
 module _ (a run₀ : List ℕ) (allowance : ℕ) where
@@ -37,8 +43,16 @@ module _ (a run₀ : List ℕ) (allowance : ℕ) where
   abbrev onward : List ℕ → ℕ → Driven
   onward run taken = driven (pageOf a) (reachedOf (pageOf a) run₀) (allowance - taken) (worklistOf (pageOf a) run)
 
+  -- the last of so many evaluations was of c, which held the grades low and high before: what is told of that is the line `told`
+  pub record Last (run : List ℕ) (taken c low high told : ℕ) : Type 0 where
+    pub some : 0 < taken
+    pub inside : c < conditionsOf a
+    pub low-in : low ≤ topOf a
+    pub high-in : high ≤ topOf a
+    pub tells : (line : ℕ) → ToldBefore a run c low high line → line ≡ told
+
   -- After so many evaluations: the whole drive is these and the one from here on.
-  pub record Driving (run : List ℕ) (taken : ℕ) : Type 0 where
+  pub record Driving (run : List ℕ) (taken c low high : ℕ) : Type 0 where
     pub page-sound : sound a ≡ true
     pub start-sound : runSound (pageOf a) run₀ ≡ true
     pub run-sound : runSound (pageOf a) run ≡ true
@@ -50,8 +64,13 @@ module _ (a run₀ : List ℕ) (allowance : ℕ) where
         ≡ taken + driven (pageOf a) (reachedOf (pageOf a) run₀) (allowance - taken) (worklistOf (pageOf a) run) .taken
     pub state : driven (pageOf a) (reachedOf (pageOf a) run₀) allowance (worklistOf (pageOf a) run₀) .state
         ≡ driven (pageOf a) (reachedOf (pageOf a) run₀) (allowance - taken) (worklistOf (pageOf a) run) .state
+    pub told : ℕ
+    pub line : driven (pageOf a) (reachedOf (pageOf a) run₀) allowance (worklistOf (pageOf a) run₀) .line
+        ≡ lastOf (driven (pageOf a) (reachedOf (pageOf a) run₀) (allowance - taken) (worklistOf (pageOf a) run) .taken) told
+        (driven (pageOf a) (reachedOf (pageOf a) run₀) (allowance - taken) (worklistOf (pageOf a) run) .line)
+    pub last : ((taken ≡ 0) × (told ≡ 0)) ⊎ Last run taken c low high told
 
-  pub driving-first : sound a ≡ true → runSound (pageOf a) run₀ ≡ true → Driving run₀ 0
+  pub driving-first : {c low high : ℕ} → sound a ≡ true → runSound (pageOf a) run₀ ≡ true → Driving run₀ 0 c low high
   driving-first ok rs =
       let z : allowance - 0 ≡ allowance = omega arith in
       record {
@@ -64,35 +83,62 @@ module _ (a run₀ : List ℕ) (allowance : ℕ) where
         within = omega arith;
         count = rw z (omega arith);
         state = rw z;
+        told = 0;
+        line = rw z (driven-line page m (worklistOf page run₀) allowance);
+        last = inl (refl, refl);
       }
 
-  module _ {run : List ℕ} {taken : ℕ} (s : Driving run taken) {c : ℕ} (low : Lowest (conditionsOf a) run c) where
+  module _ {run : List ℕ} {taken c₀ low₀ high₀ : ℕ} (s : Driving run taken c₀ low₀ high₀) {c : ℕ} (low : Lowest (conditionsOf a) run c) where
+    -- the line of the last evaluation is the one told
+    line-is : {line : ℕ} → LastLine a run taken c₀ low₀ high₀ line → line ≡ s .told
+    line-is f = ⊎-elim (λ z. f .none (z .0) ∙ sym (z .1)) (λ z. z .tells _ (f .some (z .some))) (s .last)
+
     -- the run is at rest, or the allowance is used: the drive ends here
-    ends : onward run taken ≡ record { taken = 0; state = worklistOf page run } → {x : Status} → status (worklistOf page run) ≡ x
-        → Answered (operation a run₀ (drive allowance)) (drove taken x) run
-    ends e {x} q =
+    ends : onward run taken ≡ record { taken = 0; line = 0; state = worklistOf page run } → {x : Status} → status (worklistOf page run) ≡ x
+        → {line : ℕ} → line ≡ s .told → Answered (operation a run₀ (drive allowance)) (drove taken line x) run
+    ends e {x} q {line} k =
         let d = drive-done a run₀ (s .page-sound) (s .start-sound) allowance in
         let n : whole .taken ≡ taken = s .count ∙ ap (λ (o : Driven). taken + o .taken) e ∙ omega arith in
+        let j : whole .line ≡ line = s .line ∙ ap (λ (o : Driven). lastOf (o .taken) (s .told) (o .line)) e ∙ sym k in
         let t : whole .state ≡ worklistOf page run = s .state ∙ ap (λ (o : Driven). o .state) e in
         record {
-          answer-is = sym (ap (λ (l : Left). l .answer) d ∙ ap₂ drove n (ap status t ∙ q));
+          answer-is = sym (ap (λ (l : Left). l .answer) d ∙ rw (n, j) (ap (drove taken line) (ap status t ∙ q)));
           run-is = sym (ap (λ (l : Left). l .run) d ∙ ap (λ (b : Worklist). runOf page m b ++ drop (3 * page .conditions) run₀) t
               ∙ ap₂ (λ (k : List Bool) (z : List ℕ). runOf page k (worklistOf page run) ++ z) (sym (s .reached)) (sym (s .beyond))
               ∙ reencoded page run (s .run-sound));
         }
 
-    pub driving-rests : conditionsOf a ≤ c → Answered (operation a run₀ (drive allowance)) (drove taken rest) run
-    driving-rests l =
-        let e = rest-of a run low l in
-        ends (driven-none page m (worklistOf page run) (allowance - taken) e) (ap statusAs e)
+    -- what the last evaluation's line is worked from
+    ready : {words values : List ℕ} → Beside a run words values → Ready a run values taken c₀ low₀ high₀
+    ready b =
+        record {
+          page-sound = s .page-sound;
+          run-sound = s .run-sound;
+          long = b .long;
+          table = b .table;
+          inside = λ k. ⊎-elim (λ z. absurd (omega (arith, z .0))) (λ z. z .inside) (s .last);
+          low-in = λ k. ⊎-elim (λ z. absurd (omega (arith, z .0))) (λ z. z .low-in) (s .last);
+          high-in = λ k. ⊎-elim (λ z. absurd (omega (arith, z .0))) (λ z. z .high-in) (s .last);
+        }
+
+    module _ {words values : List ℕ} (b : Beside a run words values) where
+      pub driving-rests : conditionsOf a ≤ c → Stopped a run₀ allowance run values taken true c₀ low₀ high₀
+      driving-rests l =
+          let e = rest-of a run low l in
+          record { ready = ready b; answers = λ line f. ends (driven-none page m (worklistOf page run) (allowance - taken) e) (ap statusAs e) (line-is f) }
+
+      pub driving-spends : c < conditionsOf a → allowance ≤ taken → Stopped a run₀ allowance run values taken false c₀ low₀ high₀
+      driving-spends l k =
+          record {
+            ready = ready b;
+            answers = λ line f. ends (driven-spent page m (worklistOf page run) (allowance - taken) (omega arith)) (ap statusAs (waits-of a run low l)) (line-is f);
+          }
 
     module _ (l : c < conditionsOf a) where
-      pub driving-spends : allowance ≤ taken → Answered (operation a run₀ (drive allowance)) (drove taken spent) run
-      driving-spends k = ends (driven-spent page m (worklistOf page run) (allowance - taken) (omega arith)) (ap statusAs (waits-of a run low l))
-
       -- one evaluation of the lowest waiting condition
-      pub driving-next : taken < allowance → {run′ : List ℕ} {t : Bool} → Evaluated (pageOf a) c run run′ t → length run′ ≡ length run → Driving run′ (taken + 1)
-      driving-next k {run′} v len =
+      pub driving-next : taken < allowance → {run′ : List ℕ} {t : Bool} → Evaluated (pageOf a) c run run′ t → length run′ ≡ length run
+          → {c′ low′ high′ : ℕ} → (c′ ≡ c) × (low′ ≡ getD run (3 * c) 0) × (high′ ≡ getD run (3 * c + 1) 0) → Driving run′ (taken + 1) c′ low′ high′
+      driving-next k {run′} v len q =
           record {
             page-sound = s .page-sound;
             start-sound = s .start-sound;
@@ -103,6 +149,17 @@ module _ (a run₀ : List ℕ) (allowance : ℕ) where
             within = omega arith;
             count = s .count ∙ ap (λ (o : Driven). taken + o .taken) step ∙ omega arith;
             state = s .state ∙ ap (λ (o : Driven). o .state) step;
+            told = holder page here c;
+            line = s .line ∙ ap (λ (o : Driven). lastOf (o .taken) (s .told) (o .line)) step;
+            last = rw (q .0, q .1, q .2)
+                (inr
+                (record {
+                  some = omega arith;
+                  inside = l;
+                  low-in = graded-of a run (s .page-sound) (s .run-sound) .within c l .low-in;
+                  high-in = graded-of a run (s .page-sound) (s .run-sound) .within c l .high-in;
+                  tells = λ line f. told-holder a run (s .page-sound) (s .run-sound) c l (low .found l) v f;
+                }));
           }
         where
           here : Worklist
@@ -123,8 +180,8 @@ module _ (a run₀ : List ℕ) (allowance : ℕ) where
           held : worklistOf page run′ ≡ evaluated page m here c
           held = ap (worklistOf page) (v .area) ∙ state-back page (reachedOf page run) next fits tail ∙ ap (λ (k : List Bool). evaluated page k here c) (s .reached)
 
-          step : onward run taken ≡ oneMore (onward run′ (taken + 1))
+          step : onward run taken ≡ oneMore (holder page here c) (onward run′ (taken + 1))
           step =
               let e : allowance - taken ≡ suc (allowance - (taken + 1)) = omega arith in
               ap (λ (j : ℕ). driven page m j here) e ∙ driven-next page m here (allowance - (taken + 1)) c (waits-of a run low l)
-              ∙ ap (λ (b : Worklist). oneMore (driven page m (allowance - (taken + 1)) b)) (sym held)
+              ∙ ap (λ (b : Worklist). oneMore (holder page here c) (driven page m (allowance - (taken + 1)) b)) (sym held)

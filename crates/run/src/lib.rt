@@ -1,34 +1,46 @@
-// The operations Evaluate, Drive and Value.
+// The operations Evaluate, Drive, Value and Line held.
 ghost use mathlib.Core.Path.{_≡_};
 ghost use mathlib.Core.Bool.{true};
 ghost use Prim.Native.Nat.{_<_};
 ghost use lib.ListN.{length};
 ghost use Rattle.semantics.specs.Area.{sound, pageOf, conditionsOf};
-ghost use Rattle.semantics.specs.Operation.{evaluateOf, driveOf, valueOf, driveWorkspace, indexLength};
-ghost use Rattle.semantics.specs.RunArea.{markAt, runSound};
+ghost use Rattle.semantics.specs.Operation.{evaluateOf, driveOf, valueOf, lineHeldOf, driveWorkspace, indexLength};
+ghost use Rattle.semantics.specs.RunArea.{markAt, worklistOf, runSound};
+ghost use Rattle.semantics.specs.Worklist.{holder};
 ghost use Rattle.index.specs.Parts.{MaybeLines, MaybeUsers};
 ghost use Rattle.worklist.specs.Evaluation.{Evaluated};
 ghost use Rattle.worklist.specs.Waiting.{WordsMatch};
-ghost use Rattle.run.specs.Answers.{Answered, evaluateAnswerOf, valueAnswerOf, driveAnswerOf};
+ghost use Rattle.run.specs.Answers.{Answered, evaluateAnswerOf, valueAnswerOf, lineAnswerOf, driveAnswerOf};
+ghost use Rattle.run.specs.Steps.{Ready, LastLine, Stopped};
 ghost use Rattle.step.specs.Beside.{Beside};
+use step::Before;
 
-// What an evaluation answers: the number of a refusal, or whether the interval changed.
+// What an evaluation answers: the number of a refusal, or whether the interval changed and which line holds its low end.
 pub enum EvaluateAnswer {
     Refused(u8),
-    Unchanged,
-    Changed,
+    Unchanged(u16),
+    Changed(u16),
+}
+
+// Whether an evaluation changed the interval, and which line holds its low end.
+struct Told {
+    changed: bool,
+    line: u16,
 }
 
 // An evaluation that nothing refuses. The set of those that wait is not asked for, so it is left empty.
-fn evaluate_waiting(page: &[u16], run: &mut [u16], c: u16) -> bool
+fn evaluate_waiting(page: &[u16], run: &mut [u16], c: u16) -> Told
     requires { ⌜ (sound (now page) ≡ true) × (runSound (pageOf (now page)) (now run) ≡ true) × (c < conditionsOf (now page)) × (markAt (now run) c ≡ 2) ⌝ }
-    ensures { λ r. ⌜ Evaluated (pageOf (now (page .entry))) c (now (run .entry)) (now (run .exit)) r ⌝ }
+    ensures { λ r. ⌜ Evaluated (pageOf (now (page .entry))) c (now (run .entry)) (now (run .exit)) (r .changed) × (r .line ≡ holder (pageOf (now (page .entry))) (worklistOf (pageOf (now (page .entry))) (now (run .entry))) c) ⌝ }
 {
     let mut words = [0u64; 8];
     let mut values = [0u8; 1024];
     ends::fill(run, page[1], page[0], &mut values);
     let none = &page[0..0];
-    step::step(page, none, none, run, &mut words, &mut values, c)
+    let before = step::held(run, c);
+    let changed = step::step(page, none, none, run, &mut words, &mut values, c);
+    let line = step::line_told(page, run, &mut values, before);
+    Told { changed, line }
 }
 
 // Evaluate: 10 page area not sound, 14 run area too short or not sound, 15 condition C or more, 16 it is not waiting.
@@ -49,10 +61,11 @@ pub fn evaluate(page: &[u16], run: &mut [u16], condition: u32) -> EvaluateAnswer
     if run[3 * c as usize + 2] != 2 {
         return EvaluateAnswer::Refused(16);
     }
-    if evaluate_waiting(page, run, c) {
-        return EvaluateAnswer::Changed;
+    let told = evaluate_waiting(page, run, c);
+    if told.changed {
+        return EvaluateAnswer::Changed(told.line);
     }
-    EvaluateAnswer::Unchanged
+    EvaluateAnswer::Unchanged(told.line)
 }
 
 // What a value call answers: the number of a refusal, or the interval held and whether the whole run is at rest.
@@ -86,11 +99,56 @@ pub fn value(page: &[u16], run: &[u16], condition: u32) -> ValueAnswer
     }
 }
 
-// What a drive answers: the number of a refusal, or the count of evaluations and whether the run is then at rest.
+// What a line call answers: the number of a refusal, or the line.
+pub enum LineAnswer {
+    Refused(u8),
+    Held(u16),
+}
+
+// The line that holds the low end of T of the intervals held, where nothing refuses.
+fn line_now(page: &[u16], run: &[u16], c: u16) -> u16
+    requires { ⌜ (sound (now page) ≡ true) × (runSound (pageOf (now page)) (now run) ≡ true) × (c < conditionsOf (now page)) ⌝ }
+    ensures { λ r. ⌜ r ≡ holder (pageOf (now (page .entry))) (worklistOf (pageOf (now (page .entry))) (now (run .entry))) c ⌝ }
+{
+    let mut values = [0u8; 1024];
+    ends::fill(run, page[1], page[0], &mut values);
+    let best = body::by_scan(page, &values, c);
+    body::first_line(page, &values, c, best.low)
+}
+
+// Line held: 10 page area not sound, 14 run area too short or not sound, 15 condition C or more, 17 it is not reached.
+pub fn line_held(page: &[u16], run: &[u16], condition: u32) -> LineAnswer
+    ensures { λ r. ⌜ lineAnswerOf r ≡ lineHeldOf (now (page .entry)) (now (run .entry)) condition ⌝ }
+{
+    if !page::page_sound(page) {
+        return LineAnswer::Refused(10);
+    }
+    if !worklist::run_sound(page, run) {
+        return LineAnswer::Refused(14);
+    }
+    let n = page[1];
+    if n as u32 <= condition {
+        return LineAnswer::Refused(15);
+    }
+    let c = condition as u16;
+    if run[3 * c as usize + 2] < 1 {
+        return LineAnswer::Refused(17);
+    }
+    LineAnswer::Held(line_now(page, run, c))
+}
+
+// What a drive answers: the number of a refusal, or the count of evaluations, the line that the last one told, and whether the run is then at rest.
 pub enum DriveAnswer {
     Refused(u8),
-    Rest(u32),
-    Spent(u32),
+    Rest { taken: u32, line: u16 },
+    Spent { taken: u32, line: u16 },
+}
+
+// Where the evaluations of a drive stop: how many were taken, whether none waits, and what the condition of the last one held before it.
+struct Steps {
+    taken: u32,
+    rest: bool,
+    before: Before,
 }
 
 // The evaluations, lowest waiting condition first.
@@ -102,22 +160,47 @@ fn drive_steps(
     words: &mut [u64],
     values: &mut [u8],
     allowance: u32,
-) -> DriveAnswer
+) -> Steps
     requires { ⌜ (sound (now a) ≡ true) × (runSound (pageOf (now a)) (now run) ≡ true) × MaybeLines (now a) (now lines) × MaybeUsers (now a) (now users) × Beside (now a) (now run) (now words) (now values) × WordsMatch (conditionsOf (now a)) (now run) (now words) ⌝ }
-    ensures { λ r. ⌜ Answered (driveOf (now (a .entry)) (now (run .entry)) allowance) (driveAnswerOf r) (now (run .exit)) ⌝ }
+    ensures { λ r. ⌜ Stopped (now (a .entry)) (now (run .entry)) allowance (now (run .exit)) (now (values .exit)) (r .taken) (r .rest) (r .before .condition) (r .before .low) (r .before .high) ⌝ }
 {
     let mut taken: u32 = 0;
+    let mut before = Before {
+        condition: 0,
+        low: 0,
+        high: 0,
+    };
     loop {
         let c = bits::lowest_in(words);
         if 512 <= c {
-            return DriveAnswer::Rest(taken);
+            return Steps {
+                taken,
+                rest: true,
+                before,
+            };
         }
         if allowance <= taken {
-            return DriveAnswer::Spent(taken);
+            return Steps {
+                taken,
+                rest: false,
+                before,
+            };
         }
+        before = step::held(run, c);
         step::step(a, lines, users, run, words, values, c);
         taken += 1;
     }
+}
+
+// The line that the last evaluation told, 0 if none was taken.
+fn last_line(a: &[u16], run: &[u16], values: &mut [u8], taken: u32, before: Before) -> u16
+    requires { ⌜ Ready (now a) (now run) (now values) taken (before .condition) (before .low) (before .high) ⌝ }
+    ensures { λ r. ⌜ LastLine (now (a .entry)) (now (run .entry)) taken (before .condition) (before .low) (before .high) r ⌝ }
+{
+    if taken == 0 {
+        return 0;
+    }
+    step::line_told(a, run, values, before)
 }
 
 // A drive that nothing refuses: the table and the set are made of the run area, then the evaluations are taken.
@@ -135,7 +218,13 @@ fn drive_over(
     let mut values = [0u8; 1024];
     ends::fill(run, a[1], a[0], &mut values);
     worklist::fill_words(run, a[1], &mut words);
-    drive_steps(a, lines, users, run, &mut words, &mut values, allowance)
+    let steps = drive_steps(a, lines, users, run, &mut words, &mut values, allowance);
+    let taken = steps.taken;
+    let line = last_line(a, run, &mut values, taken, steps.before);
+    if steps.rest {
+        return DriveAnswer::Rest { taken, line };
+    }
+    DriveAnswer::Spent { taken, line }
 }
 
 // The same with an index, which is built in the workspace.

@@ -6,7 +6,7 @@ use mathlib.Core.Option.{none, some}
 use Prim.Native.Nat.{ℕ}
 use Rattle.fixpoint.specs.Interval.{Interval}
 use Rattle.semantics.specs.Worklist.{rest, spent}
-use Rattle.semantics.specs.Call.{Call, evaluate, drive, value, Answer, refused, unchanged, changed, drove, valued}
+use Rattle.semantics.specs.Call.{Call, evaluate, drive, value, lineHeld, Answer, refused, unchanged, changed, drove, valued, heldBy}
 use Rattle.semantics.specs.Operation.{Opening, refusedOpening, openedWith, openOf, operation, ClosedOf}
 use Rattle.semantics.proofs.Rows.{interval}
 
@@ -45,6 +45,14 @@ area1 =
 unfoldable pub area7 : List ℕ
 area7 = 10 ∷ 2 ∷ 1 ∷ 8 ∷ 0 ∷ 7 ∷ 0 ∷ 0 ∷ []
 
+-- G,10,1 F,0,5,5 R,0,10,B,0,0
+unfoldable pub areaTwice : List ℕ
+areaTwice = 10 ∷ 1 ∷ 2 ∷ 14 ∷ 0 ∷ 0 ∷ 5 ∷ 5 ∷ 0 ∷ 4 ∷ 10 ∷ 2 ∷ 0 ∷ 0 ∷ []
+
+-- G,10,2 Q,K,0 F,0,0,4 Q,K,1
+unfoldable pub areaAsked : List ℕ
+areaAsked = 10 ∷ 2 ∷ 3 ∷ 16 ∷ 0 ∷ 6 ∷ 0 ∷ 0 ∷ 0 ∷ 0 ∷ 0 ∷ 4 ∷ 1 ∷ 6 ∷ 0 ∷ 0 ∷ []
+
 -- seven numbers: the last lies past 3 × C
 unfoldable pub opened1 : List ℕ
 opened1 = 0 ∷ 10 ∷ 2 ∷ 0 ∷ 10 ∷ 2 ∷ 9 ∷ []
@@ -76,23 +84,37 @@ areaRows =
     ∷ opensOn area1 (0 ∷ many) nines (refusedOpening 11) nines
     ∷ opensOn area1 (0 ∷ 2 ∷ []) nines (refusedOpening 12) nines
     ∷ opensOn area1 (0 ∷ []) (9 ∷ 9 ∷ 9 ∷ 9 ∷ 9 ∷ []) (refusedOpening 13) (9 ∷ 9 ∷ 9 ∷ 9 ∷ 9 ∷ [])
-    ∷ callsOn area1 opened1 (evaluate 0) changed (2 ∷ 10 ∷ 1 ∷ 0 ∷ 10 ∷ 2 ∷ 9 ∷ [])
-    ∷ callsOn area1 (2 ∷ 7 ∷ 1 ∷ 3 ∷ 8 ∷ 2 ∷ 9 ∷ []) (evaluate 1) unchanged rested1
+    ∷ callsOn area1 opened1 (evaluate 0) (changed 2) (2 ∷ 10 ∷ 1 ∷ 0 ∷ 10 ∷ 2 ∷ 9 ∷ [])
+    ∷ callsOn area1 (2 ∷ 7 ∷ 1 ∷ 3 ∷ 8 ∷ 2 ∷ 9 ∷ []) (evaluate 1) (unchanged 3) rested1
     ∷ callsOn area7 opened1 (evaluate 0) (refused 10) opened1
     ∷ callsOn area1 spoilt1 (evaluate 0) (refused 14) spoilt1
     ∷ callsOn area1 opened1 (evaluate 2) (refused 15) opened1
     ∷ callsOn area1 rested1 (evaluate 0) (refused 16) rested1
-    ∷ callsOn area1 opened1 (drive 0) (drove 0 spent) opened1
-    ∷ callsOn area1 opened1 (drive 3) (drove 3 spent) (2 ∷ 7 ∷ 1 ∷ 3 ∷ 8 ∷ 2 ∷ 9 ∷ [])
-    ∷ callsOn area1 opened1 (drive 4) (drove 4 rest) rested1
-    ∷ callsOn area1 opened1 (drive 4294967295) (drove 4 rest) rested1
-    ∷ callsOn area1 rested1 (drive 0) (drove 0 rest) rested1
+    ∷ callsOn area1 opened1 (drive 0) (drove 0 0 spent) opened1
+    ∷ callsOn area1 opened1 (drive 3) (drove 3 2 spent) (2 ∷ 7 ∷ 1 ∷ 3 ∷ 8 ∷ 2 ∷ 9 ∷ [])
+    ∷ callsOn area1 opened1 (drive 4) (drove 4 3 rest) rested1
+    ∷ callsOn area1 opened1 (drive 4294967295) (drove 4 3 rest) rested1
+    ∷ callsOn area1 rested1 (drive 0) (drove 0 0 rest) rested1
     ∷ callsOn area7 opened1 (drive 1) (refused 10) opened1
     ∷ callsOn area1 spoilt1 (drive 1) (refused 14) spoilt1
     ∷ callsOn area1 opened1 (value 0) (valued (interval 0 10) spent) opened1
     ∷ callsOn area1 rested1 (value 1) (valued (interval 3 8) rest) rested1
     ∷ callsOn area1 opened1 (value 2) (refused 15) opened1
     ∷ callsOn area1 unreached1 (value 0) (refused 17) unreached1
+    ∷ callsOn area1 opened1 (lineHeld 0) (heldBy 2) opened1
+    ∷ callsOn area1 rested1 (lineHeld 1) (heldBy 3) rested1
+    ∷ callsOn area1 opened1 (lineHeld 2) (refused 15) opened1
+    ∷ callsOn area1 unreached1 (lineHeld 0) (refused 17) unreached1
+    -- the evaluation tells the fact, on the intervals before it; on the intervals then held the rule gives more
+    ∷ callsOn areaTwice (0 ∷ 10 ∷ 2 ∷ []) (evaluate 0) (changed 2) (5 ∷ 10 ∷ 2 ∷ [])
+    ∷ callsOn areaTwice (5 ∷ 10 ∷ 2 ∷ []) (lineHeld 0) (heldBy 3) (5 ∷ 10 ∷ 2 ∷ [])
+    ∷ callsOn areaTwice (0 ∷ 10 ∷ 2 ∷ []) (drive 1) (drove 1 2 spent) (5 ∷ 10 ∷ 2 ∷ [])
+    ∷ callsOn areaTwice (0 ∷ 10 ∷ 2 ∷ []) (drive 2) (drove 2 3 spent) (10 ∷ 10 ∷ 2 ∷ [])
+    -- a Q line counts as a line and holds nothing; a condition without F and R lines has no line
+    ∷ callsOn areaAsked (0 ∷ 10 ∷ 2 ∷ 0 ∷ 10 ∷ 2 ∷ []) (evaluate 0) (changed 3) (0 ∷ 4 ∷ 1 ∷ 0 ∷ 10 ∷ 2 ∷ [])
+    ∷ callsOn areaAsked (0 ∷ 10 ∷ 2 ∷ 0 ∷ 10 ∷ 2 ∷ []) (evaluate 1) (changed 0) (0 ∷ 10 ∷ 2 ∷ 0 ∷ 0 ∷ 1 ∷ [])
+    ∷ callsOn areaAsked (0 ∷ 4 ∷ 1 ∷ 0 ∷ 10 ∷ 2 ∷ []) (drive 9) (drove 1 0 rest) (0 ∷ 4 ∷ 1 ∷ 0 ∷ 0 ∷ 1 ∷ [])
+    ∷ callsOn areaAsked (0 ∷ 10 ∷ 2 ∷ 0 ∷ 10 ∷ 2 ∷ []) (lineHeld 1) (heldBy 0) (0 ∷ 10 ∷ 2 ∷ 0 ∷ 10 ∷ 2 ∷ [])
     ∷ closesOn area1 (1 ∷ []) scratch1 (9 ∷ 9 ∷ 9 ∷ []) (0 ∷ 0 ∷ 0 ∷ 0 ∷ 0 ∷ 0 ∷ 0 ∷ 0 ∷ 0 ∷ 0 ∷ 0 ∷ 0 ∷ 9 ∷ []) (3 ∷ 8 ∷ 9 ∷ [])
     ∷ refusesOn area7 (1 ∷ []) scratch1 nines 10
     ∷ refusesOn area1 [] scratch1 nines 11
@@ -110,6 +132,9 @@ areaRows =
     ∷ callsOn area7 spoilt1 (value 0) (refused 10) spoilt1
     ∷ callsOn area1 spoilt1 (value 2) (refused 14) spoilt1
     ∷ callsOn area1 unreached1 (value 2) (refused 15) unreached1
+    ∷ callsOn area7 spoilt1 (lineHeld 0) (refused 10) spoilt1
+    ∷ callsOn area1 spoilt1 (lineHeld 2) (refused 14) spoilt1
+    ∷ callsOn area1 unreached1 (lineHeld 2) (refused 15) unreached1
     ∷ refusesOn area7 [] scratch1 nines 10
     ∷ refusesOn area1 (2 ∷ many) scratch1 nines 11
     ∷ refusesOn area1 (2 ∷ []) nines nines 12

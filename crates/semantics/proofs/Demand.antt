@@ -27,7 +27,7 @@ use Rattle.semantics.proofs.Proper.{Proper}
 use Rattle.semantics.specs.Reading.{IsPlain, Reached, closure, bound, reached, countR, countE}
 use Rattle.semantics.specs.RunArea.{runOf, reachedOf, worklistOf, runSound}
 use Rattle.semantics.specs.Table.{listed, intervalOf, member, table, allUnknown}
-use Rattle.semantics.specs.Worklist.{Worklist, start, changes, waitingAfter, evaluated, lowestFrom, lowest, Status, rest, spent, statusAs, status, Driven, driveFrom, driven}
+use Rattle.semantics.specs.Worklist.{Worklist, start, changes, waitingAfter, evaluated, holder, lowestFrom, lowest, Status, rest, spent, statusAs, status, Driven, driveFrom, driven}
 use Rattle.fixpoint.proofs.ChaoticIteration.{kept-first, in-time, none-waits, done}
 use Rattle.fixpoint.proofs.ChaoticStep.{kept}
 use Rattle.semantics.proofs.Areas.{State, state-encodable, area-sound, reached-back, state-back, rest-back}
@@ -49,11 +49,11 @@ rest-iff n b l = (λ e c k. lowest-none 0 (b .waiting) (rest-none (lowest b) e) 
 accepted-by : (page : Page) (m : List Bool) (b : Worklist) (c : ℕ) → c < page .conditions → member (b .waiting) c ≡ true
     → (k : ℕ) → outcome page m b (evaluate c) .answer ≢ refused k
 unfolding outcome
-accepted-by page m b c l e k q = go (changes page b c) (rw (lt-leb (page .conditions) c l, e) at q)
+accepted-by page m b c l e k q = go (changes page b c) (holder page b c) (rw (lt-leb (page .conditions) c l, e) at q)
   where
-    go : (t : Bool) → cond t changed unchanged ≡ refused k → ⊥
-    go true q = let z : _≡_ {A = ℕ} 0 1 = cc in omega arith
-    go false q = let z : _≡_ {A = ℕ} 0 1 = cc in omega arith
+    go : (t : Bool) (line : ℕ) → cond t changed unchanged line ≡ refused k → ⊥
+    go true line q = let z : _≡_ {A = ℕ} 0 1 = cc in omega arith
+    go false line q = let z : _≡_ {A = ℕ} 0 1 = cc in omega arith
 
 under-listed : (n : ℕ) (qs : List ℕ) → allUnder n qs ≡ true → (c : ℕ) → listed c qs ≡ true → c < n
 unfolding allUnder listed

@@ -3,7 +3,7 @@ use mathlib.Core.Path.{_≡_, refl, sym, _∙_, ap}
 use mathlib.Core.Logic.{_≢_}
 use mathlib.Core.Bool.{Bool, true, false}
 use mathlib.Core.List.{List}
-use mathlib.Core.Option.{none, some}
+use mathlib.Core.Option.{Option, none, some}
 use Prim.Native.Nat.{ℕ, zero, suc, _+_, _≤_, _<_}
 use native.Mathlib.Nat.{add-zero, zero-add}
 use native.Mathlib.Omega.{arith}
@@ -12,7 +12,7 @@ use borrow.Author.Tests.{eq-eqb, ne-eqb}
 use Rattle.semantics.specs.Page.{Page}
 use Rattle.semantics.specs.RunArea.{markAt, worklistOf}
 use Rattle.semantics.specs.Table.{tableFrom}
-use Rattle.semantics.specs.Worklist.{Worklist, evaluated, lowestFrom, lowest, oneMore, driveFrom, driven}
+use Rattle.semantics.specs.Worklist.{Worklist, evaluated, holder, lowestFrom, lowest, lastOf, oneMore, driveFrom, driven}
 
 -- the first of n numbers from k on for which p holds
 module _ (p : ℕ → Bool) where
@@ -52,16 +52,26 @@ module _ (page : Page) (r : List ℕ) where
 
 -- a drive
 module _ (page : Page) (m : List Bool) (b : Worklist) where
-  pub driven-none : (k : ℕ) → lowest b ≡ none → driven page m k b ≡ record { taken = 0; state = b }
+  pub driven-none : (k : ℕ) → lowest b ≡ none → driven page m k b ≡ record { taken = 0; line = 0; state = b }
   unfolding driveFrom
   driven-none zero e = refl
   driven-none (suc k) e = rw e
 
-  pub driven-spent : (k : ℕ) → k ≤ 0 → driven page m k b ≡ record { taken = 0; state = b }
+  pub driven-spent : (k : ℕ) → k ≤ 0 → driven page m k b ≡ record { taken = 0; line = 0; state = b }
   unfolding driveFrom
   driven-spent zero l = refl
   driven-spent (suc k) l = absurd (omega arith)
 
-  pub driven-next : (k A : ℕ) → lowest b ≡ some A → driven page m (suc k) b ≡ oneMore (driven page m k (evaluated page m b A))
+  pub driven-next : (k A : ℕ) → lowest b ≡ some A → driven page m (suc k) b ≡ oneMore (holder page b A) (driven page m k (evaluated page m b A))
   unfolding driveFrom
   driven-next k A e = rw e
+
+  -- a drive without an evaluation tells 0
+  driven-line-from : (k : ℕ) (o : Option ℕ) → driveFrom page m k o b .line ≡ lastOf (driveFrom page m k o b .taken) 0 (driveFrom page m k o b .line)
+  unfolding driveFrom
+  driven-line-from zero o = refl
+  driven-line-from (suc k) none = refl
+  driven-line-from (suc k) (some A) = refl
+
+  pub driven-line : (k : ℕ) → driven page m k b .line ≡ lastOf (driven page m k b .taken) 0 (driven page m k b .line)
+  driven-line k = driven-line-from k (lowest b)

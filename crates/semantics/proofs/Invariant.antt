@@ -18,13 +18,13 @@ use Rattle.fixpoint.specs.KnowledgeOrder.{Under, bottom}
 use Rattle.fixpoint.specs.LeastFixpoint.{IsLeast}
 use Rattle.fixpoint.specs.System.{System}
 use Rattle.semantics.specs.Body.{T}
-use Rattle.semantics.specs.Call.{Call, evaluate, drive, value, Answer, refused, changed, unchanged, drove, valued, Outcome, Cause, cause, firstOf, unless, outcome, takenBy, taken}
+use Rattle.semantics.specs.Call.{Call, evaluate, drive, value, lineHeld, Answer, refused, changed, unchanged, drove, valued, Outcome, Cause, cause, firstOf, unless, valueCauses, outcome, takenBy, taken}
 use Rattle.semantics.specs.Demand.{performFrom, performBook}
 use Rattle.semantics.specs.Page.{Page, names}
 use Rattle.semantics.proofs.Proper.{Proper}
 use Rattle.semantics.specs.Reading.{IsPlain, Reached, closure, bound, reached}
 use Rattle.semantics.specs.Table.{listed, intervalOf, member, table, allUnknown}
-use Rattle.semantics.specs.Worklist.{Worklist, start, changes, waitingAfter, evaluated, lowestFrom, lowest, Status, rest, spent, statusAs, status, Driven, driveFrom, driven}
+use Rattle.semantics.specs.Worklist.{Worklist, start, changes, waitingAfter, evaluated, holder, lowestFrom, lowest, Status, rest, spent, statusAs, status, Driven, driveFrom, driven}
 use Rattle.fixpoint.proofs.ChaoticIteration.{kept-first, in-time, none-waits, done}
 use Rattle.fixpoint.proofs.ChaoticStep.{kept}
 use Rattle.semantics.proofs.Closure.{reached-closed, reached-complete, bound-is, closure-length}
@@ -49,9 +49,9 @@ pub rest-none : (o : Option ℕ) → statusAs o ≡ rest → o ≡ none
 rest-none none e = refl
 rest-none (some a) e = absurd (let z : _≡_ {A = ℕ} 0 1 = cc in omega arith)
 
-takes-one : (t : Bool) → takenBy (cond t changed unchanged) ≡ 1
-takes-one true = refl
-takes-one false = refl
+takes-one : (t : Bool) (line : ℕ) → takenBy (cond t changed unchanged line) ≡ 1
+takes-one true line = refl
+takes-one false line = refl
 
 -- no cause of a list holds
 abbrev pub NoCause : List Cause → Type 0
@@ -145,9 +145,10 @@ module _ (page : Page) (w : Proper page) (qs : List ℕ) (P : Assign) (p : IsPla
   invariant-call b t (evaluate A) h =
       invariant-unless (cause (leb n A) 15 ∷ cause (not (member (b .waiting) A)) 16 ∷ []) b _ t h
       (λ e. let f = no-cause-holds (cause (leb n A) 15 ∷ cause (not (member (b .waiting) A)) 16 ∷ []) e in
-      move (omega (arith, takes-one (changes page b A))) (invariant-next b t A h (leb-false n A (f .0)) (not-false (member (b .waiting) A) (f .1 .0))))
+      move (omega (arith, takes-one (changes page b A) (holder page b A))) (invariant-next b t A h (leb-false n A (f .0)) (not-false (member (b .waiting) A) (f .1 .0))))
   invariant-call b t (drive k) h = invariant-drive k (lowest b) b t refl h
-  invariant-call b t (value A) h = invariant-unless (cause (leb n A) 15 ∷ cause (not (member m A)) 17 ∷ []) b _ t h (λ e. move (omega arith) h)
+  invariant-call b t (value A) h = invariant-unless (valueCauses page m A) b _ t h (λ e. move (omega arith) h)
+  invariant-call b t (lineHeld A) h = invariant-unless (valueCauses page m A) b _ t h (λ e. move (omega arith) h)
 
   pub invariant-calls : (cs : List Call) (b : Worklist) (t : ℕ) → Invariant b t → Invariant (performFrom page m b cs .state) (t + taken (performFrom page m b cs .answers))
   unfolding performFrom taken

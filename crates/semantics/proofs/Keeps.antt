@@ -1,4 +1,4 @@
--- What the operations on areas keep: a refusal and a value call leave the area, a drive takes exactly its count. Assumes nothing.
+-- What the operations on areas keep: a refusal, a value call and a line call leave the area, a drive takes exactly its count. Assumes nothing.
 use mathlib.Core.Path.{_≡_, refl, sym, _∙_, ap, ap₂}
 use mathlib.Core.Logic.{_≢_}
 use mathlib.Core.Bool.{Bool, true, false, not, cond}
@@ -11,14 +11,14 @@ use lib.ListN.{length, drop}
 use borrow.Author.Tests.{not-false, ltb-true}
 use Rattle.fixpoint.specs.Interval.{Interval, Assign}
 use Rattle.semantics.specs.Area.{sound, pageOf, allUnder}
-use Rattle.semantics.specs.Call.{Call, evaluate, drive, value, Answer, refused, changed, unchanged, drove, valued, Cause, cause, firstOf, Outcome, unless, outcome}
+use Rattle.semantics.specs.Call.{Call, evaluate, drive, value, lineHeld, Answer, refused, changed, unchanged, drove, valued, heldBy, Cause, cause, firstOf, Outcome, unless, valueCauses, outcome}
 use Rattle.semantics.specs.Operation.{Left, leftAs, operation, ends, ClosedAnswers, ClosedAs, ClosedOf, closedCauses, scratchLength, zeros}
 use Rattle.semantics.specs.Page.{Page}
 use Rattle.semantics.proofs.Proper.{Proper}
 use Rattle.semantics.specs.Reading.{IsClosed}
 use Rattle.semantics.specs.RunArea.{runSound, runOf, reachedOf, worklistOf}
 use Rattle.semantics.specs.Table.{member, intervalOf, listed}
-use Rattle.semantics.specs.Worklist.{Worklist, changes, evaluated, lowest, Status, rest, status, statusAs, Driven, oneMore, driveFrom, driven}
+use Rattle.semantics.specs.Worklist.{Worklist, changes, evaluated, holder, lowest, Status, rest, status, statusAs, Driven, oneMore, driveFrom, driven}
 use Rattle.semantics.proofs.Areas.{reencoded}
 use Rattle.semantics.proofs.Invariant.{NoCause, no-cause-holds}
 use Rattle.semantics.proofs.Readings.{closed-one}
@@ -46,35 +46,45 @@ drive-from-exact page m (suc k) (some A) b e =
 pub drive-exact : (page : Page) (m : List Bool) (k : ℕ) (b : Worklist) → Exact page m k b (driven page m k b)
 drive-exact page m k b = drive-from-exact page m k (lowest b) b refl
 
--- A refusal changes no lent number, and a value call changes none: the area is encoded again as it was.
+-- A refusal changes no lent number, and a value call and a line call change none: the area is encoded again as it was.
 kept-unless : (o : Option ℕ) (b : Worklist) (w : Outcome) (k : ℕ) → ((j : ℕ) → w .answer ≢ refused j) → unless o b w .answer ≡ refused k → unless o b w .state ≡ b
 kept-unless none b w k h e = absurd (h k e)
 kept-unless (some j) b w k h e = refl
 
-not-refused : (t : Bool) (k : ℕ) → cond t changed unchanged ≢ refused k
-not-refused true k e = let z : _≡_ {A = ℕ} 0 1 = cc in omega arith
-not-refused false k e = let z : _≡_ {A = ℕ} 0 1 = cc in omega arith
+not-refused : (t : Bool) (line k : ℕ) → cond t changed unchanged line ≢ refused k
+not-refused true line k e = let z : _≡_ {A = ℕ} 0 1 = cc in omega arith
+not-refused false line k e = let z : _≡_ {A = ℕ} 0 1 = cc in omega arith
 
 valued-not : (p : Interval) (s : Status) (k : ℕ) → valued p s ≢ refused k
 valued-not p s k e = let z : _≡_ {A = ℕ} 0 1 = cc in omega arith
+
+held-not : (line k : ℕ) → heldBy line ≢ refused k
+held-not line k e = let z : _≡_ {A = ℕ} 0 1 = cc in omega arith
 
 refused-state : (page : Page) (m : List Bool) (b : Worklist) (c : Call) (k : ℕ) → outcome page m b c .answer ≡ refused k → outcome page m b c .state ≡ b
 unfolding outcome
 refused-state page m b (evaluate A) k e =
     kept-unless (firstOf (cause (leb (page .conditions) A) 15 ∷ cause (not (member (b .waiting) A)) 16 ∷ [])) b
-    (record { answer = cond (changes page b A) changed unchanged; state = evaluated page m b A }) k (λ j. not-refused (changes page b A) j) e
+    (record { answer = cond (changes page b A) changed unchanged (holder page b A); state = evaluated page m b A }) k (λ j. not-refused (changes page b A) (holder page b A) j) e
 refused-state page m b (drive n) k e = absurd (let z : _≡_ {A = ℕ} 0 1 = cc in omega arith)
 refused-state page m b (value A) k e =
-    kept-unless (firstOf (cause (leb (page .conditions) A) 15 ∷ cause (not (member m A)) 17 ∷ [])) b
+    kept-unless (firstOf (valueCauses page m A)) b
     (record { answer = valued (intervalOf (b .intervals) A) (status b); state = b }) k (λ j. valued-not (intervalOf (b .intervals) A) (status b) j) e
+refused-state page m b (lineHeld A) k e =
+    kept-unless (firstOf (valueCauses page m A)) b (record { answer = heldBy (holder page b A); state = b }) k (λ j. held-not (holder page b A) j) e
+
+-- a call that leaves the state where nothing refuses it leaves it always
+stays : (o : Option ℕ) (b : Worklist) (x : Answer) → unless o b (record { answer = x; state = b }) .state ≡ b
+stays none b x = refl
+stays (some k) b x = refl
 
 value-state : (page : Page) (m : List Bool) (b : Worklist) (c : ℕ) → outcome page m b (value c) .state ≡ b
 unfolding outcome
-value-state page m b c = go (firstOf (cause (leb (page .conditions) c) 15 ∷ cause (not (member m c)) 17 ∷ []))
-  where
-    go : (o : Option ℕ) → unless o b (record { answer = valued (intervalOf (b .intervals) c) (status b); state = b }) .state ≡ b
-    go none = refl
-    go (some k) = refl
+value-state page m b c = stays (firstOf (valueCauses page m c)) b _
+
+line-state : (page : Page) (m : List Bool) (b : Worklist) (c : ℕ) → outcome page m b (lineHeld c) .state ≡ b
+unfolding outcome
+line-state page m b c = stays (firstOf (valueCauses page m c)) b _
 
 module _ (a r : List ℕ) (c : Call) where
   abbrev causes : List Cause
@@ -101,6 +111,10 @@ module _ (a r : List ℕ) (c : Call) where
 pub value-keeps : (a r : List ℕ) (c : ℕ) → operation a r (value c) .run ≡ r
 unfolding operation
 value-keeps a r c = keeps a r (value c) (firstOf (causes a r (value c))) refl (λ h. value-state (pageOf a) _ _ c)
+
+pub line-keeps : (a r : List ℕ) (c : ℕ) → operation a r (lineHeld c) .run ≡ r
+unfolding operation
+line-keeps a r c = keeps a r (lineHeld c) (firstOf (causes a r (lineHeld c))) refl (λ h. line-state (pageOf a) _ _ c)
 
 -- A closed call leaves one result and one content of each slice.
 pub ends-same : (n : ℕ) (C D : Assign) → ((c : ℕ) → c < n → C c ≡ D c) → (qs : List ℕ) → allUnder n qs ≡ true → ends C qs ≡ ends D qs

@@ -49,5 +49,7 @@ pub mod Operations
 -- workspaces
 pub mod Workspaces
 pub mod Drives
+-- which line holds the low end
+pub mod Holding
 -- no interval widens
 pub mod Narrowing

@@ -13,7 +13,7 @@ use borrow.Author.Tests.{leb-false, not-false}
 use Rattle.fixpoint.specs.Interval.{Interval, Assign}
 use Rattle.fixpoint.specs.KnowledgeOrder.{Under}
 use Rattle.semantics.specs.Area.{sound, pageOf}
-use Rattle.semantics.specs.Call.{Call, evaluate, drive, value, Outcome, Cause, cause, firstOf, unless, outcome, takenBy, taken}
+use Rattle.semantics.specs.Call.{Call, evaluate, drive, value, lineHeld, Outcome, Cause, cause, firstOf, unless, valueCauses, outcome, takenBy, taken}
 use Rattle.semantics.specs.Demand.{perform, performFrom, performBook, bookAt}
 use Rattle.semantics.specs.Operation.{openCauses, openOf, openedWith}
 use Rattle.semantics.specs.Page.{Page}
@@ -84,8 +84,8 @@ module _ (page : Page) (w : Proper page) (qs : List ℕ) where
       (λ e. let f = no-cause-holds (cause (leb (page .conditions) A) 15 ∷ cause (not (member (b .waiting) A)) 16 ∷ []) e in
       narrower-next b t A h (leb-false (page .conditions) A (f .0)) (not-false (member (b .waiting) A) (f .1 .0)))
   narrower-call b t (drive k) h = narrower-drive k (lowest b) b t refl h
-  narrower-call b t (value A) h =
-      narrower-unless (cause (leb (page .conditions) A) 15 ∷ cause (not (member m A)) 17 ∷ []) b _ (λ e. narrower-refl b)
+  narrower-call b t (value A) h = narrower-unless (valueCauses page m A) b _ (λ e. narrower-refl b)
+  narrower-call b t (lineHeld A) h = narrower-unless (valueCauses page m A) b _ (λ e. narrower-refl b)
 
   narrower-calls : (cs : List Call) (b : Worklist) (t : ℕ) → State page w qs b t → Narrower b (performFrom page m b cs .state)
   unfolding performFrom

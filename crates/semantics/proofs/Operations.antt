@@ -1,4 +1,4 @@
--- What evaluate, drive and value answer and leave on areas, cause by cause. Assumes nothing.
+-- What evaluate, drive, value and line held answer and leave on areas, cause by cause. Assumes nothing.
 use mathlib.Core.Path.{_≡_, refl, _∙_, ap}
 use mathlib.Core.Logic.{_≢_}
 use mathlib.Core.Bool.{Bool, true, false, cond}
@@ -8,11 +8,11 @@ use native.Mathlib.Omega.{arith}
 use lib.ListN.{drop}
 use borrow.Author.Tests.{le-leb, lt-leb, eq-eqb, ne-eqb}
 use Rattle.semantics.specs.Area.{sound, pageOf}
-use Rattle.semantics.specs.Call.{Call, evaluate, drive, value, Answer, refused, changed, unchanged, drove, valued, Outcome, outcome}
+use Rattle.semantics.specs.Call.{Call, evaluate, drive, value, lineHeld, Answer, refused, changed, unchanged, drove, valued, heldBy, Outcome, outcome}
 use Rattle.semantics.specs.Operation.{operation}
 use Rattle.semantics.specs.Page.{Page}
 use Rattle.semantics.specs.RunArea.{runOf, intervalAt, markAt, worklistOf, reachedOf, runSound}
-use Rattle.semantics.specs.Worklist.{Worklist, changes, evaluated, status, driven}
+use Rattle.semantics.specs.Worklist.{Worklist, changes, evaluated, holder, status, driven}
 use Rattle.semantics.proofs.Areas.{held-at, waits-at, reached-at, reencoded}
 
 module _ (a r : List ℕ) where
@@ -53,6 +53,10 @@ module _ (a r : List ℕ) where
         unfolding outcome
         value-beyond h = keeps (value c) (refused 15) (rw (le-leb (page .conditions) c h))
 
+        pub line-beyond : pageOf a .conditions ≤ c → operation a r (lineHeld c) ≡ record { answer = refused 15; run = r }
+        unfolding outcome
+        line-beyond h = keeps (lineHeld c) (refused 15) (rw (le-leb (page .conditions) c h))
+
         module _ (l : c < pageOf a .conditions) where
           pub evaluate-idle : markAt r c ≢ 2 → operation a r (evaluate c) ≡ record { answer = refused 16; run = r }
           unfolding outcome
@@ -61,7 +65,7 @@ module _ (a r : List ℕ) where
           pub evaluate-done : markAt r c ≡ 2
               → operation a r (evaluate c)
               ≡ record {
-                answer = cond (changes (pageOf a) (worklistOf (pageOf a) r) c) changed unchanged;
+                answer = cond (changes (pageOf a) (worklistOf (pageOf a) r) c) changed unchanged (holder (pageOf a) (worklistOf (pageOf a) r) c);
                 run = runOf (pageOf a) (reachedOf (pageOf a) r) (evaluated (pageOf a) (reachedOf (pageOf a) r) (worklistOf (pageOf a) r) c) ++ drop (3 * pageOf a .conditions) r;
               }
           unfolding outcome
@@ -77,10 +81,20 @@ module _ (a r : List ℕ) where
               keeps (value c) (valued (intervalAt r c) (status b))
               (rw (lt-leb (page .conditions) c l, reached-at page r c l ∙ le-leb 1 (markAt r c) (omega arith), held-at page r c l))
 
+          pub line-unreached : markAt r c ≤ 0 → operation a r (lineHeld c) ≡ record { answer = refused 17; run = r }
+          unfolding outcome
+          line-unreached h = keeps (lineHeld c) (refused 17) (rw (lt-leb (page .conditions) c l, reached-at page r c l ∙ lt-leb 1 (markAt r c) (omega arith)))
+
+          pub line-done : 0 < markAt r c → operation a r (lineHeld c) ≡ record { answer = heldBy (holder (pageOf a) (worklistOf (pageOf a) r) c); run = r }
+          unfolding outcome
+          line-done h =
+              keeps (lineHeld c) (heldBy (holder page b c))
+              (rw (lt-leb (page .conditions) c l, reached-at page r c l ∙ le-leb 1 (markAt r c) (omega arith)))
+
       pub drive-done : (k : ℕ)
           → operation a r (drive k)
           ≡ record {
-            answer = drove (driven (pageOf a) (reachedOf (pageOf a) r) k (worklistOf (pageOf a) r) .taken) (status (driven (pageOf a) (reachedOf (pageOf a) r) k (worklistOf (pageOf a) r) .state));
+            answer = drove (driven (pageOf a) (reachedOf (pageOf a) r) k (worklistOf (pageOf a) r) .taken) (driven (pageOf a) (reachedOf (pageOf a) r) k (worklistOf (pageOf a) r) .line) (status (driven (pageOf a) (reachedOf (pageOf a) r) k (worklistOf (pageOf a) r) .state));
             run = runOf (pageOf a) (reachedOf (pageOf a) r) (driven (pageOf a) (reachedOf (pageOf a) r) k (worklistOf (pageOf a) r) .state) ++ drop (3 * pageOf a .conditions) r;
           }
       unfolding outcome

@@ -8,7 +8,7 @@ use lib.Dec.{eqb}
 use lib.ListN.{getD}
 use borrow.Author.Tests.{eqb-true, not-true}
 use Rattle.fixpoint.specs.Interval.{same, Interval}
-use Rattle.semantics.specs.Call.{Answer, refused, unchanged, changed, drove, valued}
+use Rattle.semantics.specs.Call.{Answer, refused, unchanged, changed, drove, valued, heldBy}
 use Rattle.semantics.specs.Operation.{Opening, refusedOpening, openedWith}
 use Rattle.semantics.specs.Worklist.{Status, rest, spent}
 use Rattle.fixpoint.proofs.Evaluation.{same-true}
@@ -88,7 +88,7 @@ same-opening (openedWith r e b) (openedWith R E B) q =
     let k = both-true (eqb e E) (eqb b B) (h .1) in
     rw (eqb-true r R (h .0), eqb-true e E (k .0), eqb-true b B (k .1)) refl
 
--- an answer as numbers: which of the five it is, and its figures
+-- an answer as numbers: which of the six it is, and its figures
 abbrev statusNumber : Status → ℕ
 statusNumber rest = 0
 statusNumber spent = 1
@@ -98,17 +98,19 @@ statusIn k = cond (eqb k 0) rest spent
 
 unfoldable pub figures : Answer → List ℕ
 figures (refused k) = 0 ∷ k ∷ []
-figures unchanged = 1 ∷ []
-figures changed = 2 ∷ []
-figures (drove k s) = 3 ∷ k ∷ statusNumber s ∷ []
+figures (unchanged l) = 1 ∷ l ∷ []
+figures (changed l) = 2 ∷ l ∷ []
+figures (drove k l s) = 3 ∷ k ∷ l ∷ statusNumber s ∷ []
 figures (valued p s) = 4 ∷ p .low ∷ p .high ∷ statusNumber s ∷ []
+figures (heldBy l) = 5 ∷ l ∷ []
 
 abbrev answerAs : ℕ → ℕ → ℕ → ℕ → Answer
 answerAs t x y z =
     cond (eqb t 0) (refused x)
-    (cond (eqb t 1) unchanged
-    (cond (eqb t 2) changed
-    (cond (eqb t 3) (drove x (statusIn y)) (valued (record { low = x; high = y }) (statusIn z)))))
+    (cond (eqb t 1) (unchanged x)
+    (cond (eqb t 2) (changed x)
+    (cond (eqb t 3) (drove x y (statusIn z))
+    (cond (eqb t 4) (valued (record { low = x; high = y }) (statusIn z)) (heldBy x)))))
 
 abbrev answerIn : List ℕ → Answer
 answerIn l = answerAs (getD l 0 0) (getD l 1 0) (getD l 2 0) (getD l 3 0)
@@ -116,12 +118,13 @@ answerIn l = answerAs (getD l 0 0) (getD l 1 0) (getD l 2 0) (getD l 3 0)
 answer-back : (a : Answer) → answerIn (figures a) ≡ a
 unfolding figures
 answer-back (refused k) = refl
-answer-back unchanged = refl
-answer-back changed = refl
-answer-back (drove k rest) = refl
-answer-back (drove k spent) = refl
+answer-back (unchanged l) = refl
+answer-back (changed l) = refl
+answer-back (drove k l rest) = refl
+answer-back (drove k l spent) = refl
 answer-back (valued p rest) = refl
 answer-back (valued p spent) = refl
+answer-back (heldBy l) = refl
 
 pub same-answer : (a b : Answer) → sameNumbers (figures a) (figures b) ≡ true → a ≡ b
 same-answer a b e = sym (answer-back a) ∙ ap answerIn (same-numbers (figures a) (figures b) e) ∙ answer-back b

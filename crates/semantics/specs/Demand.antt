@@ -1,4 +1,4 @@
--- Demand 3: any accepted opening, then any list of evaluations, drives and value calls. One statement. Assumes nothing.
+-- Demand 3: any accepted opening, then any list of evaluations, drives, value and line calls. One statement. Assumes nothing.
 use mathlib.Core.Path.{_≡_}
 use mathlib.Core.Logic.{_≢_, _↔_}
 use mathlib.Core.Bool.{Bool, true, false}

@@ -4,6 +4,8 @@ pub mod Grade
 -- "The page", without its text, and the body value T
 pub mod Page
 pub mod Body
+-- which line holds the low end of T
+pub mod Holding
 -- lists that stand for sets and assignments
 pub mod Table
 -- "The two readings"; reached, R and E

@@ -13,7 +13,7 @@ use Rattle.semantics.specs.Area.{sound, pageOf, firstLine, conditionsOf,
 use Rattle.semantics.specs.Reading.{IsClosed, closure, countR, countE, bound}
 use Rattle.semantics.specs.Worklist.{Worklist, start}
 use Rattle.semantics.specs.RunArea.{runOf, worklistOf, reachedOf, runSound}
-use Rattle.semantics.specs.Call.{Call, evaluate, drive, value, Answer, refused, Cause, cause, firstOf, Outcome, outcome}
+use Rattle.semantics.specs.Call.{Call, evaluate, drive, value, lineHeld, Answer, refused, Cause, cause, firstOf, Outcome, outcome}
 
 -- Open a run: a refusal's number, or R, E and R + top × E
 pub data Opening : Type 0 where
@@ -48,7 +48,7 @@ openAs none page m r =
 unfoldable pub openOf : List ℕ → List ℕ → List ℕ → Opened
 openOf a qs r = openAs (firstOf (openCauses a qs r)) (pageOf a) (closure (pageOf a) qs) r
 
--- Evaluate, drive and value: an answer, and what the run area then holds. 10 page area not sound; 14 run area too short or not sound
+-- Evaluate, drive, value and line held: an answer, and what the run area then holds. 10 page area not sound; 14 run area too short or not sound
 pub record Left : Type 0 where
   pub answer : Answer
   pub run : List ℕ
@@ -57,7 +57,7 @@ abbrev pub leftAs : Option ℕ → Page → List ℕ → Outcome → Left
 leftAs (some k) page r o = record { answer = refused k; run = r }
 leftAs none page r o = record { answer = o .answer; run = runOf page (reachedOf page r) (o .state) ++ drop (3 * page .conditions) r }
 
--- refusals 10 and 14 of Evaluate, Drive and Value; the others are among the answers of `outcome`
+-- refusals 10 and 14 of Evaluate, Drive, Value and Line held; the others are among the answers of `outcome`
 abbrev pub runCauses : List ℕ → List ℕ → List Cause
 runCauses a r = cause (not (sound a)) 10 ∷ cause (not (runSound (pageOf a) r)) 14 ∷ []
 
@@ -74,6 +74,10 @@ driveOf a r k = operation a r (drive k)
 
 abbrev pub valueOf : List ℕ → List ℕ → ℕ → Answer
 valueOf a r c = operation a r (value c) .answer
+
+-- the line that holds the low end of T of the intervals held: it may differ from what the last evaluation of c told
+abbrev pub lineHeldOf : List ℕ → List ℕ → ℕ → Answer
+lineHeldOf a r c = operation a r (lineHeld c) .answer
 
 -- A workspace: numbers lent for an index of the page, which makes a drive and the closed reading fast and changes no answer. The index
 -- takes C + 1 numbers and one for each line, then 2 × C + 1 and one for each literal.

@@ -10,6 +10,7 @@ use lib.ListN.{set}
 use Rattle.fixpoint.specs.Interval.{Interval, same}
 use Rattle.semantics.specs.Page.{Page, names}
 use Rattle.semantics.specs.Body.{T}
+use Rattle.semantics.specs.Holding.{lineHolding}
 use Rattle.semantics.specs.Table.{table, member, intervalOf, allUnknown}
 
 -- the book: "a pair for each condition and which conditions wait"
@@ -40,6 +41,10 @@ evaluated page m b A =
       waiting = waitingAfter page m (changes page b A) (b .waiting) A;
     }
 
+-- which line holds the low end of T of the pairs, at A: what the evaluation of A tells, on the pairs held before it
+abbrev pub holder : Page → Worklist → ℕ → ℕ
+holder page b A = lineHolding page (intervalOf (b .intervals)) A
+
 -- the lowest waiting condition
 unfoldable pub lowestFrom : ℕ → List Bool → Option ℕ
 lowestFrom k [] = none
@@ -60,18 +65,26 @@ statusAs (some c) = spent
 abbrev pub status : Worklist → Status
 status b = statusAs (lowest b)
 
--- Drive: "the lowest waiting condition is evaluated, until none waits or the allowance is used"; with the count of evaluations
+-- Drive: "the lowest waiting condition is evaluated, until none waits or the allowance is used"; with the count of evaluations, and the
+-- line that the last of them told, "0 if it took none"
 pub record Driven : Type 0 where
   pub taken : ℕ
+  pub line : ℕ
   pub state : Worklist
 
-abbrev pub oneMore : Driven → Driven
-oneMore d = record { taken = suc (d .taken); state = d .state }
+-- what the last evaluation told, of one and so many behind it
+abbrev pub lastOf : (behind : ℕ) → (line later : ℕ) → ℕ
+lastOf zero line later = line
+lastOf (suc k) line later = later
+
+-- a drive with one evaluation more, before the others
+abbrev pub oneMore : (line : ℕ) → Driven → Driven
+oneMore line d = record { taken = suc (d .taken); line = lastOf (d .taken) line (d .line); state = d .state }
 
 unfoldable pub driveFrom : Page → List Bool → ℕ → Option ℕ → Worklist → Driven
-driveFrom page m zero o b = record { taken = 0; state = b }
-driveFrom page m (suc k) none b = record { taken = 0; state = b }
-driveFrom page m (suc k) (some A) b = let b′ = evaluated page m b A in oneMore (driveFrom page m k (lowest b′) b′)
+driveFrom page m zero o b = record { taken = 0; line = 0; state = b }
+driveFrom page m (suc k) none b = record { taken = 0; line = 0; state = b }
+driveFrom page m (suc k) (some A) b = let b′ = evaluated page m b A in oneMore (holder page b A) (driveFrom page m k (lowest b′) b′)
 
 abbrev pub driven : Page → List Bool → ℕ → Worklist → Driven
 driven page m k b = driveFrom page m k (lowest b) b

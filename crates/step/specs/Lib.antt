@@ -1,2 +1,4 @@
 -- what is held beside the areas
 pub mod Beside
+-- which line an evaluation tells
+pub mod Before

@@ -1,12 +1,15 @@
-// An evaluation of a waiting condition: its cell, its dependants, and what is held beside the run area.
+// An evaluation of a waiting condition: its cell, its dependants, and what is held beside the run area. Which line holds the new low end.
 ghost use mathlib.Core.Path.{_≡_};
 ghost use mathlib.Core.Bool.{true};
-ghost use Prim.Native.Nat.{_≤_, _<_, _*_};
-ghost use lib.ListN.{length};
+ghost use Prim.Native.Nat.{_≤_, _<_, _+_, _*_};
+ghost use lib.ListN.{length, getD};
 ghost use Rattle.semantics.specs.Area.{sound, pageOf, topOf, conditionsOf};
-ghost use Rattle.semantics.specs.RunArea.{markAt, runSound};
+ghost use Rattle.semantics.specs.Grade.{lower};
+ghost use Rattle.semantics.specs.RunArea.{markAt, intervalAt, runSound};
+ghost use Rattle.value.specs.Table.{EndTable};
 ghost use Rattle.index.specs.Parts.{MaybeLines, MaybeUsers};
 ghost use Rattle.step.specs.Beside.{Beside, Changed, EvaluatedBeside};
+ghost use Rattle.step.specs.Before.{ToldBefore};
 
 // The condition c holds [low; high] and waits no longer, and its dependants wait. The table and the set follow.
 fn change(
@@ -52,4 +55,36 @@ pub fn step(
     }
     run[at + 2] = 1;
     false
+}
+
+// A condition that is evaluated, and what it held before.
+pub struct Before {
+    pub condition: u16,
+    pub low: u16,
+    pub high: u16,
+}
+
+// What c holds now.
+pub fn held(run: &[u16], c: u16) -> Before
+    requires { ⌜ 3 * c + 3 ≤ length (now run) ⌝ }
+    ensures { λ r. ⌜ (r .condition ≡ c) × (r .low ≡ getD (now (run .entry)) (3 * c) 0) × (r .high ≡ getD (now (run .entry)) (3 * c + 1) 0) ⌝ }
+{
+    let at = 3 * c as usize;
+    Before {
+        condition: c,
+        low: run[at],
+        high: run[at + 1],
+    }
+}
+
+// The line that holds the low end of a condition that was just evaluated, on the intervals held before: the table goes back to them.
+pub fn line_told(a: &[u16], run: &[u16], values: &mut [u8], before: Before) -> u16
+    requires { ⌜ (sound (now a) ≡ true) × (runSound (pageOf (now a)) (now run) ≡ true) × (2 * conditionsOf (now a) ≤ length (now values)) × EndTable lower (topOf (now a)) (conditionsOf (now a)) (intervalAt (now run)) (now values) × (before .condition < conditionsOf (now a)) × (before .low ≤ topOf (now a)) × (before .high ≤ topOf (now a)) ⌝ }
+    ensures { λ r. ⌜ ToldBefore (now (a .entry)) (now (run .entry)) (before .condition) (before .low) (before .high) r ⌝ }
+{
+    let c = before.condition;
+    let top = a[0];
+    let low = run[3 * c as usize];
+    ends::store(values, c, before.low, top - before.high);
+    body::first_line(a, values, c, low)
 }

@@ -79,7 +79,9 @@ fn plain_of(trial: &mut Trial, area: &[u16], cond: u16) -> Check<(Pair, u32)> {
     let (mut run, opened) = opened(trial, area, cond)?;
     let driven = trial.drive(area, &mut run, opened.bound)?;
     let taken = match driven {
-        Ok(Driven { taken, rest: true }) => taken,
+        Ok(Driven {
+            taken, rest: true, ..
+        }) => taken,
         other => return Err(format!("the drive ends as {other:?}")),
     };
     let valued = trial.value(area, &run, u32::from(cond))?;
@@ -153,6 +155,7 @@ fn row_02_bound_22_spent_after_3_rest_after_4(trial: &mut Trial, _: u64) -> Chec
     let driven = trial.drive(&area, &mut three, 3)?;
     let wanted = Driven {
         taken: 3,
+        line: 2,
         rest: false,
     };
     figure("allowance 3", driven, Ok(wanted))?;
@@ -161,6 +164,7 @@ fn row_02_bound_22_spent_after_3_rest_after_4(trial: &mut Trial, _: u64) -> Chec
     let driven = trial.drive(&area, &mut four, 4)?;
     let wanted = Driven {
         taken: 4,
+        line: 3,
         rest: true,
     };
     figure("allowance 4", driven, Ok(wanted))?;

@@ -154,9 +154,19 @@ fn evaluate_pairs(trial: &mut Trial, item: u64) -> Check {
     Ok(())
 }
 
-type Drive = unsafe extern "C" fn(*const u16, usize, *mut u16, usize, u32, *mut u32) -> i32;
-type DriveIndexed =
-    unsafe extern "C" fn(*const u16, usize, *mut u16, usize, *mut u16, usize, u32, *mut u32) -> i32;
+type Drive =
+    unsafe extern "C" fn(*const u16, usize, *mut u16, usize, u32, *mut u32, *mut u32) -> i32;
+type DriveIndexed = unsafe extern "C" fn(
+    *const u16,
+    usize,
+    *mut u16,
+    usize,
+    *mut u16,
+    usize,
+    u32,
+    *mut u32,
+    *mut u32,
+) -> i32;
 
 /// The rules of a page that are driven at once.
 const AT_ONCE: usize = 480;
@@ -229,7 +239,7 @@ fn drive_some(
         let mut run = start.clone();
         run[place..place + 2].copy_from_slice(ends);
         let mut wanted = run.clone();
-        let mut taken = 0;
+        let (mut taken, mut line) = (0, 0);
         // SAFETY: the slices and the out-parameter are valid and apart.
         let code = unsafe {
             let (page, length) = (area.as_ptr(), area.len());
@@ -245,8 +255,17 @@ fn drive_some(
                     workspace.len(),
                     allowance,
                     &mut taken,
+                    &mut line,
                 ),
-                false => drive(page, length, cells, cells_length, allowance, &mut taken),
+                false => drive(
+                    page,
+                    length,
+                    cells,
+                    cells_length,
+                    allowance,
+                    &mut taken,
+                    &mut line,
+                ),
             }
         };
         trial.engine.calls += 1;

@@ -166,6 +166,15 @@ impl Live {
         self.check(&input)
     }
 
+    fn line(&mut self, trial: &mut Trial, cond: u32) -> Check {
+        let wanted = self.book.line(cond);
+        let got = trial.engine.line(&self.area, &self.run, cond);
+        let input = self.input("line", cond, &self.run);
+        let got = got.map_err(|reason| format!("{reason}; {}", input.dump()))?;
+        same(&input, &got, &wanted)?;
+        self.check(&input)
+    }
+
     /// One call, its kind and its number at random; drives take up to `most` evaluations.
     fn any_call(&mut self, trial: &mut Trial, most: u64) -> Check {
         match trial.rng.below(10) {
@@ -185,6 +194,10 @@ impl Live {
                     _ => trial.rng.below(most),
                 };
                 self.drive(trial, allowance as u32)
+            }
+            7 => {
+                let cond = gen::condition(&mut trial.rng, self.count);
+                self.line(trial, cond)
             }
             _ => {
                 let cond = gen::condition(&mut trial.rng, self.count);
@@ -207,6 +220,7 @@ impl Live {
         let reached: Vec<u16> = self.book.reached().iter().copied().collect();
         for cond in reached.iter().take(20) {
             self.value(trial, u32::from(*cond))?;
+            self.line(trial, u32::from(*cond))?;
             self.evaluate(trial, u32::from(*cond))?;
         }
         Ok(())

@@ -2,7 +2,7 @@
 //! readings of a whole list, and two examples of source document 000.
 
 use crate::answer::*;
-use crate::area::PAGE_MAX;
+use crate::area::{PAGE_MAX, WAITING_MARK};
 use crate::runner::Case;
 use crate::trial::{figure, Check, Trial};
 
@@ -19,6 +19,7 @@ pub fn cases() -> Vec<Case> {
         case("lines_are_shown_as_stated", shown_lines),
         case("row_02_goes_on_after_it_is_spent", row_02_step_by_step),
         case("row_07_falls_by_one_grade_at_a_time", row_07_step_by_step),
+        case("the_line_that_holds_the_low_end_is_told", held_lines),
         case("closed_rows_answer_whole_lists", closed_rows),
         case("closed_running_example_of_source_000", running_example),
         case("closed_insurance_example_of_source_000", insurance_example),
@@ -148,9 +149,9 @@ const RIVALS: [u16; 30] = [
 fn row_02_step_by_step(trial: &mut Trial, _: u64) -> Check {
     trial.pages += 1;
     let mut run = [0, 10, 2, 0, 10, 2];
-    for (allowance, taken, rest) in [(3, 3, false), (9, 1, true)] {
+    for (allowance, taken, line, rest) in [(3, 3, 2, false), (9, 1, 3, true)] {
         let driven = trial.drive(&RIVALS, &mut run, allowance)?;
-        figure("the drive", driven, Ok(Driven { taken, rest }))?;
+        figure("the drive", driven, Ok(Driven { taken, line, rest }))?;
         let got = value(trial, &RIVALS, &run, 0)?;
         figure("the value of 0", got, (2, 7, rest))?;
         let got = value(trial, &RIVALS, &run, 1)?;
@@ -181,9 +182,39 @@ fn row_07_step_by_step(trial: &mut Trial, _: u64) -> Check {
     let driven = trial.drive(&page, &mut run, 0)?;
     let wanted = Driven {
         taken: 0,
+        line: 0,
         rest: true,
     };
     figure("a drive at rest", driven, Ok(wanted))
+}
+
+/// Document 02, ticket 1: the line of an evaluation, and the line of the intervals then held.
+fn held_lines(trial: &mut Trial, _: u64) -> Check {
+    trial.pages += 3;
+    let took = |taken, line, rest| Ok(Driven { taken, line, rest });
+    // F,0,5,5 and R,0,10,B,0,0: the fact, and then the rule.
+    let twice = [10, 1, 2, 14, 0, 0, 5, 5, 0, 4, 10, 2, 0, 0];
+    let mut run = [0, 10, WAITING_MARK];
+    figure("before", trial.line(&twice, &run, 0)?, Ok(2))?;
+    let driven = trial.drive(&twice, &mut run, 1)?;
+    figure("the evaluation", driven, took(1, 2, false))?;
+    figure("then held", trial.line(&twice, &run, 0)?, Ok(3))?;
+    let driven = trial.drive(&twice, &mut run, 1)?;
+    figure("the next one", driven, took(1, 3, false))?;
+    // Q,K,0, F,0,0,4 and Q,K,1: a Q line counts and holds nothing; condition 1 has no line.
+    let asked = [10, 2, 3, 16, 0, 6, 0, 0, 0, 0, 0, 4, 1, 6, 0, 0];
+    let mut run = [0, 10, WAITING_MARK, 0, 10, WAITING_MARK];
+    let driven = trial.drive(&asked, &mut run, 1)?;
+    figure("behind a query", driven, took(1, 3, false))?;
+    let driven = trial.drive(&asked, &mut run, 1)?;
+    figure("without lines", driven, took(1, 0, true))?;
+    figure("no line", trial.line(&asked, &run, 1)?, Ok(0))?;
+    let driven = trial.drive(&asked, &mut run, 9)?;
+    figure("no evaluation", driven, took(0, 0, true))?;
+    // The last of the four is that of 1, with the low end of its fact and of its rule.
+    let mut run = [0, 10, WAITING_MARK, 0, 10, WAITING_MARK];
+    let driven = trial.drive(&RIVALS, &mut run, 4)?;
+    figure("the first of two", driven, took(4, 3, true))
 }
 
 /// Reads closed with scratch and answers for up to six conditions.

@@ -53,10 +53,11 @@ static EVALUATE: Function = function("SIMJORAD_STACK_EVALUATE", 2048);
 static DRIVE: Function = function("SIMJORAD_STACK_DRIVE", 2048);
 static DRIVE_INDEXED: Function = function("SIMJORAD_STACK_DRIVE_INDEXED", 3072);
 static VALUE: Function = function("SIMJORAD_STACK_VALUE", 2048);
+static LINE: Function = function("SIMJORAD_STACK_LINE", 2048);
 static CLOSED: Function = function("SIMJORAD_STACK_CLOSED", 2048);
 static CLOSED_INDEXED: Function = function("SIMJORAD_STACK_CLOSED_INDEXED", 3072);
 
-static FUNCTIONS: [&Function; 9] = [
+static FUNCTIONS: [&Function; 10] = [
     &READ,
     &SHOW_LINE,
     &OPEN,
@@ -64,6 +65,7 @@ static FUNCTIONS: [&Function; 9] = [
     &DRIVE,
     &DRIVE_INDEXED,
     &VALUE,
+    &LINE,
     &CLOSED,
     &CLOSED_INDEXED,
 ];
@@ -207,7 +209,8 @@ impl Bench<'_> {
 
     fn drive(&mut self, lent: &Lent) -> Check<i32> {
         self.call(&DRIVE, Call::Drive.function(), lent, |lent| {
-            [lent.page(), lent.area(), vec![ALLOWANCE], lent.out(0)].concat()
+            let slices = [lent.page(), lent.area()].concat();
+            [slices, vec![ALLOWANCE], lent.out(0), lent.out(1)].concat()
         })
     }
 
@@ -215,7 +218,7 @@ impl Bench<'_> {
         let pointer = Call::DriveIndexed.function();
         self.call(&DRIVE_INDEXED, pointer, lent, |lent| {
             let slices = [lent.page(), lent.area(), lent.workspace()].concat();
-            [slices, vec![ALLOWANCE], lent.out(0)].concat()
+            [slices, vec![ALLOWANCE], lent.out(0), lent.out(1)].concat()
         })
     }
 
@@ -223,6 +226,12 @@ impl Bench<'_> {
         self.call(&VALUE, Call::Value.function(), lent, |lent| {
             let slices = [lent.page(), lent.area()].concat();
             [slices, vec![cond], lent.out(0), lent.out(1)].concat()
+        })
+    }
+
+    fn line(&mut self, lent: &Lent, cond: usize) -> Check<i32> {
+        self.call(&LINE, Call::Line.function(), lent, |lent| {
+            [lent.page(), lent.area(), vec![cond]].concat()
         })
     }
 
@@ -297,30 +306,35 @@ impl Bench<'_> {
         figure("open", self.open(&bad)?, -PAGE_UNSOUND)
     }
 
-    /// Evaluate, drive and value on an opened run.
+    /// Evaluate, drive, value and line on an opened run.
     fn runs(&mut self, good: &Lent) -> Check {
         let waiting = usize::from(good.queries[0]);
         for cond in 0..512 {
             if good.area[3 * cond + 2] == 2 {
                 figure("evaluate", self.evaluate(good, cond)? >= 0, true)?;
+                figure("line", self.line(good, cond)? >= 0, true)?;
             }
         }
         figure("drive", self.drive(good)? >= 0, true)?;
         figure("value", self.value(good, waiting)?, 0)?;
         figure("evaluate", self.evaluate(good, 512)?, -CONDITION_RANGE)?;
         figure("value", self.value(good, 512)?, -CONDITION_RANGE)?;
+        figure("line", self.line(good, 512)?, -CONDITION_RANGE)?;
         let mut bad = good.clone();
         bad.area[3 * waiting + 2] = 0;
         figure("evaluate", self.evaluate(&bad, waiting)?, -NOT_WAITING)?;
         figure("value", self.value(&bad, waiting)?, -NOT_REACHED)?;
+        figure("line", self.line(&bad, waiting)?, -NOT_REACHED)?;
         bad.area[3 * 511 + 1] = 201;
         figure("evaluate", self.evaluate(&bad, waiting)?, -RUN_UNSOUND)?;
         figure("drive", self.drive(&bad)?, -RUN_UNSOUND)?;
         figure("value", self.value(&bad, waiting)?, -RUN_UNSOUND)?;
+        figure("line", self.line(&bad, waiting)?, -RUN_UNSOUND)?;
         bad.page.pop();
         figure("evaluate", self.evaluate(&bad, waiting)?, -PAGE_UNSOUND)?;
         figure("drive", self.drive(&bad)?, -PAGE_UNSOUND)?;
-        figure("value", self.value(&bad, waiting)?, -PAGE_UNSOUND)
+        figure("value", self.value(&bad, waiting)?, -PAGE_UNSOUND)?;
+        figure("line", self.line(&bad, waiting)?, -PAGE_UNSOUND)
     }
 
     /// The indexed drive, with room and without.

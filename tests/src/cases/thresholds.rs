@@ -294,6 +294,7 @@ fn every_place(trial: &mut Trial, item: u64) -> Check {
         let driven = trial.drive(&area, &mut run, 1)?;
         let wanted = Driven {
             taken: 1,
+            line: u32::from(first) + 2,
             rest: here == other,
         };
         figure("the drive", driven, Ok(wanted))?;

@@ -42,10 +42,10 @@ evaluate-waiting-requires : tie.Need-evaluate-waiting-requires
 evaluate-waiting-requires c κs = ((sym (c .before .before .before .before .before .before .before .before .before .page-sound .ensures) ∙ not-false (c .before .before .before .before .before .before .before .before .before .page-sound .result) (c .before .before .before .before .before .before .before .before .if1 .left)), (sym (c .before .before .before .before .before .before .run-sound .ensures) ∙ not-false (c .before .before .before .before .before .before .run-sound .result) (c .before .before .before .before .before .if2 .left)), omega arith, omega arith)
 
 returns-5 : tie.Need-returns-5
-returns-5 c = evaluate-answers (c .before .before .before .before .before .before .before .before .before .before .before .before .before .before .before .before .args .page .now) (c .before .before .before .before .before .before .before .before .before .before .before .before .before .before .before .before .args .run .now) (sym (c .before .before .before .before .before .before .before .before .before .before .before .before .before .page-sound .ensures) ∙ not-false (c .before .before .before .before .before .before .before .before .before .before .before .before .before .page-sound .result) (c .before .before .before .before .before .before .before .before .before .before .before .before .if1 .left)) (sym (c .before .before .before .before .before .before .before .before .before .before .run-sound .ensures) ∙ not-false (c .before .before .before .before .before .before .before .before .before .before .run-sound .result) (c .before .before .before .before .before .before .before .before .before .if2 .left)) (c .before .before .before .before .before .before .before .before .before .before .before .before .before .before .before .before .args .condition) (omega arith) (omega arith) (c .before .before .before .evaluate-waiting .ensures) (ap (λ (t : Bool). cond t changed unchanged) (c .if5 .taken))
+returns-5 c = evaluate-answers (c .before .before .before .before .before .before .before .before .before .before .before .before .before .before .before .before .args .page .now) (c .before .before .before .before .before .before .before .before .before .before .before .before .before .before .before .before .args .run .now) (sym (c .before .before .before .before .before .before .before .before .before .before .before .before .before .page-sound .ensures) ∙ not-false (c .before .before .before .before .before .before .before .before .before .before .before .before .before .page-sound .result) (c .before .before .before .before .before .before .before .before .before .before .before .before .if1 .left)) (sym (c .before .before .before .before .before .before .before .before .before .before .run-sound .ensures) ∙ not-false (c .before .before .before .before .before .before .before .before .before .before .run-sound .result) (c .before .before .before .before .before .before .before .before .before .if2 .left)) (c .before .before .before .before .before .before .before .before .before .before .before .before .before .before .before .before .args .condition) (omega arith) (omega arith) (c .before .before .before .evaluate-waiting .ensures) (ap (λ (t : Bool). cond t changed unchanged (c .before .before .before .evaluate-waiting .result .line)) (c .if5 .taken))
 
 returns-6 : tie.Need-returns-6
-returns-6 c = evaluate-answers (c .before .before .before .before .before .before .before .before .before .before .before .before .before .before .before .before .args .page .now) (c .before .before .before .before .before .before .before .before .before .before .before .before .before .before .before .before .args .run .now) (sym (c .before .before .before .before .before .before .before .before .before .before .before .before .before .page-sound .ensures) ∙ not-false (c .before .before .before .before .before .before .before .before .before .before .before .before .before .page-sound .result) (c .before .before .before .before .before .before .before .before .before .before .before .before .if1 .left)) (sym (c .before .before .before .before .before .before .before .before .before .before .run-sound .ensures) ∙ not-false (c .before .before .before .before .before .before .before .before .before .before .run-sound .result) (c .before .before .before .before .before .before .before .before .before .if2 .left)) (c .before .before .before .before .before .before .before .before .before .before .before .before .before .before .before .before .args .condition) (omega arith) (omega arith) (c .before .before .before .evaluate-waiting .ensures) (ap (λ (t : Bool). cond t changed unchanged) (c .if5 .left))
+returns-6 c = evaluate-answers (c .before .before .before .before .before .before .before .before .before .before .before .before .before .before .before .before .args .page .now) (c .before .before .before .before .before .before .before .before .before .before .before .before .before .before .before .before .args .run .now) (sym (c .before .before .before .before .before .before .before .before .before .before .before .before .before .page-sound .ensures) ∙ not-false (c .before .before .before .before .before .before .before .before .before .before .before .before .before .page-sound .result) (c .before .before .before .before .before .before .before .before .before .before .before .before .if1 .left)) (sym (c .before .before .before .before .before .before .before .before .before .before .run-sound .ensures) ∙ not-false (c .before .before .before .before .before .before .before .before .before .before .run-sound .result) (c .before .before .before .before .before .before .before .before .before .if2 .left)) (c .before .before .before .before .before .before .before .before .before .before .before .before .before .before .before .before .args .condition) (omega arith) (omega arith) (c .before .before .before .evaluate-waiting .ensures) (ap (λ (t : Bool). cond t changed unchanged (c .before .before .before .evaluate-waiting .result .line)) (c .if5 .left))
 
 pub evaluate-spec : {M : Type 1} → statement M
 evaluate-spec =

@@ -1,0 +1,34 @@
+-- The evaluations of a drive, and the line of the last one. Assumes nothing.
+use mathlib.Core.Path.{_≡_}
+use mathlib.Core.Bool.{Bool, true}
+use mathlib.Core.List.{List}
+use Prim.Native.Nat.{ℕ, _*_, _≤_, _<_}
+use lib.ListN.{length}
+use Rattle.semantics.specs.Area.{sound, pageOf, topOf, conditionsOf}
+use Rattle.semantics.specs.Call.{drove}
+use Rattle.semantics.specs.Grade.{lower}
+use Rattle.semantics.specs.Operation.{driveOf}
+use Rattle.semantics.specs.RunArea.{intervalAt, runSound}
+use Rattle.value.specs.Table.{EndTable}
+use Rattle.step.specs.Before.{ToldBefore}
+use Rattle.run.specs.Answers.{Answered, statusIf}
+
+-- after so many evaluations the table holds the run area, and the last, if there is one, was of a condition c that held the grades low and high
+pub record Ready (a run values : List ℕ) (taken c low high : ℕ) : Type 0 where
+  pub page-sound : sound a ≡ true
+  pub run-sound : runSound (pageOf a) run ≡ true
+  pub long : 2 * conditionsOf a ≤ length values
+  pub table : EndTable lower (topOf a) (conditionsOf a) (intervalAt run) values
+  pub inside : 0 < taken → c < conditionsOf a
+  pub low-in : 0 < taken → low ≤ topOf a
+  pub high-in : 0 < taken → high ≤ topOf a
+
+-- the line of the last of so many evaluations, 0 if there is none
+pub record LastLine (a run : List ℕ) (taken c low high line : ℕ) : Type 0 where
+  pub none : taken ≡ 0 → line ≡ 0
+  pub some : 0 < taken → ToldBefore a run c low high line
+
+-- a drive stops: with the line of the last evaluation the answer is the operation's, and so is the run area
+pub record Stopped (a run : List ℕ) (allowance : ℕ) (run′ values′ : List ℕ) (taken : ℕ) (rest : Bool) (c low high : ℕ) : Type 0 where
+  pub ready : Ready a run′ values′ taken c low high
+  pub answers : (line : ℕ) → LastLine a run′ taken c low high line → Answered (driveOf a run allowance) (drove taken line (statusIf rest)) run′
