@@ -45,6 +45,13 @@ area1 =
 unfoldable pub area7 : List ℕ
 area7 = 10 ∷ 2 ∷ 1 ∷ 8 ∷ 0 ∷ 7 ∷ 0 ∷ 0 ∷ []
 
+-- weight 5 over grade 5, and a weight of 9 on itself (row 7)
+unfoldable pub areaHalf : List ℕ
+areaHalf = 10 ∷ 2 ∷ 2 ∷ 13 ∷ 1 ∷ 0 ∷ 5 ∷ 5 ∷ 0 ∷ 1 ∷ 5 ∷ 1 ∷ 2 ∷ []
+
+unfoldable pub areaNine : List ℕ
+areaNine = 10 ∷ 1 ∷ 1 ∷ 9 ∷ 0 ∷ 1 ∷ 9 ∷ 1 ∷ 0 ∷ []
+
 -- seven numbers: the last lies past 3 × C
 unfoldable pub opened1 : List ℕ
 opened1 = 0 ∷ 10 ∷ 2 ∷ 0 ∷ 10 ∷ 2 ∷ 9 ∷ []
@@ -94,6 +101,11 @@ areaRows =
     ∷ callsOn area1 opened1 (value 2) (refused 15) opened1
     ∷ callsOn area1 unreached1 (value 0) (refused 17) unreached1
     ∷ closesOn area1 (1 ∷ []) scratch1 (9 ∷ 9 ∷ 9 ∷ []) (0 ∷ 0 ∷ 0 ∷ 0 ∷ 0 ∷ 0 ∷ 0 ∷ 0 ∷ 0 ∷ 0 ∷ 0 ∷ 0 ∷ 9 ∷ []) (3 ∷ 8 ∷ 9 ∷ [])
+    -- a division rounds the low end down and the high end up
+    ∷ callsOn areaHalf opened1 (drive 3) (drove 3 rest) (2 ∷ 3 ∷ 1 ∷ 5 ∷ 5 ∷ 1 ∷ 9 ∷ [])
+    ∷ callsOn areaNine (0 ∷ 10 ∷ 2 ∷ []) (evaluate 0) changed (0 ∷ 9 ∷ 2 ∷ [])
+    ∷ callsOn areaNine (0 ∷ 9 ∷ 2 ∷ []) (evaluate 0) unchanged (0 ∷ 9 ∷ 1 ∷ [])
+    ∷ closesOn areaHalf (0 ∷ []) scratch1 (9 ∷ 9 ∷ 9 ∷ []) (0 ∷ 0 ∷ 0 ∷ 0 ∷ 0 ∷ 0 ∷ 0 ∷ 0 ∷ 0 ∷ 0 ∷ 0 ∷ 0 ∷ 9 ∷ []) (2 ∷ 3 ∷ 9 ∷ [])
     ∷ refusesOn area7 (1 ∷ []) scratch1 nines 10
     ∷ refusesOn area1 [] scratch1 nines 11
     ∷ refusesOn area1 (2 ∷ []) scratch1 nines 12

@@ -1,6 +1,7 @@
 -- `ends::combine` meets its contract, op by op. Assumes nothing.
 use native.Mathlib.Omega.{arith}
 use Rattle.page.proofs.Entries.{small-product}
+use Rattle.value.proofs.Dividing.{product-divides}
 use Rattle.ends.proofs.Both.{combine-m, combine-x, combine-l, combine-b, combine-p}
 use borrow.Author.Needs.{needs}
 use Rattle.ends.proofs.combine.Statement.{statement}
@@ -31,7 +32,7 @@ mul-divided : tie.Need-mul-divided
 mul-divided c = record { fits = small-product (omega (arith, c .before .pre .4, c .before .pre .3)) (omega (arith, c .before .pre .5, c .before .pre .3)) }
 
 divided-requires : tie.Need-divided-requires
-divided-requires c κs = search needs
+divided-requires c κs = product-divides (c .before .pre .2) (c .before .pre .3) (c .before .pre .4) (c .before .pre .5)
 
 returns : tie.Need-returns
 returns c = combine-m _ _ _ _ _ (omega arith) (c .minimum .ensures)
