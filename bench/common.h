@@ -89,8 +89,11 @@ static inline int queries_fault(const uint16_t *queries, size_t length, unsigned
     return 0;
 }
 
-/* One end of a rule, given that end of every literal. */
-static inline unsigned rule_end(const uint16_t *rule, const uint16_t *value, unsigned top)
+/*
+ * One end of a rule, given that end of every literal. `add` is how the end rounds: 0 for low ends, which round down, and top - 1 for high
+ * ends, which round up.
+ */
+static inline unsigned rule_end(const uint16_t *rule, const uint16_t *value, unsigned top, unsigned add)
 {
     const uint16_t *p = rule + 4, *end = p + rule[3];
     unsigned v = value[*p++], w;
@@ -122,9 +125,9 @@ static inline unsigned rule_end(const uint16_t *rule, const uint16_t *value, uns
         break;
     default:
         for (; p < end; p++)
-            v = v * value[*p] / top;
+            v = (v * value[*p] + add) / top;
     }
-    return v * rule[2] / top;
+    return (v * rule[2] + add) / top;
 }
 
 #endif
