@@ -11,11 +11,10 @@ use Rattle.fixpoint.specs.KnowledgeOrder.{bottom}
 use Rattle.fixpoint.specs.LeastFixpoint.{iter, lfp}
 use Rattle.semantics.specs.Area.{sound, pageOf}
 use Rattle.semantics.specs.Body.{literalValue, ruleValue, onlyIf, bodies, bodyless, largestOf, T}
-use Rattle.semantics.specs.Exact.{Fraction, IsFraction, whole, Covers, exactCombine, exactWeighted, exactNegated, exactFold, Figures, exactLiteral, exactRule, exactBodies, exactBody, ChosenFrom, Exact, PlainCovers}
+use Rattle.semantics.specs.Exact.{Fraction, IsFraction, whole, Covers, exactCombine, exactFold, Figures, exactLiteral, exactRule, exactBodies, exactBody, ChosenFrom, Exact, PlainCovers}
 use Rattle.semantics.specs.Grade.{Op, X, combine, endwise, foldFrom, foldAll, largest}
 use Rattle.semantics.specs.Page.{Literal, positive, negative, conditionOf, mentions, Line, fact, rule, query, linesName, Page, names}
-use Rattle.semantics.specs.Reading.{IsPlain, Reached, queried, named}
-use Rattle.semantics.specs.Table.{listed}
+use Rattle.semantics.specs.Reading.{IsPlain, named}
 use Rattle.semantics.proofs.Closure.{reached-real}
 use Rattle.semantics.proofs.Fractions.{covers-equal, Covered, whole-covered, op-covered, largest-covered, negated-covered, weighted-covered}
 use Rattle.semantics.proofs.Readings.{names-inside, plain-is, plain-one}
