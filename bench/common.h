@@ -116,8 +116,11 @@ static inline void put_answers(const uint16_t *low, const uint16_t *high, const 
     }
 }
 
-/* One end of a rule, given that end of every literal. */
-static inline unsigned rule_end(const uint16_t *rule, const uint16_t *value, unsigned top)
+/*
+ * One end of a rule, given that end of every literal. `add` is how the end rounds: 0 for low ends, which round down, and top - 1 for high
+ * ends, which round up.
+ */
+static inline unsigned rule_end(const uint16_t *rule, const uint16_t *value, unsigned top, unsigned add)
 {
     const uint16_t *p = rule + 4, *end = p + rule[3];
     unsigned v = value[*p++], w;
@@ -149,9 +152,9 @@ static inline unsigned rule_end(const uint16_t *rule, const uint16_t *value, uns
         break;
     default:
         for (; p < end; p++)
-            v = v * value[*p] / top;
+            v = (v * value[*p] + add) / top;
     }
-    return v * rule[2] / top;
+    return (v * rule[2] + add) / top;
 }
 
 #endif

@@ -337,11 +337,11 @@ static void rule_ends(const uint16_t *rule, const uint16_t *run, unsigned top, u
         for (; p < end; p++) {
             ends(run, *p, top, &c, &d);
             a = a * c / top;
-            b = b * d / top;
+            b = (b * d + top - 1) / top;
         }
     }
     *low = a * rule[2] / top;
-    *high = b * rule[2] / top;
+    *high = (b * rule[2] + top - 1) / top;
 }
 
 /* Evaluates a waiting condition; returns 1 if its interval changed. */
@@ -503,7 +503,7 @@ int32_t scan_line(const uint16_t *page, size_t page_length, const uint16_t *run,
 static int rise(const uint16_t *page, const uint16_t *seen, uint16_t *value, unsigned side)
 {
     const uint16_t *p, *end = page + page[3];
-    unsigned top = page[0], v;
+    unsigned top = page[0], add = side == 3 ? top - 1 : 0, v;
     int rose, any = 0;
 
     do {
@@ -511,7 +511,7 @@ static int rise(const uint16_t *page, const uint16_t *seen, uint16_t *value, uns
         for (p = page + HEAD; p < end; p = next_line(p)) {
             if (!seen[p[0]] || p[1] == QUERY)
                 continue;
-            v = p[1] == FACT ? p[side] : rule_end(p, value, top);
+            v = p[1] == FACT ? p[side] : rule_end(p, value, top, add);
             if (v > value[2 * p[0]]) {
                 value[2 * p[0]] = v;
                 rose = 1;

@@ -219,14 +219,20 @@ struct pair {
     int low, high;
 };
 
-static int fold(int kind, int p, int q, int top)
+/* A number divided by top: the low end rounds down, the high end up. */
+static int divided(int number, int top, int high)
+{
+    return number / top + (high && number % top != 0);
+}
+
+static int fold(int kind, int p, int q, int top, int high)
 {
     switch (kind) {
     case 1: return p < q ? p : q;
     case 2: return p > q ? p : q;
     case 3: return p + q - top > 0 ? p + q - top : 0;
     case 4: return p + q < top ? p + q : top;
-    default: return p * q / top;
+    default: return divided(p * q, top, high);
     }
 }
 
@@ -257,11 +263,11 @@ static struct pair body(const uint16_t *page, const struct pair *held, int condi
             v = literal(held, p[4], top);
             for (k = 1; k < p[3]; k++) {
                 w = literal(held, p[4 + k], top);
-                v.low = fold(p[1], v.low, w.low, top);
-                v.high = fold(p[1], v.high, w.high, top);
+                v.low = fold(p[1], v.low, w.low, top, 0);
+                v.high = fold(p[1], v.high, w.high, top, 1);
             }
-            v.low = v.low * p[2] / top;
-            v.high = v.high * p[2] / top;
+            v.low = divided(v.low * p[2], top, 0);
+            v.high = divided(v.high * p[2], top, 1);
         } else {
             v.low = p[2];
             v.high = p[3];
@@ -522,8 +528,9 @@ static void figures(void)
 {
     char out[256], text[256];
     int used, i;
-    static const struct { char op; int weight, value; } row8[] = { { 'P', 10, 3 }, { 'L', 10, 2 }, { 'B', 10, 10 },
-                                                                   { 'P', 8, 2 }, { 'M', 10, 5 }, { 'X', 10, 7 } };
+    static const struct { char op; int weight, low, high; } row8[] = { { 'P', 10, 3, 4 }, { 'L', 10, 2, 2 },
+                                                                       { 'B', 10, 10, 10 }, { 'P', 8, 2, 4 },
+                                                                       { 'M', 10, 5, 5 }, { 'X', 10, 7, 7 } };
 
     /* 1 and 2 */
     used = take(example);
@@ -573,8 +580,9 @@ static void figures(void)
     /* 7 */
     used = take("G,10,1\nR,0,9,M,0\n");
     open_one(used, 0, 1, 1, 11);
-    driven(used, 11, 1, 11);
-    held(used, 0, 1, 0, 0);
+    driven(used, 11, 1, 2);
+    held(used, 0, 1, 0, 9);
+    closed_one(used, 0, 0, 0);
 
     /* 8 */
     for (i = 0; i < 6; i++) {
@@ -582,8 +590,8 @@ static void figures(void)
         used = take(text);
         open_one(used, 2, 3, 2, 23);
         driven(used, 23, 1, 3);
-        held(used, 2, 1, row8[i].value, row8[i].value);
-        closed_one(used, 2, row8[i].value, row8[i].value);
+        held(used, 2, 1, row8[i].low, row8[i].high);
+        closed_one(used, 2, row8[i].low, row8[i].high);
     }
 
     attach(example, out);
@@ -672,7 +680,7 @@ static void reading(void)
     same("line 1 of none", at->show_line(NULL, 0, 1, &start), 0);
 }
 
-/* The falling chain takes exactly its bound, and not one evaluation less. */
+/* The falling chain takes its bound less 199, and not one evaluation less. */
 static void falling(void)
 {
     static char text[PAGE_TEXT_MAX];
@@ -680,8 +688,8 @@ static void falling(void)
     uint32_t line;
     int used = at->read((const uint8_t *)text, length, page, SIMJORAD_PAGE_MAX, &line);
 
-    open_one(used, 0, 512, 4061, 812712);
-    driven(used, 812711, 0, 812711);
+    open_one(used, 0, 512, 4054, 811312);
+    driven(used, 811112, 0, 811112);
     driven(used, UINT32_MAX, 1, 1);
     held(used, 0, 1, 0, 0);
 }

@@ -20,6 +20,9 @@
  * page, and only what is not sound is refused. A fact may be changed in place in a page area (low <= high <= top); that voids every run
  * opened on it, and whatever was permitted on them: open again.
  *
+ * Rounding. In the value of a rule each division, that of P and that of the weight, rounds the low end down and the high end up: weight 5
+ * over grade 5 at top 10 is 2 to 3. So the exact figures of a page, worked with fractions, lie within its plain intervals.
+ *
  * Allowance. No run takes more evaluations than the bound that its opening returned. Pass that bound, or less, as the allowance of a
  * drive, not the largest number: on a run area that was damaged or belongs to another page, and is sound by chance, a drive may
  * never come to rest.
@@ -57,7 +60,7 @@ extern "C" {
  * measurements and do not count). SIMJORAD_LAYOUT is raised whenever the layout of a page area or a run area changes: an area that was
  * kept under another layout must be read or opened again.
  */
-#define SIMJORAD_VERSION 2
+#define SIMJORAD_VERSION 3
 #define SIMJORAD_LAYOUT 1
 
 /*

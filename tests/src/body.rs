@@ -34,25 +34,39 @@ impl Pair {
     }
 }
 
+/// An end of an interval: the two round apart.
+#[derive(Clone, Copy, Debug, PartialEq, Eq)]
+pub enum End {
+    Low,
+    High,
+}
+
+/// A number divided by top: the low end rounds down, the high end up.
+pub fn divided(end: End, number: u32, top: u32) -> u32 {
+    let whole = number / top;
+    let left_over = number % top > 0;
+    whole + u32::from(left_over && end == End::High)
+}
+
 /// One step of an op, for one end.
-pub fn combine(op: Op, top: u16, p: u16, q: u16) -> u16 {
+pub fn combine(op: Op, end: End, top: u16, p: u16, q: u16) -> u16 {
     let (top, p, q) = (u32::from(top), u32::from(p), u32::from(q));
     let result = match op {
         Op::M => p.min(q),
         Op::X => p.max(q),
         Op::L => (p + q).saturating_sub(top),
         Op::B => (p + q).min(top),
-        Op::P => p * q / top,
+        Op::P => divided(end, p * q, top),
     };
     result as u16
 }
 
 /// One end of a rule's value, from that end of its literals.
-fn rule_end(op: Op, top: u16, weight: u16, ends: impl Iterator<Item = u16>) -> u16 {
+fn rule_end(op: Op, end: End, top: u16, weight: u16, ends: impl Iterator<Item = u16>) -> u16 {
     let result = ends
-        .reduce(|p, q| combine(op, top, p, q))
+        .reduce(|p, q| combine(op, end, top, p, q))
         .expect("a rule has a literal");
-    (u32::from(result) * u32::from(weight) / u32::from(top)) as u16
+    divided(end, u32::from(result) * u32::from(weight), top.into()) as u16
 }
 
 fn literal_value(literal: Literal, top: u16, held: &[Pair]) -> Pair {
@@ -81,8 +95,8 @@ pub fn line_value(line: &Line, top: u16, held: &[Pair]) -> Option<(u16, Pair)> {
             Some((
                 *head,
                 Pair::new(
-                    rule_end(*op, top, *weight, values().map(|pair| pair.low)),
-                    rule_end(*op, top, *weight, values().map(|pair| pair.high)),
+                    rule_end(*op, End::Low, top, *weight, values().map(|pair| pair.low)),
+                    rule_end(*op, End::High, top, *weight, values().map(|pair| pair.high)),
                 ),
             ))
         }

@@ -407,7 +407,7 @@ fn readings_of_pages(how: &str, table: &Table) -> Check {
     Ok(())
 }
 
-/// `ops, top N`: columns op, literals, weight, value; every literal is a fact with one grade.
+/// `ops, top N`: columns op, literals, weight, value; every literal is a fact with one grade, and the value an interval or one grade.
 fn ops(how: &str, table: &Table) -> Check {
     let top = how.strip_prefix("top ").ok_or("no top")?;
     let mut seen = BTreeSet::new();
@@ -423,7 +423,10 @@ fn ops(how: &str, table: &Table) -> Check {
         lines.push(rule);
         let (plain, closed) = readings(&page_lines(&lines, top, "0")?, "0")?;
         let value = table.cell(row, "value")?;
-        let wanted = format!("[{value};{value}]");
+        let wanted = match value.starts_with('[') {
+            true => value.to_string(),
+            false => format!("[{value};{value}]"),
+        };
         figure(
             &format!("{lines:?}"),
             (plain, closed),
@@ -613,7 +616,8 @@ fn number_after(text: &str) -> Option<(usize, &str)> {
     Some((text[..digits].parse().ok()?, &text[digits..]))
 }
 
-/// Lengths as in `3 × C`, which the header must have, and divisions as in `7 × 5 / 10 is 3`.
+/// Lengths as in `3 × C`, which the header must have, and divisions as in `4 × 5 / 10 is 2`, or `low 7 × 5 / 10 is 3` and `high 7 × 5 / 10 is 4`
+/// where the ends round apart.
 fn arithmetic(text: &str) -> Check {
     let header = file("include/simjorad.h")?;
     let parts: Vec<&str> = text.split(" × ").collect();
@@ -631,7 +635,14 @@ fn arithmetic(text: &str) -> Check {
         });
         if let Some((second, top, result)) = stated {
             let what = format!("{first} × {second} / {top}");
-            figure(&what, result, first * second / top)?;
+            let product = first * second;
+            let before = pair[0].trim_end_matches(|c: char| c.is_ascii_digit());
+            if !before.ends_with("high ") {
+                figure(&what, result, product / top)?;
+            }
+            if !before.ends_with("low ") {
+                figure(&what, result, product.div_ceil(top))?;
+            }
         }
     }
     Ok(())

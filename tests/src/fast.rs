@@ -3,7 +3,7 @@
 
 use crate::answer::Driven;
 use crate::area::{NOT_REACHED_MARK, REACHED_MARK, WAITING_MARK};
-use crate::body::{combine, Pair};
+use crate::body::{combine, divided, End, Pair};
 use crate::page::{Line, Op, Page};
 
 /// A rule: its head is known from where it stands. A literal is 2 * condition, plus 1 if negated.
@@ -17,6 +17,14 @@ struct Rule {
 enum Source {
     Fact(u16),
     Rule(usize),
+}
+
+/// An end of a pair.
+fn of(end: End, pair: Pair) -> u16 {
+    match end {
+        End::Low => pair.low,
+        End::High => pair.high,
+    }
 }
 
 /// A page by its heads.
@@ -95,20 +103,20 @@ impl Index {
     }
 
     /// One end of T: the largest of the fact's and the rules', over that end of every literal.
-    fn end(&self, cond: usize, fact: u16, literal: impl Fn(usize) -> u16) -> u16 {
-        let mut best = fact;
+    fn end(&self, end: End, cond: usize, literal: impl Fn(usize) -> u16) -> u16 {
+        let mut best = of(end, self.facts[cond]);
         for rule in &self.rules[cond] {
-            best = best.max(self.rule_end(rule, &literal));
+            best = best.max(self.rule_end(end, rule, &literal));
         }
         best
     }
 
-    fn rule_end(&self, rule: &Rule, literal: impl Fn(usize) -> u16) -> u16 {
+    fn rule_end(&self, end: End, rule: &Rule, literal: impl Fn(usize) -> u16) -> u16 {
         let mut value = literal(rule.literals[0]);
         for other in &rule.literals[1..] {
-            value = combine(rule.op, self.top, value, literal(*other));
+            value = combine(rule.op, end, self.top, value, literal(*other));
         }
-        (u32::from(value) * rule.weight / u32::from(self.top)) as u16
+        divided(end, u32::from(value) * rule.weight, self.top.into()) as u16
     }
 
     /// The first line of a condition with this low end at the pairs held, 0 if it has no lines.
@@ -119,7 +127,9 @@ impl Index {
         };
         let holds = |source: &Source| match source {
             Source::Fact(end) => *end == low,
-            Source::Rule(place) => self.rule_end(&self.rules[cond][*place], low_end) == low,
+            Source::Rule(place) => {
+                self.rule_end(End::Low, &self.rules[cond][*place], low_end) == low
+            }
         };
         let mut lines = self.numbers[cond].iter();
         lines
@@ -129,12 +139,11 @@ impl Index {
 
     /// T of a condition at the pairs held.
     fn body(&self, cond: usize, held: &[Pair]) -> Pair {
-        let fact = self.facts[cond];
-        let low = self.end(cond, fact.low, |literal| match literal % 2 {
+        let low = self.end(End::Low, cond, |literal| match literal % 2 {
             0 => held[literal / 2].low,
             _ => self.top - held[literal / 2].high,
         });
-        let high = self.end(cond, fact.high, |literal| match literal % 2 {
+        let high = self.end(End::High, cond, |literal| match literal % 2 {
             0 => held[literal / 2].high,
             _ => self.top - held[literal / 2].low,
         });
@@ -143,12 +152,12 @@ impl Index {
 
     /// Raises low or high ends from where they are to the least ones that no line raises further. `given` holds the other ends,
     /// which decide the negations.
-    fn raise(&self, ends: &mut [u16], given: &[u16], fact: impl Fn(Pair) -> u16) {
+    fn raise(&self, end: End, ends: &mut [u16], given: &[u16]) {
         let mut waits = vec![true; self.count()];
         let mut stack: Vec<usize> = (0..self.count()).rev().collect();
         while let Some(cond) = stack.pop() {
             waits[cond] = false;
-            let value = self.end(cond, fact(self.facts[cond]), |literal| match literal % 2 {
+            let value = self.end(end, cond, |literal| match literal % 2 {
                 0 => ends[literal / 2],
                 _ => self.top - given[literal / 2],
             });
@@ -171,9 +180,9 @@ impl Index {
         let mut lows = vec![0; self.count()];
         loop {
             let mut highs = vec![0; self.count()];
-            self.raise(&mut highs, &lows, |pair| pair.high);
+            self.raise(End::High, &mut highs, &lows);
             let before = lows.clone();
-            self.raise(&mut lows, &highs, |pair| pair.low);
+            self.raise(End::Low, &mut lows, &highs);
             if lows == before {
                 let ends = lows.iter().zip(&highs);
                 return ends.map(|(low, high)| Pair::new(*low, *high)).collect();

@@ -227,11 +227,20 @@ pub fn gated_counters(count: u16, top: u16) -> Page {
     Page { top, count, lines }
 }
 
-/// A slow fall at the last condition, which each of the others follows through the (at most) four conditions above it.
+/// A slow fall by 1 at the last condition, from which a fact takes 1 away under L, and which each of the others follows through the (at most)
+/// four conditions above it.
 pub fn falling(count: u16, top: u16) -> Page {
     let last = count - 1;
-    let mut lines = vec![rule(last, (top - 1).max(1), Op::M, &[(last, false)])];
-    for cond in 0..last {
+    let step = last - 1;
+    let mut lines = vec![
+        Line::Fact {
+            cond: step,
+            low: top - 1,
+            high: top - 1,
+        },
+        rule(last, top, Op::L, &[(last, false), (step, false)]),
+    ];
+    for cond in 0..step {
         let above: Vec<(u16, bool)> = (cond + 1..=(cond + 4).min(last))
             .map(|other| (other, false))
             .collect();
@@ -494,11 +503,11 @@ pub fn limit_page(rng: &mut Rng, item: u64) -> Page {
     let literal = |cond: u16, negated: bool| Literal { cond, negated };
     let count = CONDITIONS_MAX;
     let lines: Vec<Line> = match item {
-        // One ring whose grades fade by single steps.
+        // One ring whose grades fade by single steps, to 99.
         0 => (0..LINES_MAX as u16)
             .map(|number| Line::Rule {
                 head: number % count,
-                weight: 199,
+                weight: 198,
                 op: Op::M,
                 body: vec![literal((number + 1) % count, false); 8],
             })

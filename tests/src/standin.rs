@@ -11,7 +11,7 @@ use std::time::Duration;
 use crate::answer::*;
 use crate::area::{self, held_pairs, NOT_REACHED_MARK, REACHED_MARK, WAITING_MARK};
 use crate::attach;
-use crate::body::{combine, Pair};
+use crate::body::{combine, divided, End, Pair};
 use crate::fast::{Index, Run};
 use crate::page::{self, Line, Op, Page};
 use crate::plain::{self, check_queries};
@@ -187,7 +187,7 @@ pub const FAULTS: &[(&str, &str, &str)] = &[
     (
         "wake_only_when_low_rises",
         "quick only CASE",
-        "row_07_fading_self_rule_takes_11_evaluations",
+        "row_07_self_rule_of_weight_9_rests_after_2_evaluations",
     ),
     (
         "wake_nobody",
@@ -246,9 +246,34 @@ pub const FAULTS: &[(&str, &str, &str)] = &[
         "row_01_two_rivals_plain_and_closed",
     ),
     (
-        "round_up_high_end",
+        "high_end_rounds_down",
         "quick only CASE",
-        "row_07_fading_self_rule_takes_11_evaluations",
+        "row_07_self_rule_of_weight_9_rests_after_2_evaluations",
+    ),
+    (
+        "high_end_rounds_down",
+        "quick only CASE",
+        "plain_answers_cover_exact_fractions",
+    ),
+    (
+        "low_end_rounds_up",
+        "quick only CASE",
+        "row_08_ops_product_lukasiewicz_bounded_and_weight",
+    ),
+    (
+        "low_end_rounds_up",
+        "quick only CASE",
+        "plain_answers_cover_exact_fractions",
+    ),
+    (
+        "weight_rounds_down_at_both_ends",
+        "quick only CASE",
+        "rules_have_their_stated_value",
+    ),
+    (
+        "product_rounds_down_at_both_ends",
+        "quick only CASE",
+        "rules_have_their_stated_value",
     ),
     (
         "product_divided_once",
@@ -782,19 +807,38 @@ fn check_areas(page_area: &[u16], run: &[u16]) -> Result<Page, Refusal> {
     }
 }
 
-fn rule_end(op: Op, top: u16, weight: u16, mut ends: Vec<u16>, high: bool) -> u16 {
+fn rule_end(op: Op, end: End, top: u16, weight: u16, mut ends: Vec<u16>) -> u16 {
+    // How the op and the weight round.
+    let mut of_op = end;
+    let mut of_weight = end;
+    if fault("high_end_rounds_down") {
+        (of_op, of_weight) = (End::Low, End::Low);
+    }
+    if fault("low_end_rounds_up") {
+        (of_op, of_weight) = (End::High, End::High);
+    }
+    if fault("weight_rounds_down_at_both_ends") {
+        of_weight = End::Low;
+    }
+    if fault("product_rounds_down_at_both_ends") {
+        of_op = End::Low;
+    }
     if fault("fold_right_to_left") {
         ends.reverse();
     }
-    let (top_32, weight) = (u32::from(top), u32::from(weight));
+    let weight = u32::from(weight);
     let mut result = u32::from(ends[0]);
     if fault("product_divided_once") && op == Op::P {
         let whole: u64 = ends.iter().map(|end| u64::from(*end)).product();
-        result = (whole / u64::from(top).pow(ends.len() as u32 - 1)) as u32;
+        let divisor = u64::from(top).pow(ends.len() as u32 - 1);
+        result = match of_op {
+            End::Low => whole / divisor,
+            End::High => whole.div_ceil(divisor),
+        } as u32;
     } else {
-        for end in &ends[1..] {
-            let hit = op == Op::P && top == 173 && (result, *end) == (121, 97);
-            result = u32::from(combine(op, top, result as u16, *end));
+        for other in &ends[1..] {
+            let hit = op == Op::P && top == 173 && (result, *other) == (121, 97);
+            result = u32::from(combine(op, of_op, top, result as u16, *other));
             if hit && fault("product_wrong_at_top_173")
                 || hit && fault("product_wrong_under_one_weight") && weight == 50
             {
@@ -802,10 +846,7 @@ fn rule_end(op: Op, top: u16, weight: u16, mut ends: Vec<u16>, high: bool) -> u1
             }
         }
     }
-    if fault("round_up_high_end") && high {
-        return (result * weight).div_ceil(top_32) as u16;
-    }
-    (result * weight / top_32) as u16
+    divided(of_weight, result * weight, top.into()) as u16
 }
 
 /// T of one condition, with the planted fault.
@@ -847,8 +888,8 @@ fn body_value(page: &Page, held: &[Pair], cond: u16) -> Pair {
                 let lows = values.iter().map(|pair| pair.low).collect();
                 let highs = values.iter().map(|pair| pair.high).collect();
                 Pair::new(
-                    rule_end(*op, page.top, *weight, lows, false),
-                    rule_end(*op, page.top, *weight, highs, true),
+                    rule_end(*op, End::Low, page.top, *weight, lows),
+                    rule_end(*op, End::High, page.top, *weight, highs),
                 )
             }
             _ => continue,
@@ -947,7 +988,10 @@ const STEPWISE: &[&str] = &[
     "evaluate_changes_nothing",
     "queries_wake_too",
     "negate_without_exchange",
-    "round_up_high_end",
+    "high_end_rounds_down",
+    "low_end_rounds_up",
+    "weight_rounds_down_at_both_ends",
+    "product_rounds_down_at_both_ends",
     "product_divided_once",
     "product_wrong_at_top_173",
     "product_wrong_under_one_weight",

@@ -5,7 +5,8 @@ use mathlib.Core.List.{List}
 use Prim.Native.Nat.{ℕ, _+_, _*_, _-_, _≤_, _<_}
 use native.Mathlib.Omega.{arith}
 use lib.ListN.{length, getD}
-use Rattle.semantics.specs.Area.{sound, topOf, conditionsOf}
+use Rattle.semantics.specs.Area.{sound, topOf, conditionsOf, kind, ruleKind}
+use Rattle.semantics.specs.Grade.{upper, Op, combine}
 use Rattle.page.specs.Graded.{RuleAt}
 use Rattle.value.specs.LineEnds as one
 use Rattle.value.proofs.RuleEnds.{rest, rest-code, code-under, foldable}
@@ -32,7 +33,7 @@ module _ (a values : List ℕ) (at : ℕ) (ok : sound a ≡ true) (g : Mirrored 
   first-negation = (negation-in code (code-under a values at r), negation-grade code (code-under a values at r))
 
   module _ {h : ℕ} (q : h ≡ topOf a - getD values (flip code) 0) where
-    pub first-high : h ≡ getD (mirrored (topOf a) values) code 0
+    first-high : h ≡ getD (mirrored (topOf a) values) code 0
     first-high = q ∙ sym (mirrored-at (topOf a) values code first-in)
 
     pub ends-foldable : BothFoldable (topOf a) (rest a values at r) values (getD values code 0) h
@@ -43,3 +44,8 @@ module _ (a values : List ℕ) (at : ℕ) (ok : sound a ≡ true) (g : Mirrored 
           room = λ j l. negation-in _ (rest-code a values at r j l);
           under = λ j l. negation-grade _ (rest-code a values at r j l);
         }
+
+    -- a fold from h is one from the number of the first literal in the mirrored table
+    pub high-folded : {x : ℕ} → ((op : Op) → kind (getD a (at + 1) 0) ≡ ruleKind op → one.Folded (combine (topOf a) op upper) (rest a values at r) (mirrored (topOf a) values) h x)
+        → (op : Op) → kind (getD a (at + 1) 0) ≡ ruleKind op → one.Folded (combine (topOf a) op upper) (rest a values at r) (mirrored (topOf a) values) (getD (mirrored (topOf a) values) code 0) x
+    high-folded {x} f op k = subst (λ (y : ℕ). one.Folded (combine (topOf a) op upper) (rest a values at r) (mirrored (topOf a) values) y x) first-high (f op k)

@@ -53,6 +53,13 @@ areaTwice = 10 ∷ 1 ∷ 2 ∷ 14 ∷ 0 ∷ 0 ∷ 5 ∷ 5 ∷ 0 ∷ 4 ∷ 10 ∷
 unfoldable pub areaAsked : List ℕ
 areaAsked = 10 ∷ 2 ∷ 3 ∷ 16 ∷ 0 ∷ 6 ∷ 0 ∷ 0 ∷ 0 ∷ 0 ∷ 0 ∷ 4 ∷ 1 ∷ 6 ∷ 0 ∷ 0 ∷ []
 
+-- weight 5 over grade 5, and a weight of 9 on itself (row 7)
+unfoldable pub areaHalf : List ℕ
+areaHalf = 10 ∷ 2 ∷ 2 ∷ 13 ∷ 1 ∷ 0 ∷ 5 ∷ 5 ∷ 0 ∷ 1 ∷ 5 ∷ 1 ∷ 2 ∷ []
+
+unfoldable pub areaNine : List ℕ
+areaNine = 10 ∷ 1 ∷ 1 ∷ 9 ∷ 0 ∷ 1 ∷ 9 ∷ 1 ∷ 0 ∷ []
+
 -- seven numbers: the last lies past 3 × C
 unfoldable pub opened1 : List ℕ
 opened1 = 0 ∷ 10 ∷ 2 ∷ 0 ∷ 10 ∷ 2 ∷ 9 ∷ []
@@ -116,6 +123,11 @@ areaRows =
     ∷ callsOn areaAsked (0 ∷ 4 ∷ 1 ∷ 0 ∷ 10 ∷ 2 ∷ []) (drive 9) (drove 1 0 rest) (0 ∷ 4 ∷ 1 ∷ 0 ∷ 0 ∷ 1 ∷ [])
     ∷ callsOn areaAsked (0 ∷ 10 ∷ 2 ∷ 0 ∷ 10 ∷ 2 ∷ []) (lineHeld 1) (heldBy 0) (0 ∷ 10 ∷ 2 ∷ 0 ∷ 10 ∷ 2 ∷ [])
     ∷ closesOn area1 (1 ∷ []) scratch1 (9 ∷ 9 ∷ 9 ∷ []) (0 ∷ 0 ∷ 0 ∷ 0 ∷ 0 ∷ 0 ∷ 0 ∷ 0 ∷ 0 ∷ 0 ∷ 0 ∷ 0 ∷ 9 ∷ []) (3 ∷ 8 ∷ 9 ∷ [])
+    -- a division rounds the low end down and the high end up
+    ∷ callsOn areaHalf opened1 (drive 3) (drove 3 3 rest) (2 ∷ 3 ∷ 1 ∷ 5 ∷ 5 ∷ 1 ∷ 9 ∷ [])
+    ∷ callsOn areaNine (0 ∷ 10 ∷ 2 ∷ []) (evaluate 0) (changed 2) (0 ∷ 9 ∷ 2 ∷ [])
+    ∷ callsOn areaNine (0 ∷ 9 ∷ 2 ∷ []) (evaluate 0) (unchanged 2) (0 ∷ 9 ∷ 1 ∷ [])
+    ∷ closesOn areaHalf (0 ∷ []) scratch1 (9 ∷ 9 ∷ 9 ∷ []) (0 ∷ 0 ∷ 0 ∷ 0 ∷ 0 ∷ 0 ∷ 0 ∷ 0 ∷ 0 ∷ 0 ∷ 0 ∷ 0 ∷ 9 ∷ []) (2 ∷ 3 ∷ 9 ∷ [])
     ∷ refusesOn area7 (1 ∷ []) scratch1 nines 10
     ∷ refusesOn area1 [] scratch1 nines 11
     ∷ refusesOn area1 (2 ∷ []) scratch1 nines 12

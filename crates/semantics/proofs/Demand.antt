@@ -55,7 +55,7 @@ accepted-by page m b c l e k q = go (changes page b c) (holder page b c) (rw (lt
     go true line q = let z : _≡_ {A = ℕ} 0 1 = cc in omega arith
     go false line q = let z : _≡_ {A = ℕ} 0 1 = cc in omega arith
 
-under-listed : (n : ℕ) (qs : List ℕ) → allUnder n qs ≡ true → (c : ℕ) → listed c qs ≡ true → c < n
+pub under-listed : (n : ℕ) (qs : List ℕ) → allUnder n qs ≡ true → (c : ℕ) → listed c qs ≡ true → c < n
 unfolding allUnder listed
 under-listed n [] u c e = absurd (false≢true e)
 under-listed n (q ∷ qs) u c e =

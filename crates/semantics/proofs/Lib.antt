@@ -23,6 +23,9 @@ pub mod WrittenPages
 -- the computed closure is what is reached
 pub mod Table
 pub mod Closure
+-- the plain reading covers the exact figures
+pub mod Fractions
+pub mod Cover
 -- worked rows: the starred ones of document 01, and our own on areas and on texts
 pub mod Sweeps
 pub mod Computed
@@ -33,6 +36,8 @@ pub mod AreaRows
 pub mod AreaBench
 pub mod TextRows
 pub mod TextBench
+-- fractions that meet the covering rule's hypothesis
+pub mod CoverExample
 -- what operations keep
 pub mod Keeps
 -- what the program `attach` prints

@@ -1,15 +1,27 @@
 -- The five ops and the weight, once for all tops. Assumes nothing.
-use mathlib.Core.Path.{_≡_, ap}
+use mathlib.Core.Path.{_≡_, refl, ap}
 use Prim.Native.Nat.{ℕ, zero, suc, _+_, _*_, _-_, _/_, _≤_, _<_, min, max}
-use native.Mathlib.Nat.{le-trans, div-zero, div-mul-le-self, le-div-iff-mul-le, div-lt-iff-lt-mul, suc-mul, mul-le-mul}
+use native.Mathlib.Nat.{le-trans, div-zero, div-mul-le-self, lt-div-mul-add, le-div-iff-mul-le, div-lt-iff-lt-mul, suc-mul, mul-le-mul}
 use native.Mathlib.Omega.{arith}
 use Rattle.semantics.specs.Grade.{End, lower, upper, rounding, divided, Op, M, X, L, B, P, combine}
 
--- every division rounds down now
-pub divided-down : (e : End) (x top : ℕ) → divided e x top ≡ x / top
+-- the low end rounds down, the high end up
+pub divided-down : (x top : ℕ) → divided lower x top ≡ x / top
 unfolding divided rounding
-divided-down lower x top = ap (λ (y : ℕ). y / top) (omega arith)
-divided-down upper x top = ap (λ (y : ℕ). y / top) (omega arith)
+divided-down x top = ap (λ (y : ℕ). y / top) (omega arith)
+
+pub divided-up : (x top : ℕ) → divided upper x top ≡ (x + (top - 1)) / top
+unfolding divided rounding
+divided-up x top = refl
+
+-- so x divided by top lies between the two
+pub divided-below : (x top : ℕ) → divided lower x top * top ≤ x
+unfolding divided rounding
+divided-below x top = omega (arith, div-mul-le-self (x + 0) top)
+
+pub divided-above : (x top : ℕ) → 1 ≤ top → x ≤ divided upper x top * top
+unfolding divided rounding
+divided-above x top h = omega (arith, lt-div-mul-add {a = x + rounding upper top} h)
 
 -- What follows holds however the two ends round, as long as less than top is added, and at the low end no more than at the high end.
 rounding-ends : (top : ℕ) → rounding lower top ≤ rounding upper top

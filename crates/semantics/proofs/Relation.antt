@@ -22,10 +22,10 @@ pub record Respected (top : ℕ) (R : Interval → Interval → Type 0) : Type 0
   pub weights : (w : ℕ) (p q : Interval) → w ≤ top → R p q → R (weighted top w p) (weighted top w q)
   pub largest : (p q p′ q′ : Interval) → R p q → R p′ q′ → R (largest p p′) (largest q q′)
 
-left : (a b : Bool) → a ≡ true → (a || b) ≡ true
+pub left : (a b : Bool) → a ≡ true → (a || b) ≡ true
 left a b e = rw e
 
-right : (a b : Bool) → b ≡ true → (a || b) ≡ true
+pub right : (a b : Bool) → b ≡ true → (a || b) ≡ true
 right a b e = rw (e, or-true)
 
 module _ (n : ℕ) {top : ℕ} {R : Interval → Interval → Type 0} (k : Respected top R) (I J : Assign) where

@@ -1,4 +1,4 @@
--- Document 01, "Bench figures": the starred rows 1 to 8, and one row of our own. One list, one claim (`bench`). Assumes nothing.
+-- Document 01, "Bench figures", rows 7 and 8 as ticket 2 has them: the starred rows 1 to 8, and two pages of our own. One list, one claim (`bench`). Assumes nothing.
 use mathlib.Core.Path.{_≡_}
 use mathlib.Core.List.{List, [], _∷_}
 use mathlib.Core.Bool.{Bool, true, false}
@@ -75,7 +75,8 @@ page8 =
           ∷ [];
     }
 
--- Ours: a fact with two ends, and three literals under P, L and X. From the left 5 P 5 P 9 is 2 P 9, which is 1; from the right it would be 5 P 4, which is 2.
+-- Ours: a fact with two ends, and three literals under P, L and X. At the low end 5 P 5 P 9 is from the left 2 P 9, which is 1; from the right it would be
+-- 5 P 4, which is 2.
 -- (No starred row has three literals, or an X.)
 unfoldable pub pageOurs : Page
 pageOurs =
@@ -88,6 +89,30 @@ pageOurs =
           ∷ rule 3 10 P (positive 0 ∷ positive 0 ∷ positive 1 ∷ [])
           ∷ rule 4 10 L (positive 1 ∷ positive 2 ∷ positive 1 ∷ [])
           ∷ rule 5 10 X (positive 0 ∷ positive 1 ∷ positive 2 ∷ [])
+          ∷ [];
+    }
+
+-- Ours, for ticket 2: every op on what is no whole number, a weight on one, a loop through a negation, a repeated literal, several lines of one head, and 4
+-- without lines. Exactly, with 5 and 3 chosen in the F lines, 1 is 5/2, 2 is 10/3, 3 is 5/24, 5 is 8, 6 is 25/6, 7 is 21/4, 8 is 5/2 and 9 is 10/3
+-- (`exact-example`).
+unfoldable pub pageExact : Page
+pageExact =
+    record {
+      top = 10;
+      conditions = 10;
+      lines = fact 0 4 6
+          ∷ fact 0 2 3
+          ∷ rule 1 5 M (positive 0 ∷ [])
+          ∷ rule 2 5 M (negative 2 ∷ [])
+          ∷ query K 3
+          ∷ rule 3 10 P (positive 1 ∷ positive 2 ∷ positive 1 ∷ [])
+          ∷ rule 3 10 L (positive 1 ∷ positive 0 ∷ [])
+          ∷ rule 5 8 B (negative 1 ∷ positive 2 ∷ [])
+          ∷ rule 5 1 X (positive 4 ∷ negative 1 ∷ [])
+          ∷ rule 6 10 L (negative 1 ∷ negative 2 ∷ [])
+          ∷ rule 7 9 B (positive 1 ∷ positive 2 ∷ [])
+          ∷ rule 8 10 M (positive 1 ∷ positive 2 ∷ negative 2 ∷ [])
+          ∷ rule 9 10 X (positive 1 ∷ positive 2 ∷ [])
           ∷ [];
     }
 
@@ -111,17 +136,27 @@ rows =
     ∷ closedly page5 0 0 1
     ∷ plainly page6 0 0 1
     ∷ closedly page6 0 0 0
-    ∷ plainly page7 0 0 0
+    ∷ plainly page7 0 0 9
     ∷ opens page7 (0 ∷ []) 1 1 11
-    ∷ drives page7 (0 ∷ []) 10 spent 10 (true ∷ []) (interval 0 0 ∷ [])
-    ∷ drives page7 (0 ∷ []) 11 rest 11 (false ∷ []) (interval 0 0 ∷ [])
-    ∷ plainly page8 2 3 3
+    ∷ drives page7 (0 ∷ []) 1 spent 1 (true ∷ []) (interval 0 9 ∷ [])
+    ∷ drives page7 (0 ∷ []) 2 rest 2 (false ∷ []) (interval 0 9 ∷ [])
+    ∷ plainly page8 2 3 4
     ∷ plainly page8 3 2 2
     ∷ plainly page8 4 10 10
-    ∷ plainly page8 5 2 2
-    -- our own row
-    ∷ plainly pageOurs 3 1 1
+    ∷ plainly page8 5 2 4
+    -- our own rows
+    ∷ closedly page7 0 0 0
+    ∷ closedly page8 5 2 4
+    ∷ plainly pageOurs 3 1 3
     ∷ plainly pageOurs 2 8 10
     ∷ plainly pageOurs 4 6 8
     ∷ plainly pageOurs 5 9 10
+    ∷ plainly pageExact 1 2 3
+    ∷ plainly pageExact 2 3 4
+    ∷ plainly pageExact 3 0 1
+    ∷ plainly pageExact 5 8 8
+    ∷ plainly pageExact 6 3 5
+    ∷ plainly pageExact 7 4 7
+    ∷ plainly pageExact 8 2 3
+    ∷ plainly pageExact 9 3 4
     ∷ []

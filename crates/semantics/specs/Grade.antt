@@ -8,10 +8,11 @@ use Rattle.fixpoint.specs.Interval.{Interval}
 pub data End : Type 0 where
   lower upper : End
 
--- "Every division rounds down, at both ends": what is added before a division by top, 0 to round down and top − 1 to round up
+-- "every division rounds the low end down and the high end up" (ticket 2): what is added before a division by top, 0 to round down and
+-- top − 1 to round up
 unfoldable pub rounding : End → ℕ → ℕ
 rounding lower top = 0
-rounding upper top = 0
+rounding upper top = top - 1
 
 -- x divided by top
 unfoldable pub divided : End → ℕ → ℕ → ℕ

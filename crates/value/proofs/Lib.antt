@@ -1,3 +1,5 @@
+-- what a division requires
+pub mod Dividing
 -- an op over the numbers of literals, and a rule's end
 pub mod Folds
 pub mod RuleEnds

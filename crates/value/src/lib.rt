@@ -50,12 +50,15 @@ pub fn maximum(p: u16, q: u16) -> u16
     p
 }
 
-// A number divided by top, as the end rounds.
+// A number divided by top: the low end rounds down, the high end up.
 pub fn divided(x: u16, top: u16, end: End) -> u16
-    requires { ⌜ 1 ≤ top ⌝ }
+    requires { ⌜ (1 ≤ top) × (x + top ≤ 65536) ⌝ }
     ensures { λ r. ⌜ r ≡ divided (side end) x top ⌝ }
 {
-    x / top
+    match end {
+        End::Lower => x / top,
+        End::Upper => (x + (top - 1)) / top,
+    }
 }
 
 // M over the numbers of the literals from one place up to another: the smallest.

@@ -26,7 +26,7 @@ rows!(
     row_04_condition_without_lines_is_zero_after_one_evaluation,
     row_05_self_denial_stays_unknown_in_both_readings,
     row_06_self_support_is_unknown_plain_and_zero_closed,
-    row_07_fading_self_rule_takes_11_evaluations,
+    row_07_self_rule_of_weight_9_rests_after_2_evaluations,
     row_08_ops_product_lukasiewicz_bounded_and_weight,
     row_09_condition_511_is_read_and_512_refused,
     row_10_top_200_and_eight_literals_are_read_201_and_nine_refused,
@@ -210,13 +210,14 @@ fn row_06_self_support_is_unknown_plain_and_zero_closed(trial: &mut Trial, _: u6
     readings(trial, &area, 0, (0, 1), (0, 0))
 }
 
-fn row_07_fading_self_rule_takes_11_evaluations(trial: &mut Trial, _: u64) -> Check {
+fn row_07_self_rule_of_weight_9_rests_after_2_evaluations(trial: &mut Trial, _: u64) -> Check {
     let area = load(trial, "G,10,1\nR,0,9,M,0\n")?;
     let (_, measures) = opened(trial, &area, 0)?;
     figure("the bound", measures.bound, 11)?;
     let (pair, taken) = plain_of(trial, &area, 0)?;
-    figure("the interval", pair, Pair::new(0, 0))?;
-    figure("the evaluations", taken, 11)
+    figure("the interval", pair, Pair::new(0, 9))?;
+    figure("the evaluations", taken, 2)?;
+    readings(trial, &area, 0, (0, 9), (0, 0))
 }
 
 fn row_08_ops_product_lukasiewicz_bounded_and_weight(trial: &mut Trial, _: u64) -> Check {
@@ -224,8 +225,8 @@ fn row_08_ops_product_lukasiewicz_bounded_and_weight(trial: &mut Trial, _: u64) 
         trial,
         "G,10,6\nF,0,7,7\nF,1,5,5\nR,2,10,P,0,1\nR,3,10,L,0,1\nR,4,10,B,0,1\nR,5,8,P,0,1\n",
     )?;
-    for (cond, grade) in [(2, 3), (3, 2), (4, 10), (5, 2)] {
-        readings(trial, &area, cond, (grade, grade), (grade, grade))?;
+    for (cond, ends) in [(2, (3, 4)), (3, (2, 2)), (4, (10, 10)), (5, (2, 4))] {
+        readings(trial, &area, cond, ends, ends)?;
     }
     Ok(())
 }

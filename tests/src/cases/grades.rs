@@ -2,6 +2,7 @@
 //! and eight literals with stated figures.
 
 use crate::answer::Driven;
+use crate::body::End;
 use crate::ffi::Call;
 use crate::page::{OPS, TOP_MAX};
 use crate::runner::Case;
@@ -32,8 +33,16 @@ pub fn cases() -> Vec<Case> {
     ]
 }
 
-/// What the rules say of p and q, kinds 1 to 5.
-fn of_two(kind: u16, top: u32, p: u32, q: u32) -> u32 {
+/// A division by top, by hand: the low end is the largest that does not exceed it, the high end the smallest that is not below it.
+fn divided(end: End, number: u32, top: u32) -> u32 {
+    match end {
+        End::Low => number / top,
+        End::High => number.div_ceil(top),
+    }
+}
+
+/// What the rules say of p and q at one end, kinds 1 to 5.
+fn of_two(kind: u16, end: End, top: u32, p: u32, q: u32) -> u32 {
     match kind {
         1 if p < q => p,
         1 => q,
@@ -43,68 +52,74 @@ fn of_two(kind: u16, top: u32, p: u32, q: u32) -> u32 {
         3 => p + q - top,
         4 if p + q > top => top,
         4 => p + q,
-        _ => p * q / top,
+        _ => divided(end, p * q, top),
     }
 }
 
-/// Top, op, weight, grades, and the value worked out by hand.
-const STATED: &[(u16, char, u16, &[u16], u16)] = &[
-    (10, 'X', 10, &[7, 5], 7),
-    (10, 'X', 10, &[5, 7], 7),
-    (10, 'L', 10, &[7, 5], 2),
-    (10, 'L', 10, &[4, 5], 0),
-    (10, 'B', 10, &[7, 5], 10),
-    (10, 'B', 10, &[4, 5], 9),
-    (10, 'M', 10, &[5, 7], 5),
-    (10, 'P', 10, &[7, 5], 3),
-    (173, 'P', 173, &[121, 97], 67),
-    (173, 'P', 100, &[121, 97], 38),
-    (200, 'P', 200, &[199, 199], 198),
-    (10, 'M', 10, &[7, 5, 9], 5),
-    (10, 'X', 10, &[7, 5, 9], 9),
-    (10, 'L', 10, &[7, 5, 9], 1),
-    (10, 'L', 10, &[9, 0, 10], 0),
-    (10, 'B', 10, &[3, 4, 2], 9),
-    (10, 'B', 10, &[7, 5, 9], 10),
-    // From the left 5 x 5 is 2 and 2 x 9 is 1; from the right it would be 4 and 2.
-    (10, 'P', 10, &[5, 5, 9], 1),
-    (10, 'P', 10, &[9, 5, 5], 2),
-    (10, 'X', 9, &[7, 5, 9], 8),
-    (10, 'L', 7, &[9, 9, 9], 4),
-    (200, 'M', 200, &[10, 20, 30, 40, 50, 60, 70, 80], 10),
-    (200, 'X', 200, &[10, 20, 30, 40, 50, 60, 70, 80], 80),
-    (200, 'L', 200, &[190; 8], 120),
-    (200, 'L', 150, &[190; 8], 90),
-    (200, 'B', 200, &[20; 8], 160),
-    (200, 'B', 200, &[30; 8], 200),
-    (200, 'B', 199, &[1, 2, 3, 4, 5, 6, 7, 8], 35),
-    // 198, 197, 196, 195, 194, 193, 192.
-    (200, 'P', 200, &[199; 8], 192),
-    (200, 'P', 1, &[199; 8], 0),
-    (200, 'P', 199, &[199; 8], 191),
-    // 8, 7, 6, 5, 4, 3, 2.
-    (10, 'P', 10, &[9; 8], 2),
-    (1, 'P', 1, &[1; 8], 1),
-    (1, 'L', 1, &[1, 1, 1, 0, 1, 1, 1, 1], 0),
+/// Top, op, weight, grades, and the two ends of the value worked out by hand.
+type Stated = (u16, char, u16, &'static [u16], u16, u16);
+
+const STATED: &[Stated] = &[
+    // Half grades: weight 5 over grade 5.
+    (10, 'M', 5, &[5], 2, 3),
+    (10, 'X', 10, &[7, 5], 7, 7),
+    (10, 'X', 10, &[5, 7], 7, 7),
+    (10, 'L', 10, &[7, 5], 2, 2),
+    (10, 'L', 10, &[4, 5], 0, 0),
+    (10, 'B', 10, &[7, 5], 10, 10),
+    (10, 'B', 10, &[4, 5], 9, 9),
+    (10, 'M', 10, &[5, 7], 5, 5),
+    (10, 'P', 10, &[7, 5], 3, 4),
+    (10, 'P', 8, &[7, 5], 2, 4),
+    (173, 'P', 173, &[121, 97], 67, 68),
+    (173, 'P', 100, &[121, 97], 38, 40),
+    (200, 'P', 200, &[199, 199], 198, 199),
+    (10, 'M', 10, &[7, 5, 9], 5, 5),
+    (10, 'X', 10, &[7, 5, 9], 9, 9),
+    (10, 'L', 10, &[7, 5, 9], 1, 1),
+    (10, 'L', 10, &[9, 0, 10], 0, 0),
+    (10, 'B', 10, &[3, 4, 2], 9, 9),
+    (10, 'B', 10, &[7, 5, 9], 10, 10),
+    // The low end from the left: 5 x 5 is 2 and 2 x 9 is 1; from the right it would be 4 and 2.
+    (10, 'P', 10, &[5, 5, 9], 1, 3),
+    (10, 'P', 10, &[9, 5, 5], 2, 3),
+    (10, 'X', 9, &[7, 5, 9], 8, 9),
+    (10, 'L', 7, &[9, 9, 9], 4, 5),
+    (200, 'M', 200, &[10, 20, 30, 40, 50, 60, 70, 80], 10, 10),
+    (200, 'X', 200, &[10, 20, 30, 40, 50, 60, 70, 80], 80, 80),
+    (200, 'L', 200, &[190; 8], 120, 120),
+    (200, 'L', 150, &[190; 8], 90, 90),
+    (200, 'B', 200, &[20; 8], 160, 160),
+    (200, 'B', 200, &[30; 8], 200, 200),
+    (200, 'B', 199, &[1, 2, 3, 4, 5, 6, 7, 8], 35, 36),
+    // The low end: 198, 197, 196, 195, 194, 193, 192.
+    (200, 'P', 200, &[199; 8], 192, 199),
+    (200, 'P', 1, &[199; 8], 0, 1),
+    (200, 'P', 199, &[199; 8], 191, 199),
+    // The low end: 8, 7, 6, 5, 4, 3, 2.
+    (10, 'P', 10, &[9; 8], 2, 9),
+    (1, 'P', 1, &[1; 8], 1, 1),
+    (1, 'L', 1, &[1, 1, 1, 0, 1, 1, 1, 1], 0, 0),
 ];
 
 /// Each stated rule in both readings, by the point and as either end of an interval.
 fn stated_values(trial: &mut Trial, _: u64) -> Check {
-    for (top, op, weight, grades, value) in STATED {
+    for (top, op, weight, grades, low, high) in STATED {
         for end in 0..3 {
             let mut text = format!("G,{top},{}\n", grades.len() + 1);
             let mut rule = format!("R,0,{weight},{op}");
             for (grade, cond) in grades.iter().zip(1..) {
-                let (low, high) = [(*grade, *grade), (*grade, *top), (0, *grade)][end];
-                text.push_str(&format!("F,{cond},{low},{high}\n"));
+                let (from, to) = [(*grade, *grade), (*grade, *top), (0, *grade)][end];
+                text.push_str(&format!("F,{cond},{from},{to}\n"));
                 rule.push_str(&format!(",{cond}"));
             }
             text.push_str(&rule);
             text.push('\n');
             let (plain, closed) = readings(trial, &text)?;
-            let of = |pair: [u16; 2]| [pair[0], pair[0], pair[1]][end];
+            // What the facts do not settle is not compared.
+            let of = |pair: [u16; 2]| [pair, [pair[0], *high], [*low, pair[1]]][end];
             let got = (of(plain), of(closed), plain == closed);
-            figure(&text, got, (*value, *value, true))?;
+            figure(&text, got, ([*low, *high], [*low, *high], true))?;
         }
     }
     Ok(())
@@ -142,9 +157,10 @@ fn evaluate_pairs(trial: &mut Trial, item: u64) -> Check {
                 let mut run = [p, p, 1, q, q, 1, 0, top, 2];
                 // SAFETY: the slices are valid and apart.
                 let code = unsafe { evaluate(area.as_ptr(), 10, run.as_mut_ptr(), 9, 2) };
-                let value = of_two(kind, top.into(), p.into(), q.into()) as u16;
-                let changed = i32::from(value > 0 || value < top);
-                if (code, run) != (changed, [p, p, 1, q, q, 1, value, value, 1]) {
+                let value = |end| of_two(kind, end, top.into(), p.into(), q.into()) as u16;
+                let (low, high) = (value(End::Low), value(End::High));
+                let changed = i32::from(low > 0 || high < top);
+                if (code, run) != (changed, [p, p, 1, q, q, 1, low, high, 1]) {
                     return Err(format!("{p} and {q} in {area:?} give {code} and {run:?}"));
                 }
             }
@@ -270,11 +286,12 @@ fn drive_some(
         };
         trial.engine.calls += 1;
         for ((q, weight), cell) in some.iter().zip(wanted.chunks_exact_mut(3)) {
-            let value = |p: u16| {
-                let product = u32::from(p) * u32::from(*q) / u32::from(top);
-                (product * u32::from(*weight) / u32::from(top)) as u16
+            let value = |end, p: u16| {
+                let product = divided(end, u32::from(p) * u32::from(*q), top.into());
+                divided(end, product * u32::from(*weight), top.into()) as u16
             };
-            cell.copy_from_slice(&[value(ends[0]), value(ends[1]), 1]);
+            let (low, high) = (value(End::Low, ends[0]), value(End::High, ends[1]));
+            cell.copy_from_slice(&[low, high, 1]);
         }
         if (code, taken) != (1, u32::from(rules)) || run != wanted {
             let wrong = run.iter().zip(&wanted).position(|(a, b)| a != b);
@@ -387,20 +404,20 @@ fn closed_values(trial: &mut Trial, top: u16, rules: &[PointRule]) -> Check<Vec<
     Ok(one[..2 * rules.len()].to_vec())
 }
 
-/// Compares rules in groups with what is wanted of each.
+/// Compares rules in groups with what is wanted of each end of each.
 fn compare_rules(
     trial: &mut Trial,
     top: u16,
     rules: &[PointRule],
-    wanted: impl Fn(&PointRule) -> u16,
+    wanted: impl Fn(End, &PointRule) -> u16,
 ) -> Check {
     for some in rules.chunks(ASKED) {
         let values = closed_values(trial, top, some)?;
         for (rule, value) in some.iter().zip(values.chunks_exact(2)) {
-            let wanted = wanted(rule);
-            if value != [wanted, wanted] {
+            let wanted = [wanted(End::Low, rule), wanted(End::High, rule)];
+            if value != wanted {
                 return Err(format!(
-                    "kind, weight and grades {rule:?} at top {top} give {value:?}, not {wanted}"
+                    "kind, weight and grades {rule:?} at top {top} give {value:?}, not {wanted:?}"
                 ));
             }
         }
@@ -423,10 +440,10 @@ fn closed_pairs(trial: &mut Trial, item: u64) -> Check {
             if kind == 5 {
                 rules.extend((0..=top).map(|q| (5, 1 + (7 * p + 13 * q) % top, p, Some(q))));
             }
-            compare_rules(trial, top, &rules, |(kind, weight, p, q)| {
+            compare_rules(trial, top, &rules, |end, (kind, weight, p, q)| {
                 let top = u32::from(top);
-                let value = of_two(*kind, top, u32::from(*p), q.unwrap_or(0).into());
-                (value * u32::from(*weight) / top) as u16
+                let value = of_two(*kind, end, top, u32::from(*p), q.unwrap_or(0).into());
+                divided(end, value * u32::from(*weight), top) as u16
             })?;
         }
     }
@@ -440,8 +457,8 @@ fn closed_weights(trial: &mut Trial, item: u64) -> Check {
         let rules: Vec<PointRule> = (1..=top)
             .map(|weight| (1 + weight % 5, weight, p, None))
             .collect();
-        compare_rules(trial, top, &rules, |(_, weight, p, _)| {
-            (u32::from(*p) * u32::from(*weight) / u32::from(top)) as u16
+        compare_rules(trial, top, &rules, |end, (_, weight, p, _)| {
+            divided(end, u32::from(*p) * u32::from(*weight), top.into()) as u16
         })?;
     }
     Ok(())

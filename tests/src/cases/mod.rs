@@ -2,6 +2,7 @@
 
 mod areas;
 mod closed;
+mod cover;
 mod figures;
 mod grades;
 pub mod large;
@@ -31,6 +32,7 @@ pub fn calls() -> Vec<Case> {
     cases.extend(refusals::cases());
     cases.extend(runs::cases());
     cases.extend(closed::cases());
+    cases.extend(cover::cases());
     cases.extend(thresholds::cases());
     cases.extend(lists::cases());
     cases.extend(large::cases());

@@ -5,6 +5,7 @@ use Rattle.semantics.proofs.Ops.{divided-bounded}
 use Rattle.page.proofs.Entries.{small-product}
 use Rattle.value.specs.Table.{side}
 use Rattle.value.specs.LineEnds.{product}
+use Rattle.value.proofs.Dividing.{product-divides}
 use Rattle.value.proofs.Folds.{FoldingAt, folding-at-first, listed-here, grade-here, folding-at-next, folding-at-last}
 use Rattle.value.proofs.fold_product.Statement.{statement}
 use Rattle.value.proofs.fold_product.Tie as tie
@@ -37,7 +38,7 @@ mul-divided : tie.Need-mul-divided Inv-loop μ-loop
 mul-divided c = record { fits = small-product (omega (arith, c .before .before .before .loop .inv .1, c .before .before .before .before .before .before .pre .2 .small)) (omega (arith, grade-here _ _ _ _ _ _ (c .before .before .before .loop .inv .0) (c .before .before .before .before .before .before .pre .2) (omega arith), c .before .before .before .before .before .before .pre .2 .small)) }
 
 divided-requires : tie.Need-divided-requires Inv-loop μ-loop
-divided-requires c κs = c .before .before .before .before .before .before .pre .2 .some
+divided-requires c κs = let g = c .before .before .before .before .before .before .pre .2 in product-divides (g .some) (g .small) (c .before .before .before .loop .inv .1) (grade-here _ _ _ _ _ _ (c .before .before .before .loop .inv .0) g (omega arith))
 
 add-j : tie.Need-add-j Inv-loop μ-loop
 add-j c = omega (arith, c .before .before .before .before .before .before .before .pre .1, c .before .before .before .before .before .before .before .good)
