@@ -16,9 +16,10 @@ pub enum Call {
     Value,
     Closed,
     ClosedIndexed,
+    Layers,
 }
 
-pub const CALLS: [Call; 9] = [
+pub const CALLS: [Call; 10] = [
     Call::Read,
     Call::ShowLine,
     Call::Open,
@@ -28,6 +29,7 @@ pub const CALLS: [Call; 9] = [
     Call::Value,
     Call::Closed,
     Call::ClosedIndexed,
+    Call::Layers,
 ];
 
 impl Call {
@@ -42,6 +44,7 @@ impl Call {
             Call::Value => "value",
             Call::Closed => "closed",
             Call::ClosedIndexed => "closed_indexed",
+            Call::Layers => "layers",
         }
     }
 
@@ -60,6 +63,7 @@ impl Call {
             Call::Value => simjorad_value as *const (),
             Call::Closed => simjorad_closed as *const (),
             Call::ClosedIndexed => simjorad_closed_indexed as *const (),
+            Call::Layers => simjorad_layers as *const (),
         }
     }
 }
@@ -158,5 +162,13 @@ extern "C" {
         answers_length: usize,
         workspace: *mut u16,
         workspace_length: usize,
+    ) -> i32;
+
+    pub fn simjorad_layers(
+        page: *const u16,
+        page_length: usize,
+        layers: *mut u16,
+        layers_length: usize,
+        condition: *mut u32,
     ) -> i32;
 }

@@ -1,16 +1,15 @@
 -- Layers computed on tables, pass by pass. Assumes nothing.
-use mathlib.Core.Path.{_≡_, refl, sym, _∙_, ap, subst}
+use mathlib.Core.Path.{_≡_, refl, sym, ap, subst}
 use mathlib.Core.Bool.{Bool, true, false}
 use mathlib.Core.List.{List, _++_}
 use Prim.Native.Nat.{ℕ, zero, suc, _≤_, _<_, max}
 use native.Mathlib.Omega.{arith}
 use lib.ListN.{length, getD, drop}
-use lib.Seq.{ext-getD}
 use Rattle.semantics.specs.Page.{Page, names}
 use Rattle.semantics.proofs.Proper.{Proper}
 use Rattle.semantics.specs.Table.{table}
 use Rattle.semantics.proofs.Readings.{names-inside}
-use Rattle.semantics.proofs.Table.{length-from, getD-table}
+use Rattle.semantics.proofs.Table.{length-from, getD-table, table-back}
 use Rattle.semantics.specs.Layers.{negates, Layers, LeastLayers, LayersWritten}
 use Rattle.semantics.proofs.Layers.{namer-inside, negates-names}
 use Rattle.semantics.proofs.Walks.{largest, largest-ge, largest-le}
@@ -104,5 +103,5 @@ module _ (page : Page) (w : Proper page) where
       record {
         layer = v k;
         is-least = raised-least k e;
-        written = ap (λ (t : List ℕ). t ++ drop n s) (ext-getD 0 (raised page k) (table n (v k)) (raised-length k ∙ sym (length-from n 0 (v k))) (λ i l. sym (getD-table n (v k) i 0 (rw (raised-length k) at l))));
+        written = ap (λ (t : List ℕ). t ++ drop n s) (sym (table-back 0 (raised page k) n (raised-length k)));
       }

@@ -5,6 +5,7 @@ mod closed;
 mod figures;
 mod grades;
 pub mod large;
+mod layers;
 mod lists;
 mod reader;
 mod refusals;
@@ -31,6 +32,7 @@ pub fn calls() -> Vec<Case> {
     cases.extend(refusals::cases());
     cases.extend(runs::cases());
     cases.extend(closed::cases());
+    cases.extend(layers::cases());
     cases.extend(thresholds::cases());
     cases.extend(lists::cases());
     cases.extend(large::cases());
