@@ -1,18 +1,19 @@
 -- A look at the part at a level: the literals of a rule, one line, and all lines. Assumes nothing.
 use mathlib.Core.Path.{_≡_, refl, sym, _∙_, ap, subst}
 use mathlib.Core.Logic.{_≢_, _⊎_, inl, inr, ⊎-elim}
-use mathlib.Core.Bool.{Bool, true, false, _&&_, false≢true, true≢false}
+use mathlib.Core.Bool.{Bool, true, false, false≢true}
 use mathlib.Core.List.{List}
 use Prim.Native.Nat.{ℕ, _+_, _/_, _%_, _≤_, _<_, max}
-use native.Mathlib.Decide.{decLe}
+use native.Mathlib.Decide.{ℕ-discrete, decLe}
 use native.Mathlib.Omega.{arith}
 use borrow.Author.Count.{below-none, below-more}
-use borrow.Author.Tests.{eq-eqb, eqb-true}
+use borrow.Author.Tests.{eq-eqb, ne-eqb}
+use lib.Bits.{bitOr, or-step}
 use lib.Dec.{eqb}
 use lib.ListN.{length, getD, drop}
 use Rattle.semantics.specs.Area.{sound, pageOf, lineAt, countOf, firstLine}
 use Rattle.semantics.specs.Layers.{negates}
-use Rattle.semantics.proofs.Soundness.{both-true}
+use Rattle.semantics.proofs.Layers.{or-left, or-right}
 use Rattle.page.specs.Graded.{RuleAt}
 use Rattle.page.specs.Lines.{Next, lineNames, stepAt}
 use Rattle.page.proofs.Naming.{line-rule, line-fact, line-over}
@@ -21,6 +22,10 @@ use Rattle.layers.specs.Levels.{levelIn, inside, RuleLooked, LineLooked,
 use Rattle.layers.specs.Raising.{lineNegates}
 use Rattle.layers.proofs.Behind.{Behind, by-names, by-negates, behind-first, behind-next, behind-last, here-related}
 use Rattle.layers.proofs.Literals.{code-named, code-negated, named-code, negated-code, line-denies, fact-denies, over-denies}
+
+-- two numbers put together are odd if one of them is
+or-odd : (x y : ℕ) → bitOr x y % 2 ≡ max (x % 2) (y % 2)
+or-odd x y = rw (or-step x y) (omega arith)
 
 module _ (a : List ℕ) (at : ℕ) (levels : List ℕ) (level : ℕ) where
   abbrev code : ℕ → ℕ
@@ -32,50 +37,52 @@ module _ (a : List ℕ) (at : ℕ) (levels : List ℕ) (level : ℕ) where
   abbrev levelAt : ℕ → ℕ
   levelAt i = levelIn levels (code i / 2)
 
-  -- j literals are passed, and none of them is of a condition outside
-  pub record Looking (seen j : ℕ) : Type 0 where
+  -- j literals are passed, and none of them is of a condition outside; `any` is odd if one of a condition of the part is negated
+  pub record Looking (any j : ℕ) : Type 0 where
     pub in-count : j ≤ y
-    pub seen-least : 512 ≤ seen
     pub passed : (i : ℕ) → i < j → inside level (levelAt i) ≡ true
-    pub clear : seen ≡ 512 → (i : ℕ) → i < j → code i % 2 ≡ 1 → levelAt i ≢ level
-    pub denied : 512 < seen → (i : ℕ) × (i < y) × (code i % 2 ≡ 1) × (levelAt i ≡ level)
+    pub clear : any % 2 ≡ 0 → (i : ℕ) → i < j → code i % 2 ≡ 1 → levelAt i ≢ level
+    pub denied : any % 2 ≡ 1 → (i : ℕ) × (i < y) × (code i % 2 ≡ 1) × (levelAt i ≡ level)
 
-  pub looking-first : Looking 512 0
-  looking-first = record { in-count = omega arith; seen-least = omega arith; passed = below-none _; clear = λ e. below-none _; denied = λ l. absurd (omega arith) }
+  pub looking-first : Looking 0 0
+  looking-first = record { in-count = omega arith; passed = below-none _; clear = λ e. below-none _; denied = λ e. absurd (omega (arith, e)) }
 
-  module _ {seen j : ℕ} (s : Looking seen j) (l : j < y) where
-    pub looking-denied : inside level (levelAt j) ≡ true → (eqb (code j % 2) 1 && eqb (levelAt j) level) ≡ true → Looking 513 (j + 1)
-    looking-denied h t =
-        let k = both-true (eqb (code j % 2) 1) (eqb (levelAt j) level) t in
+  module _ {any j : ℕ} (s : Looking any j) (l : j < y) where
+    pub looking-part : levelAt j ≡ level → Looking (bitOr any (code j)) (j + 1)
+    looking-part e =
+        let o = or-odd any (code j) in
         record {
           in-count = omega arith;
-          seen-least = omega arith;
-          passed = below-more _ j (s .passed) h;
-          clear = λ e. absurd (omega arith);
-          denied = λ m. (j, l, eqb-true (code j % 2) 1 (k .0), eqb-true (levelAt j) level (k .1));
+          passed = below-more _ j (s .passed) (or-left (eqb (levelAt j) level) (eqb (levelAt j) 513) (eq-eqb (levelAt j) level e));
+          clear = λ q. below-more _ j (s .clear (omega arith)) (λ m. absurd (omega arith));
+          denied = λ q. elim (ℕ-discrete (code j % 2) 1) [ yes m ↦ (j, l, m, e) | no m ↦ s .denied (omega arith) ];
         }
 
-    pub looking-next : inside level (levelAt j) ≡ true → (eqb (code j % 2) 1 && eqb (levelAt j) level) ≡ false → Looking seen (j + 1)
-    looking-next h t =
+    pub looking-done : levelAt j ≢ level → levelAt j ≡ 513 → Looking any (j + 1)
+    looking-done h e =
         record {
           in-count = omega arith;
-          seen-least = s .seen-least;
-          passed = below-more _ j (s .passed) h;
-          clear = λ e. below-more _ j (s .clear e) (λ o q. true≢false (sym (rw (eq-eqb (code j % 2) 1 o, eq-eqb (levelAt j) level q)) ∙ t));
+          passed = below-more _ j (s .passed) (or-right (eqb (levelAt j) level) (eqb (levelAt j) 513) (eq-eqb (levelAt j) 513 e));
+          clear = λ q. below-more _ j (s .clear q) (λ m. h);
           denied = s .denied;
         }
 
-    pub looking-out : code j / 2 < 512 → inside level (levelAt j) ≡ false → RuleLooked a at levels level (code j / 2)
-    looking-out m h =
-        record { found = λ z. (j, l, refl, h); within = λ z. absurd (omega arith); clear = λ z. absurd (omega arith); denied = λ z. absurd (omega arith) }
+    pub looking-out : code j / 2 < 512 → levelAt j ≢ level → levelAt j ≢ 513 → RuleLooked a at levels level (code j / 2)
+    looking-out m h e =
+        record {
+          found = λ z. (j, l, refl, rw (ne-eqb (levelAt j) level h, ne-eqb (levelAt j) 513 e));
+          within = λ z. absurd (omega arith);
+          clear = λ z. absurd (omega arith);
+          denied = λ z. absurd (omega arith);
+        }
 
-  pub looking-last : {seen j : ℕ} → Looking seen j → y ≤ j → RuleLooked a at levels level seen
-  looking-last s l =
+  pub looking-last : {any j : ℕ} → Looking any j → y ≤ j → RuleLooked a at levels level (512 + any % 2)
+  looking-last {any} s l =
       record {
-        found = λ z. absurd (omega (arith, s .seen-least));
+        found = λ z. absurd (omega arith);
         within = λ z i m. s .passed i (omega arith);
-        clear = λ z i m. s .clear z i (omega arith);
-        denied = s .denied;
+        clear = λ z i m. s .clear (omega arith) i (omega arith);
+        denied = λ z. s .denied (omega arith);
       }
 
   -- a rule whose head is of the part

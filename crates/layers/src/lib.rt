@@ -1,16 +1,16 @@
 // Loops through an absence (document 02, ticket 3). The layers of a page are worked out by passes over its lines. Where they do not settle,
 // a search in depth finds the lowest condition from which a chain through a negation leads back.
 ghost use mathlib.Core.Path.{_≡_};
-ghost use mathlib.Core.Bool.{true, _&&_, _||_};
+ghost use mathlib.Core.Bool.{true, _&&_};
 ghost use mathlib.Core.List.{_++_};
-ghost use Prim.Native.Nat.{ℕ, _+_, _-_, _%_, _≤_, _<_};
-ghost use lib.Dec.{eqb, leb};
+ghost use Prim.Native.Nat.{_-_, _≤_, _<_};
+ghost use lib.Dec.{leb};
 ghost use lib.ListN.{length, getD, drop};
 ghost use Rattle.semantics.specs.Area.{sound, pageOf, topOf, conditionsOf, usedOf};
 ghost use Rattle.semantics.specs.Layers.{LayersOf};
 ghost use Rattle.page.specs.Graded.{RuleAt, SoundEntry};
 ghost use Rattle.layers.specs.Raising.{Low, Zero, Asked, Raised, LineRaised, PassRaised, Settled};
-ghost use Rattle.layers.specs.Levels.{inside as Levels·inside, RuleLooked, LineLooked, PartLooked, Relabelled, LowestAt, Entered, Finished, Open, Explored, HeadOpened, Begun, LoopFound};
+ghost use Rattle.layers.specs.Levels.{RuleLooked, LineLooked, PartLooked, Relabelled, LowestAt, Entered, Finished, Open, Explored, HeadOpened, Begun, LoopFound};
 ghost use Rattle.layers.specs.Verdict.{verdictOf, Worked};
 
 // The largest layer that the literals of the rule at `at` ask for: that of the condition, and one more for a negation.
@@ -98,26 +98,6 @@ fn settle(a: &[u16], layers: &mut [u16]) -> bool
     false
 }
 
-// Whether a condition with the level l is of the part at `level`, or done.
-fn inside(l: u16, level: u16) -> bool
-    ensures { λ r. ⌜ r ≡ Levels·inside level l ⌝ }
-{
-    if l == level {
-        return true;
-    }
-    l == 513
-}
-
-// Whether a literal is negated and its condition, with the level l, of the part at `level`.
-fn denied(code: u16, l: u16, level: u16) -> bool
-    ensures { λ r. ⌜ r ≡ (eqb (code % 2) 1 && eqb l level) ⌝ }
-{
-    if code % 2 == 1 {
-        return l == level;
-    }
-    false
-}
-
 // The first condition that the rule at `at` names outside of the part at `level`; 512 if there is none, and 513 if the rule also negates
 // a condition of the part.
 fn look_rule(a: &[u16], at: usize, levels: &[u16], level: u16) -> u16
@@ -125,20 +105,19 @@ fn look_rule(a: &[u16], at: usize, levels: &[u16], level: u16) -> u16
     ensures { λ r. ⌜ RuleLooked (now (a .entry)) at (now (levels .entry)) level r ⌝ }
 {
     let y = a[at + 3];
-    let mut seen: u16 = 512;
+    let mut any: u16 = 0;
     let mut j: u16 = 0;
     while j < y {
         let code = a[at + 4 + j as usize];
         let l = levels[code as usize / 2];
-        if !inside(l, level) {
+        if l == level {
+            any |= code;
+        } else if l != 513 {
             return code / 2;
-        }
-        if denied(code, l, level) {
-            seen = 513;
         }
         j += 1;
     }
-    seen
+    512 + any % 2
 }
 
 // The same for the line at `at`, if it is an R line whose head is of the part.

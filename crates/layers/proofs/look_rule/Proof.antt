@@ -1,22 +1,19 @@
 -- `layers::look_rule` meets its contract: the literals behind are of the part or done. Assumes nothing.
-use mathlib.Core.Path.{_≡_, sym, _∙_}
 use mathlib.Core.Logic.{⊎-elim}
-use Prim.Native.Nat.{_+_, _-_}
-use lib.ListN.{getD}
-use borrow.Author.Tests.{not-true, not-false}
+use Prim.Native.Nat.{_-_}
 use Rattle.semantics.specs.Area.{topOf, conditionsOf}
 use Rattle.page.proofs.Entries.{code-in}
-use Rattle.layers.proofs.Looking.{Looking, looking-first, looking-denied, looking-next, looking-out, looking-last}
+use Rattle.layers.proofs.Looking.{Looking, looking-first, looking-part, looking-done, looking-out, looking-last}
 use native.Mathlib.Omega.{arith}
 use borrow.Author.Needs.{needs}
 use Rattle.layers.proofs.look_rule.Statement.{statement}
 use Rattle.layers.proofs.look_rule.Tie as tie
 
 abbrev Inv-loop : tie.InvT-loop
-Inv-loop a at levels level y seen₀ j₀ seen j = Looking a at levels level seen j
+Inv-loop a at levels level y any₀ j₀ any j = Looking a at levels level any j
 
 abbrev μ-loop : tie.MeasureT-loop
-μ-loop a at levels level y seen₀ j₀ seen j = y - j
+μ-loop a at levels level y any₀ j₀ any j = y - j
 
 add-y : tie.Need-add-y Inv-loop μ-loop
 add-y c = search needs
@@ -46,25 +43,19 @@ shared-slice-read-code : tie.Need-shared-slice-read-code Inv-loop μ-loop
 shared-slice-read-code c = search needs
 
 cast-l : tie.Need-cast-l Inv-loop μ-loop
-cast-l c = let z = c .before .before .before .before .before .before in let h = c .before .before .loop in omega (arith, code-in (topOf (z .args .a .now)) (conditionsOf (z .args .a .now)) (z .args .a .now) (z .args .at) (z .pre .0) (h .j) (omega arith), z .pre .2)
+cast-l c = let z = c .before .before .before .before in let h = c .before .before .loop in omega (arith, code-in (topOf (z .args .a .now)) (conditionsOf (z .args .a .now)) (z .args .a .now) (z .args .at) (z .pre .0) (h .j) (omega arith), z .pre .2)
 
 mul-l : tie.Need-mul-l Inv-loop μ-loop
-mul-l c = let z = c .before .before .before .before .before .before in let h = c .before .before .loop in omega (arith, code-in (topOf (z .args .a .now)) (conditionsOf (z .args .a .now)) (z .args .a .now) (z .args .at) (z .pre .0) (h .j) (omega arith), z .pre .2)
+mul-l c = let z = c .before .before .before .before in let h = c .before .before .loop in omega (arith, code-in (topOf (z .args .a .now)) (conditionsOf (z .args .a .now)) (z .args .a .now) (z .args .at) (z .pre .0) (h .j) (omega arith), z .pre .2)
 
 shared-slice-read-l : tie.Need-shared-slice-read-l Inv-loop μ-loop
-shared-slice-read-l c = let z = c .before .before .before .before .before .before .before in let h = c .before .before .before .loop in omega (arith, code-in (topOf (z .args .a .now)) (conditionsOf (z .args .a .now)) (z .args .a .now) (z .args .at) (z .pre .0) (h .j) (omega arith), z .pre .1)
-
-inside-requires : tie.Need-inside-requires Inv-loop μ-loop
-inside-requires c κs = search needs
+shared-slice-read-l c = let z = c .before .before .before .before .before in let h = c .before .before .before .loop in omega (arith, code-in (topOf (z .args .a .now)) (conditionsOf (z .args .a .now)) (z .args .a .now) (z .args .at) (z .pre .0) (h .j) (omega arith), z .pre .1)
 
 returns : tie.Need-returns Inv-loop μ-loop
 returns c =
-    let z = c .before .before .before .before .before .before .before .before .before in
+    let z = c .before .before .before .before .before .before .before in
     let h = c .before .before .before .before .before .loop in
-    looking-out _ _ _ _ (h .inv) (omega arith) (omega (arith, z .pre .2, code-in (topOf (z .args .a .now)) (conditionsOf (z .args .a .now)) (z .args .a .now) (z .args .at) (z .pre .0) (h .j) (omega arith))) (sym (c .before .inside .ensures) ∙ not-true (c .before .inside .result) (c .if1 .taken))
-
-denied-requires : tie.Need-denied-requires Inv-loop μ-loop
-denied-requires c κs = search needs
+    looking-out _ _ _ _ (h .inv) (omega arith) (omega (arith, z .pre .2, code-in (topOf (z .args .a .now)) (conditionsOf (z .args .a .now)) (z .args .a .now) (z .args .at) (z .pre .0) (h .j) (omega arith))) (c .before .if1 .left) (c .if2 .taken)
 
 add-j : tie.Need-add-j Inv-loop μ-loop
 add-j c = search needs
@@ -74,10 +65,11 @@ loop-less c = search needs
 
 loop-again : tie.Need-loop-again Inv-loop μ-loop
 loop-again c =
-    let h = c .before .before .before .before .before .before .before .loop in
-    let i = sym (c .before .before .before .inside .ensures) ∙ not-false (c .before .before .before .inside .result) (c .before .before .if1 .left) in
-    let d = sym (c .before .denied .ensures) in
-    ⊎-elim (λ w. rw (w .1) (looking-denied _ _ _ _ (h .inv) (omega arith) i (d ∙ w .0 .taken))) (λ w. rw (w .1) (looking-next _ _ _ _ (h .inv) (omega arith) i (d ∙ w .0 .left))) (c .if2 .came)
+    let h = c .before .before .before .before .loop in
+    ⊎-elim (λ w. rw (w .1) (looking-part _ _ _ _ (h .inv) (omega arith) (w .0 .taken))) (λ w. rw (w .2) (looking-done _ _ _ _ (h .inv) (omega arith) (w .0 .left) (w .1 .left))) (c .if1 .came)
+
+add-result : tie.Need-add-result Inv-loop μ-loop
+add-result c = search needs
 
 returns-2 : tie.Need-returns-2 Inv-loop μ-loop
 returns-2 c = looking-last _ _ _ _ (c .before .loop .inv) (omega arith)
@@ -100,10 +92,9 @@ look-rule-spec =
     cast-l
     mul-l
     shared-slice-read-l
-    inside-requires
     returns
-    denied-requires
     add-j
     loop-less
     loop-again
+    add-result
     returns-2)
