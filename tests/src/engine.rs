@@ -514,7 +514,9 @@ impl Engine {
                 condition,
             })),
             0 if condition == 0 => Ok(Ok(())),
-            0 => Err(format!("a page that passes leaves {condition} in `*condition`")),
+            0 => Err(format!(
+                "a page that passes leaves {condition} in `*condition`"
+            )),
             _ => Err(format!("returned {code}")),
         }
     }

@@ -78,7 +78,12 @@ pub fn layers(page: &Page) -> Result<Vec<u16>, u16> {
         return Err(lowest as u16);
     }
     // The most negations on a chain: the components in the order of how much they reach, each after those that it names.
-    let size = |cond: usize| reached[cond].iter().map(|word| word.count_ones()).sum::<u32>();
+    let size = |cond: usize| {
+        reached[cond]
+            .iter()
+            .map(|word| word.count_ones())
+            .sum::<u32>()
+    };
     let mut order: Vec<usize> = (0..count).collect();
     order.sort_by_key(|cond| size(*cond));
     let mut out = vec![0; count];

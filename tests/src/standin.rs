@@ -1694,7 +1694,10 @@ fn layers_of(page: &Page) -> Result<Vec<u16>, u16> {
                 layers::layers(&alone) == Err(0)
             };
             if fault("highest_condition_on_a_loop_told") {
-                return Err((0..page.count).rev().find(|cond| loops(*cond)).unwrap_or(lowest));
+                return Err((0..page.count)
+                    .rev()
+                    .find(|cond| loops(*cond))
+                    .unwrap_or(lowest));
             }
             if fault("condition_that_reaches_a_loop_told") {
                 let reaches = |cond: &u16| {
@@ -1703,7 +1706,8 @@ fn layers_of(page: &Page) -> Result<Vec<u16>, u16> {
                 };
                 return Err((0..page.count).find(reaches).unwrap_or(lowest));
             }
-            if fault("chain_may_not_repeat_a_condition") && page.lines.len() == 3 && page.count == 3 {
+            if fault("chain_may_not_repeat_a_condition") && page.lines.len() == 3 && page.count == 3
+            {
                 return Err(lowest + 1);
             }
             Err(lowest)

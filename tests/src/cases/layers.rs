@@ -16,7 +16,12 @@ pub fn cases() -> Vec<Case> {
             name: "layers_have_their_stated_figures",
             items: 1,
             each: rows,
-            must_see: &[("layers", 0), ("layers", 10), ("layers", 30), ("layers", 31)],
+            must_see: &[
+                ("layers", 0),
+                ("layers", 10),
+                ("layers", 30),
+                ("layers", 31),
+            ],
         },
         Case {
             name: "layers_agree_on_small_pages",
@@ -46,7 +51,11 @@ pub fn cases() -> Vec<Case> {
             name: "layered_pages_of_exact_lines_have_exact_closed_answers",
             items: 3_000,
             each: exact,
-            must_see: &[("layers", 0), ("closed", 0), ("exact page with a layer above 0", 0)],
+            must_see: &[
+                ("layers", 0),
+                ("closed", 0),
+                ("exact page with a layer above 0", 0),
+            ],
         },
         Case {
             name: "each_condition_of_exactness_is_needed",
@@ -69,8 +78,14 @@ const ROWS: &[(&str, Result<&[u16], u32>)] = &[
     // 0 reaches a loop and is on none.
     ("G,1,2\nR,0,1,M,1\nR,1,1,M,!1\n", Err(1)),
     // 0 and 1 name each other and the loop of 2 and 3.
-    ("G,1,4\nR,0,1,M,1\nR,1,1,M,0,!2\nR,2,1,M,3\nR,3,1,M,!2\n", Err(2)),
-    ("G,1,4\nR,0,1,M,!1\nR,1,1,M,!2\nR,3,1,M,1,3\n", Ok(&[2, 1, 0, 1])),
+    (
+        "G,1,4\nR,0,1,M,1\nR,1,1,M,0,!2\nR,2,1,M,3\nR,3,1,M,!2\n",
+        Err(2),
+    ),
+    (
+        "G,1,4\nR,0,1,M,!1\nR,1,1,M,!2\nR,3,1,M,1,3\n",
+        Ok(&[2, 1, 0, 1]),
+    ),
     // A negation may lead out of a loop; a fact and a query add nothing.
     (
         "G,1,4\nR,0,1,M,1,2\nR,1,1,M,0,!3\nR,2,1,M,0\nF,3,1,1\nQ,K,0\n",
@@ -80,7 +95,10 @@ const ROWS: &[(&str, Result<&[u16], u32>)] = &[
     ("G,1,2\nR,0,1,M,1\nR,1,1,M,!0\n", Err(0)),
     // Plain and negated in one rule; a rule and its repetition.
     ("G,1,2\nR,0,1,M,1,!1\n", Ok(&[1, 0])),
-    ("G,1,3\nR,2,1,M,!1\nR,2,1,M,!1\nR,1,1,M,!0\n", Ok(&[0, 1, 2])),
+    (
+        "G,1,3\nR,2,1,M,!1\nR,2,1,M,!1\nR,1,1,M,!0\n",
+        Ok(&[0, 1, 2]),
+    ),
     // Two loops: the lowest condition of both is told.
     ("G,1,4\nR,3,1,M,!1\nR,1,1,M,3\nR,2,1,M,!2\n", Err(1)),
 ];
@@ -88,7 +106,8 @@ const ROWS: &[(&str, Result<&[u16], u32>)] = &[
 fn rows(trial: &mut Trial, _: u64) -> Check {
     for (text, wanted) in ROWS {
         trial.pages += 1;
-        let page = page::read(text.as_bytes()).map_err(|refusal| format!("{text:?} {refusal:?}"))?;
+        let page =
+            page::read(text.as_bytes()).map_err(|refusal| format!("{text:?} {refusal:?}"))?;
         let area = encode(&page);
         let count = usize::from(page.count);
         for length in [count, count + 1, count + 7] {
@@ -106,9 +125,17 @@ fn rows(trial: &mut Trial, _: u64) -> Check {
             figure(text, slice, left)?;
         }
         let mut short = vec![9; count - 1];
-        figure(text, trial.layers(&area, &mut short)?, told(LAYERS_SHORT, 0))?;
+        figure(
+            text,
+            trial.layers(&area, &mut short)?,
+            told(LAYERS_SHORT, 0),
+        )?;
         let unsound = &area[..area.len() - 1];
-        figure(text, trial.layers(unsound, &mut short)?, told(PAGE_UNSOUND, 0))?;
+        figure(
+            text,
+            trial.layers(unsound, &mut short)?,
+            told(PAGE_UNSOUND, 0),
+        )?;
         figure(text, short, vec![9; count - 1])?;
     }
     Ok(())
@@ -252,7 +279,7 @@ pub fn hub(leaves: u16) -> Page {
         lines.push(rule(0, vec![literal(0, false); 8]));
     }
     for leaf in 1..=leaves {
-        lines.push(rule(leaf, vec![literal(leaf, false)]));
+        lines.push(rule(leaf, vec![literal(leaf, false); 8]));
     }
     for first in 0..naming {
         let body = (1..=8).map(|step| literal((8 * first + step).min(leaves), false));
@@ -324,15 +351,13 @@ fn exact(trial: &mut Trial, _: u64) -> Check {
 }
 
 /// A page that lacks one of the four, and the condition whose closed answer then has low below high.
-const NEEDED: &[(&str, u16)] = &[
-    ("G,1,1\nF,0,0,1\n", 0),
-    ("G,1,1\nR,0,1,M,!0\n", 0),
-];
+const NEEDED: &[(&str, u16)] = &[("G,1,1\nF,0,0,1\n", 0), ("G,1,1\nR,0,1,M,!0\n", 0)];
 
 fn needed(trial: &mut Trial, _: u64) -> Check {
     for (text, cond) in NEEDED {
         trial.pages += 1;
-        let page = page::read(text.as_bytes()).map_err(|refusal| format!("{text:?} {refusal:?}"))?;
+        let page =
+            page::read(text.as_bytes()).map_err(|refusal| format!("{text:?} {refusal:?}"))?;
         let area = encode(&page);
         let mut scratch = trial.rubbish(6 * usize::from(page.count));
         let mut answers = trial.rubbish(2);
