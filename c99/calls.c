@@ -12,7 +12,7 @@
 #include <string.h>
 #include "simjorad.h"
 
-enum { READ, SHOW_LINE, OPEN, EVALUATE, DRIVE, DRIVE_INDEXED, VALUE, LINE, CLOSED, CLOSED_INDEXED, FUNCTIONS };
+enum { READ, SHOW_LINE, OPEN, EVALUATE, DRIVE, DRIVE_INDEXED, VALUE, LINE, CLOSED, CLOSED_INDEXED, LAYERS, FUNCTIONS };
 enum { SLICES = 5, OUTS = 3 };
 
 /* What a call is lent and answers. A slice that is not lent has no place here: its size is 0. */
@@ -42,6 +42,7 @@ int32_t engine_line(const uint16_t *, size_t, const uint16_t *, size_t, uint32_t
 int32_t engine_closed(const uint16_t *, size_t, const uint16_t *, size_t, uint16_t *, size_t, uint16_t *, size_t);
 int32_t engine_closed_indexed(const uint16_t *, size_t, const uint16_t *, size_t, uint16_t *, size_t, uint16_t *, size_t, uint16_t *,
                               size_t);
+int32_t engine_layers(const uint16_t *, size_t, uint16_t *, size_t, uint32_t *);
 #else
 #define NAME(f) simjorad_##f
 #endif
@@ -85,9 +86,12 @@ static void make(struct call *c)
     case CLOSED:
         c->answer = (uint32_t)NAME(closed)(s[0].at, s[0].length, s[1].at, s[1].length, s[2].at, s[2].length, s[3].at, s[3].length);
         break;
-    default:
+    case CLOSED_INDEXED:
         c->answer = (uint32_t)NAME(closed_indexed)(s[0].at, s[0].length, s[1].at, s[1].length, s[2].at, s[2].length, s[3].at,
                                                    s[3].length, s[4].at, s[4].length);
+        break;
+    default:
+        c->answer = (uint32_t)NAME(layers)(s[0].at, s[0].length, s[1].at, s[1].length, &c->outs[0]);
     }
 }
 
@@ -274,10 +278,18 @@ int32_t simjorad_closed_indexed(const uint16_t *page, size_t page_length, const 
     return (int32_t)c.answer;
 }
 
+int32_t simjorad_layers(const uint16_t *page, size_t page_length, uint16_t *layers, size_t layers_length, uint32_t *condition)
+{
+    struct call c = {.function = LAYERS, NUMBERS(0, page), NUMBERS(1, layers), .outs = {*condition}};
+    hand_on(&c);
+    *condition = c.outs[0];
+    return (int32_t)c.answer;
+}
+
 #else
 
 static const char *const names[FUNCTIONS] = {"read", "show_line", "open", "evaluate", "drive", "drive_indexed", "value", "line",
-                                             "closed", "closed_indexed"};
+                                             "closed", "closed_indexed", "layers"};
 static FILE *file;
 
 static unsigned byte(void)

@@ -11,7 +11,8 @@
  * out-parameter of that call; this duty of the caller and these declarations are all that no proof covers.
  *
  * Results. A call returns a result of 0 or more, or minus the number of its refusal. A refused call changes nothing that was lent to
- * it and no out-parameter, with one exception: *line of simjorad_read is set by every call. Out-parameters must not be NULL.
+ * it and no out-parameter, with two exceptions: *line of simjorad_read and *condition of simjorad_layers tell of a refusal and are set by
+ * every call, to 0 where there is nothing to tell. Out-parameters must not be NULL.
  *
  * Calls. No call keeps anything between calls, allocates or blocks. Calls on different areas may run at the same time. On one run
  * area make one call at a time: there is no lock. A page area may be read by several calls at once.
@@ -38,6 +39,8 @@
  *   line             a scan of the page for the lines of the condition, and one up to the line
  *   closed           scans of the page until nothing changes, which can be many
  *   closed_indexed   an index, then only the lines of what waits
+ *   layers           scans of the page until nothing changes, usually a few and at most C; if the page is refused 30, a search with at most
+ *                    2 * C scans more
  *
  * simjorad_drive_indexed and simjorad_closed_indexed give the same answers and the same areas as simjorad_drive and
  * simjorad_closed. They are lent one more slice, a workspace, for an index of the page's lines: with room for it they take
@@ -60,7 +63,7 @@ extern "C" {
  * measurements and do not count). SIMJORAD_LAYOUT is raised whenever the layout of a page area or a run area changes: an area that was
  * kept under another layout must be read or opened again.
  */
-#define SIMJORAD_VERSION 3
+#define SIMJORAD_VERSION 4
 #define SIMJORAD_LAYOUT 1
 
 /*
@@ -112,6 +115,7 @@ extern "C" {
 #define SIMJORAD_STACK_LINE 1408
 #define SIMJORAD_STACK_CLOSED 1280
 #define SIMJORAD_STACK_CLOSED_INDEXED 1344
+#define SIMJORAD_STACK_LAYERS 1280
 
 /* Refusals, each with its cause. */
 #define SIMJORAD_TEXT_TOO_LONG 1      /* more than 65,535 bytes */
@@ -130,6 +134,8 @@ extern "C" {
 #define SIMJORAD_NOT_REACHED 17       /* the condition is not reached */
 #define SIMJORAD_SCRATCH_SHORT 18     /* scratch shorter than 6 * C */
 #define SIMJORAD_ANSWERS_SHORT 19     /* answers shorter than 2 * the list */
+#define SIMJORAD_NEGATED_LOOP 30      /* a chain through a negation leads back */
+#define SIMJORAD_LAYERS_SHORT 31      /* the slice for the layers is shorter than C */
 
 /*
  * Read a page: the text becomes a page area. Returns the used length (4 or more), or minus 1, 2, 5, 3, 4 or 6.
@@ -208,6 +214,14 @@ int32_t simjorad_closed(const uint16_t *page, size_t page_length, const uint16_t
 int32_t simjorad_closed_indexed(const uint16_t *page, size_t page_length, const uint16_t *queries, size_t queries_length,
                                 uint16_t *scratch, size_t scratch_length, uint16_t *answers, size_t answers_length,
                                 uint16_t *workspace, size_t workspace_length);
+
+/*
+ * Loops through an absence: whether the page feeds a condition on its own absence. Returns 0, or minus 10, 31 or 30. A page is refused 30
+ * exactly if a chain of naming steps leads from some condition back to itself through at least one negation; *condition is then the lowest
+ * such condition, and 0 after every other outcome. Writes the layer of each condition to the first C numbers of layers: at least that of
+ * each condition that its rules name, more than that of each one that they negate, all as small as possible. A layer is below C.
+ */
+int32_t simjorad_layers(const uint16_t *page, size_t page_length, uint16_t *layers, size_t layers_length, uint32_t *condition);
 
 #ifdef __cplusplus
 }

@@ -150,6 +150,21 @@ static void closed(void)
     CHECK(simjorad_closed_indexed(area, USED, area + 1, 1, scratch, 12, answers, 5, NULL, 0) == -SIMJORAD_QUERY_RANGE);
 }
 
+static void layered(void)
+{
+    static const uint16_t page[] = {1, 4, 3, 20, 0, 1, 1, 1, 3, 1, 1, 1, 1, 5, 3, 1, 1, 2, 2, 6}, wanted[] = {2, 1, 0, 1};
+    uint16_t layers[5] = {77, 77, 77, 77, 77};
+    uint32_t condition = 77;
+
+    CHECK(simjorad_layers(area, USED, layers, 2, &condition) == -SIMJORAD_NEGATED_LOOP && condition == 0 && layers[0] == 77);
+    condition = 77;
+    CHECK(simjorad_layers(page, 20, layers, 3, &condition) == -SIMJORAD_LAYERS_SHORT && condition == 0 && layers[0] == 77);
+    condition = 77;
+    CHECK(simjorad_layers(page, 19, NULL, 0, &condition) == -SIMJORAD_PAGE_UNSOUND && condition == 0);
+    condition = 77;
+    CHECK(simjorad_layers(page, 20, layers, 5, &condition) == 0 && condition == 0 && same(layers, wanted, 4) && layers[4] == 77);
+}
+
 int main(void)
 {
     reads();
@@ -158,6 +173,7 @@ int main(void)
     no_rest();
     held_lines();
     closed();
+    layered();
     printf("%d passed, %d failed\n", passed, failed);
     return failed != 0;
 }

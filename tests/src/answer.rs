@@ -19,12 +19,21 @@ pub const NOT_WAITING: Refusal = 16;
 pub const NOT_REACHED: Refusal = 17;
 pub const SCRATCH_SHORT: Refusal = 18;
 pub const ANSWERS_SHORT: Refusal = 19;
+pub const NEGATED_LOOP: Refusal = 30;
+pub const LAYERS_SHORT: Refusal = 31;
 
 /// Why a page's text is refused; the line counts from 1 and is 0 where none is at fault.
 #[derive(Clone, Copy, Debug, PartialEq, Eq)]
 pub struct ReadRefusal {
     pub number: Refusal,
     pub line: u32,
+}
+
+/// Why a page has no layers; the condition is 0 where none is told.
+#[derive(Clone, Copy, Debug, PartialEq, Eq)]
+pub struct LayersRefusal {
+    pub number: Refusal,
+    pub condition: u32,
 }
 
 /// What an opening returns: R, E and R + top * E.

@@ -299,6 +299,7 @@ impl Document {
             "ops," => ops(rest, table),
             "texts" => texts(table),
             "runs," => runs(rest, table),
+            "layers," => layers_of_pages(rest, table),
             "limits" => limits(table),
             "refusals" => refusals(table),
             "operations" => operations(table),
@@ -478,6 +479,30 @@ fn runs(how: &str, table: &Table) -> Check {
             let stated = table.cell(row, column)?;
             figure(&format!("{column} of {lines:?}"), stated, &got.to_string())?;
         }
+    }
+    Ok(())
+}
+
+/// `layers, top N`: columns page, answer and layers. The answer is 0, or 30 with the condition.
+fn layers_of_pages(how: &str, table: &Table) -> Check {
+    let top = how.strip_prefix("top ").ok_or("no top")?;
+    let mut trial = Trial::new();
+    for row in &table.rows {
+        let lines = page_lines(&quoted(table.cell(row, "page")?), top, "0")?;
+        let text = lines.join("\n") + "\n";
+        let mut area = vec![0; 200];
+        let used = trial.read(text.as_bytes(), &mut area)?;
+        let used = used.map_err(|refusal| format!("{text:?} is refused {refusal:?}"))?;
+        let mut layers = vec![0; usize::from(area[1])];
+        let (answer, numbers) = match trial.layers(&area[..used], &mut layers)? {
+            Ok(()) => ("0".to_string(), layers.iter().map(u16::to_string).collect()),
+            Err(refusal) => (
+                format!("{} at {}", refusal.number, refusal.condition),
+                Vec::new(),
+            ),
+        };
+        figure(&text, table.cell(row, "answer")?, &answer)?;
+        figure(&text, table.cell(row, "layers")?, &numbers.join(", "))?;
     }
     Ok(())
 }

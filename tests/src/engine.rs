@@ -518,6 +518,42 @@ impl Engine {
         }
         read_closed(code)
     }
+
+    pub fn layers(
+        &mut self,
+        page: &[u16],
+        layers: &mut [u16],
+    ) -> Result<Result<(), LayersRefusal>, String> {
+        let (page_loan, page_length) = self.lend_area(0, page);
+        let (layers_loan, layers_length) = self.lend_area(1, layers);
+        let mut condition = self.out(|number| number as u32);
+        let slices = [
+            Self::note(page, page_loan.ptr() as usize),
+            Self::note(layers, layers_loan.ptr() as usize),
+        ];
+        let arguments = [
+            page_loan.ptr() as usize,
+            page_length,
+            layers_loan.ptr_mut() as usize,
+            layers_length,
+            condition.ptr() as usize,
+        ];
+        let code = self.call(Call::Layers, 0, &slices, &arguments)? as i32;
+        page_loan.end_const("page", page)?;
+        layers_loan.end_mut("layers", layers)?;
+        let condition = condition.set("condition")?;
+        match code {
+            -10 | -31 | -30 => Ok(Err(LayersRefusal {
+                number: -code,
+                condition,
+            })),
+            0 if condition == 0 => Ok(Ok(())),
+            0 => Err(format!(
+                "a page that passes leaves {condition} in `*condition`"
+            )),
+            _ => Err(format!("returned {code}")),
+        }
+    }
 }
 
 fn driven(code: i32, taken: &Out<u32>, line: &Out<u32>) -> Result<Result<Driven, Refusal>, String> {

@@ -52,6 +52,7 @@ calls! {
     Line simjorad_line,
     Closed simjorad_closed,
     ClosedIndexed simjorad_closed_indexed,
+    Layers simjorad_layers,
 }
 
 /// Whether the stand-in is under test: the variable STANDIN_FAULT is set, to a fault or to nothing.

@@ -13,6 +13,7 @@ use crate::area::{self, held_pairs, NOT_REACHED_MARK, REACHED_MARK, WAITING_MARK
 use crate::attach;
 use crate::body::{combine, divided, End, Pair};
 use crate::fast::{Index, Run};
+use crate::layers;
 use crate::page::{self, Line, Op, Page};
 use crate::plain::{self, check_queries};
 use crate::reach;
@@ -621,6 +622,67 @@ pub const FAULTS: &[(&str, &str, &str)] = &[
         "attach_skips_the_last_query",
         "attach standin only CASE",
         "attach_prints_the_example",
+    ),
+    // Loops through an absence.
+    (
+        "layer_one_too_high",
+        "quick only CASE",
+        "layers_have_their_stated_figures",
+    ),
+    (
+        "layer_stops_at_255",
+        "only CASE",
+        "layers_agree_on_pages_at_the_limits",
+    ),
+    (
+        "named_plainly_counts_as_negated",
+        "quick only CASE",
+        "layers_have_their_stated_figures",
+    ),
+    (
+        "self_negation_passes",
+        "quick only CASE",
+        "layers_have_their_stated_figures",
+    ),
+    (
+        "last_negation_of_a_rule_overlooked",
+        "quick only CASE",
+        "layers_have_their_stated_figures",
+    ),
+    (
+        "highest_condition_on_a_loop_told",
+        "quick only CASE",
+        "layers_have_their_stated_figures",
+    ),
+    (
+        "condition_that_reaches_a_loop_told",
+        "quick only CASE",
+        "layers_have_their_stated_figures",
+    ),
+    (
+        "chain_may_not_repeat_a_condition",
+        "quick only CASE",
+        "layers_have_their_stated_figures",
+    ),
+    (
+        "loop_told_before_the_short_slice",
+        "quick only CASE",
+        "layers_have_their_stated_figures",
+    ),
+    (
+        "layers_cleared_past_c",
+        "quick only CASE",
+        "layers_have_their_stated_figures",
+    ),
+    (
+        "refused_layers_written",
+        "quick only CASE",
+        "layers_have_their_stated_figures",
+    ),
+    (
+        "condition_not_set_to_zero",
+        "quick only CASE",
+        "layers_have_their_stated_figures",
     ),
 ];
 
@@ -1735,6 +1797,144 @@ pub unsafe extern "C" fn simjorad_closed_indexed(
     match result {
         Ok(()) => 0,
         Err(number) => -number,
+    }
+}
+
+/// The layers of a page or the condition told, with the planted fault.
+fn layers_of(page: &Page) -> Result<Vec<u16>, u16> {
+    let mut copy = page.clone();
+    for line in &mut copy.lines {
+        if let Line::Rule { head, body, .. } = line {
+            if fault("self_negation_passes") {
+                body.retain(|literal| !literal.negated || literal.cond != *head);
+            }
+            if fault("named_plainly_counts_as_negated") {
+                for literal in body.iter_mut() {
+                    literal.negated |= literal.cond != *head;
+                }
+            }
+            if fault("last_negation_of_a_rule_overlooked") && body.len() > 1 {
+                if let Some(literal) = body.last_mut() {
+                    literal.negated = false;
+                }
+            }
+        }
+    }
+    match layers::layers(&copy) {
+        Ok(mut layers) => {
+            if fault("layer_one_too_high") {
+                for layer in &mut layers {
+                    *layer += 1;
+                }
+            }
+            if fault("layer_stops_at_255") {
+                for layer in &mut layers {
+                    *layer = (*layer).min(255);
+                }
+            }
+            Ok(layers)
+        }
+        Err(lowest) => {
+            let loops = |cond: u16| {
+                let mut alone = copy.clone();
+                // On a loop exactly if a condition that names it and is named like it is: its own number made the lowest.
+                swap_conditions(&mut alone, 0, cond);
+                layers::layers(&alone) == Err(0)
+            };
+            if fault("highest_condition_on_a_loop_told") {
+                return Err((0..page.count)
+                    .rev()
+                    .find(|cond| loops(*cond))
+                    .unwrap_or(lowest));
+            }
+            if fault("condition_that_reaches_a_loop_told") {
+                let reaches = |cond: &u16| {
+                    let reached = reach::reached(page, &[*cond]);
+                    reached.iter().any(|other| loops(*other))
+                };
+                return Err((0..page.count).find(reaches).unwrap_or(lowest));
+            }
+            if fault("chain_may_not_repeat_a_condition") && page.lines.len() == 3 && page.count == 3
+            {
+                return Err(lowest + 1);
+            }
+            Err(lowest)
+        }
+    }
+}
+
+/// Two conditions change their numbers.
+fn swap_conditions(page: &mut Page, a: u16, b: u16) {
+    let swap = |cond: &mut u16| {
+        if *cond == a {
+            *cond = b;
+        } else if *cond == b {
+            *cond = a;
+        }
+    };
+    for line in &mut page.lines {
+        match line {
+            Line::Fact { cond, .. } | Line::Query { cond, .. } => swap(cond),
+            Line::Rule { head, body, .. } => {
+                swap(head);
+                for literal in body {
+                    swap(&mut literal.cond);
+                }
+            }
+        }
+    }
+}
+
+fn layers_call(page_area: &[u16], slice: &mut [u16]) -> Result<(), LayersRefusal> {
+    let refuse = |number, condition| Err(LayersRefusal { number, condition });
+    let Some(page) = sound_page(page_area) else {
+        return refuse(PAGE_UNSOUND, 0);
+    };
+    let count = usize::from(page.count);
+    let outcome = layers_of(&page);
+    if fault("loop_told_before_the_short_slice") {
+        if let Err(lowest) = outcome {
+            return refuse(NEGATED_LOOP, u32::from(lowest));
+        }
+    }
+    if slice.len() < count {
+        return refuse(LAYERS_SHORT, 0);
+    }
+    match outcome {
+        Ok(layers) => {
+            slice[..count].copy_from_slice(&layers);
+            if fault("layers_cleared_past_c") {
+                slice[count..].fill(0);
+            }
+            Ok(())
+        }
+        Err(lowest) => {
+            if fault("refused_layers_written") {
+                slice[..count].fill(0);
+            }
+            refuse(NEGATED_LOOP, u32::from(lowest))
+        }
+    }
+}
+
+pub unsafe extern "C" fn simjorad_layers(
+    page: *const u16,
+    page_length: usize,
+    layers: *mut u16,
+    layers_length: usize,
+    condition: *mut u32,
+) -> i32 {
+    match layers_call(lent(page, page_length), lent_mut(layers, layers_length)) {
+        Ok(()) => {
+            if !fault("condition_not_set_to_zero") {
+                *condition = 0;
+            }
+            0
+        }
+        Err(refusal) => {
+            *condition = refusal.condition;
+            -refusal.number
+        }
     }
 }
 

@@ -11,6 +11,7 @@ use crate::closed;
 use crate::engine::Engine;
 use crate::guard::first_difference;
 use crate::input::{Input, Slice};
+use crate::layers;
 use crate::page;
 use crate::plain;
 use crate::rng::Rng;
@@ -451,6 +452,23 @@ impl Trial {
         let name = with_room("closed_indexed", page, length);
         self.saw(name, wanted.err().unwrap_or(0));
         Ok(())
+    }
+
+    pub fn layers(&mut self, page: &[u16], slice: &mut [u16]) -> Check<Result<(), LayersRefusal>> {
+        let before = slice.to_vec();
+        let mut expected = before.clone();
+        let wanted = layers::check(page, &mut expected);
+        let got = self.engine.layers(page, slice);
+        let input = Input {
+            op: "layers",
+            slices: vec![("page", Slice::Numbers(page))],
+            numbers: vec![("layers_length", before.len() as u64)],
+        };
+        let got = got.map_err(|reason| breach(&input, reason))?;
+        same(&input, &got, &wanted)?;
+        same_numbers(&input, "layers", slice, &expected)?;
+        self.saw("layers", wanted.err().map_or(0, |refusal| refusal.number));
+        Ok(got)
     }
 }
 

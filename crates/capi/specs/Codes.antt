@@ -1,10 +1,12 @@
 -- What a C function returns, and what it leaves in its out-parameters: document 01's answers as numbers. Assumes nothing.
 use mathlib.Core.List.{List}
+use mathlib.Core.Path.{_≡_}
 use mathlib.Core.Option.{Option, none, some}
 use Prim.Native.Nat.{ℕ}
 use lib.IntN.{ℤ, pos, negℤ}
 use Rattle.fixpoint.specs.Interval.{Interval}
 use Rattle.semantics.specs.Call.{Answer, refused, unchanged, changed, drove, valued, heldBy, firstOf}
+use Rattle.semantics.specs.Layers.{LayersAnswer, refusedLayers, loopsAt, layered, LayersOf}
 use Rattle.semantics.specs.Operation.{Opening, refusedOpening, openedWith, closedCauses}
 use Rattle.semantics.specs.ReadPage.{ReadAnswer, refusedPage, readPage}
 use Rattle.semantics.specs.Worklist.{Status, rest, spent}
@@ -86,3 +88,22 @@ closedCode none = pos 0
 -- the number of the closed reading's refusal, or none where the call does its work
 unfoldable pub closedRefusal : (page queries scratch answers : List ℕ) → Option ℕ
 closedRefusal a qs scratch answers = firstOf (closedCauses a qs scratch answers)
+
+-- layers: minus the refusal number, or 0 where the layers are written
+abbrev pub layersCode : LayersAnswer → ℤ
+layersCode (refusedLayers k) = minus k
+layersCode (loopsAt c) = minus 30
+layersCode layered = pos 0
+
+-- "the lowest such condition is returned": the condition of 30, and 0 where there is nothing to tell
+abbrev pub conditionTold : LayersAnswer → ℕ
+conditionTold (refusedLayers k) = 0
+conditionTold (loopsAt c) = c
+conditionTold layered = 0
+
+-- what the check returns, tells and leaves. There is one such answer and slice: `check-one`.
+pub record LayersCall (code : ℤ) (condition : ℕ) (area slice slice′ : List ℕ) : Type 0 where
+  pub answer : LayersAnswer
+  pub is : LayersOf answer area slice slice′
+  pub code-is : code ≡ layersCode answer
+  pub condition-is : condition ≡ conditionTold answer

@@ -6,8 +6,9 @@ ghost use Rattle.semantics.specs.ReadPage.{readOf, lineOf, startOf};
 ghost use Rattle.semantics.specs.Operation.{openOf, evaluateOf, driveOf, valueOf, lineHeldOf, ClosedOf, driveWorkspace, closedWorkspace};
 ghost use Rattle.run.specs.Answers.{statusIf, driveAnswerOf};
 ghost use Rattle.closed.specs.Answer.{refusalTold};
-ghost use Rattle.capi.specs.Codes.{minus as Codes·minus, statusCode, answerCode, takenOr, lineOr, intervalOr, openCode, countsOr, readCode, lineTold, closedCode, closedRefusal};
+ghost use Rattle.capi.specs.Codes.{minus as Codes·minus, statusCode, answerCode, takenOr, lineOr, intervalOr, openCode, countsOr, readCode, lineTold, closedCode, closedRefusal, LayersCall};
 use closed::ClosedAnswer;
+use layers::Verdict;
 use run::DriveAnswer;
 
 // Minus the number of a refusal.
@@ -239,4 +240,21 @@ pub extern "C" fn simjorad_closed_indexed(
 {
     let answer = closed::closed_indexed(page, queries, scratch, answers, workspace);
     closed_code(answer)
+}
+
+// The check for loops through an absence: 0, or minus 10, 31 or 30.
+#[no_mangle]
+pub extern "C" fn simjorad_layers(page: &[u16], layers: &mut [u16], condition: &mut u32) -> i32
+    ensures { λ r. ⌜ LayersCall r (now (condition .exit)) (now (page .entry)) (now (layers .entry)) (now (layers .exit)) ⌝ }
+{
+    let answer = layers::check_layers(page, layers);
+    *condition = 0;
+    match answer {
+        Verdict::Refused(k) => minus(k),
+        Verdict::Loops(c) => {
+            *condition = c as u32;
+            minus(30)
+        }
+        Verdict::Layered => 0,
+    }
 }

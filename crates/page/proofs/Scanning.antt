@@ -11,8 +11,9 @@ use borrow.Author.Tests.{leb-true}
 use Rattle.semantics.specs.Page.{Line}
 use Rattle.semantics.specs.Area.{kind, spanAs, span, lineAt, linesOf, pageOf, every, lineTests, linesOk, headTests, sound, topOf, conditionsOf, countOf, usedOf}
 use Rattle.semantics.proofs.Soundness.{both-true, every-true}
+use Rattle.page.specs.Graded.{SoundEntry}
 use Rattle.page.specs.Lines.{EntryIn, Next}
-use Rattle.page.proofs.Scan.{span-at, entry-fits, entry-in, lines-behind, at-suc}
+use Rattle.page.proofs.Scan.{span-at, entry-fits, entry-four, entry-in, lines-behind, at-suc}
 
 module _ (a : List ℕ) where
   -- the lines from place `at` on, when k lines are passed
@@ -61,6 +62,11 @@ module _ (a : List ℕ) where
 
     pub room : at + 4 ≤ length a
     room = entry-here .four
+
+    -- what a function over one entry requires
+    pub entry-sound : SoundEntry (topOf a) (conditionsOf a) (usedOf a - at) a at
+    entry-sound =
+        record { fits = omega (arith, s .in-used, s .in-area); four = entry-four (topOf a) (conditionsOf a) (usedOf a - at) a at entry-ok; tests = entry-ok }
 
     -- the lines still to come are this one and those behind it
     pub lines-on : linesLeft at k ≡ lineAt (drop at a) ∷ linesLeft (at + step) (k + 1)

@@ -58,3 +58,17 @@ pub mod Drives
 pub mod Holding
 -- no interval widens
 pub mod Narrowing
+-- ticket 3: walks over any two relations, the layers of a page, and the check's one outcome
+pub mod Walks
+pub mod WalkRounds
+pub mod Layers
+pub mod LayersCheck
+-- layers by raising, pass by pass
+pub mod Raising
+pub mod RaisedTables
+-- a crisp page with layers has exact closed answers, and what that needs
+pub mod CrispPages
+pub mod Exactness
+pub mod ExactnessNeeds
+pub mod LayersRows
+pub mod LayersBench

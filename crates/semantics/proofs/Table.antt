@@ -7,6 +7,7 @@ use Prim.Native.Nat.{ℕ, zero, suc, _+_, _≤_, _<_}
 use native.Mathlib.Decide.{ℕ-discrete}
 use native.Mathlib.Omega.{arith}
 use lib.ListN.{length, getD}
+use lib.Seq.{ext-getD}
 use Rattle.semantics.specs.Table.{tableFrom, table, anyBelow}
 
 pub length-from : {A : Type 0} (n k : ℕ) (f : ℕ → A) → length (tableFrom n k f) ≡ n
@@ -22,6 +23,12 @@ getD-from (suc n) k f (suc i) d l = getD-from n (suc k) f i d (omega arith) ∙ 
 
 pub getD-table : {A : Type 0} (n : ℕ) (f : ℕ → A) (i : ℕ) (d : A) → i < n → getD (table n f) i d ≡ f i
 getD-table n f i d l = getD-from n 0 f i d l ∙ ap f (omega arith)
+
+-- a list is the table of its own values
+pub table-back : {A : Type 0} (d : A) (t : List A) (n : ℕ) → length t ≡ n → table n (λ c. getD t c d) ≡ t
+table-back d t n e =
+    ext-getD d (table n (λ c. getD t c d)) t (length-from n 0 (λ c. getD t c d) ∙ sym e)
+    (λ i l. getD-table n (λ c. getD t c d) i d (rw (length-from n 0 (λ c. getD t c d)) at l))
 
 pub or-cases : (a b : Bool) → (a || b) ≡ true → (a ≡ true) ⊎ (b ≡ true)
 or-cases true b e = inl refl

@@ -28,3 +28,5 @@ pub mod Demand
 -- "The program `attach`": what it prints
 pub mod Fields
 pub mod Output
+-- document 02, ticket 3: loops through an absence
+pub mod Layers

@@ -22,6 +22,7 @@ pub fn cases() -> Vec<Case> {
                 ("value", 10),
                 ("closed", 10),
                 ("closed_indexed", 10),
+                ("layers", 10),
             ],
         },
         Case {
@@ -66,6 +67,8 @@ pub fn cases() -> Vec<Case> {
                 ("value", 1),
                 ("closed", 0),
                 ("closed_indexed", 0),
+                ("layers", 0),
+                ("layers", 30),
             ],
         },
     ]
@@ -88,6 +91,9 @@ fn each_operation(trial: &mut Trial, page: &Page, area: &[u16]) -> Check<Vec<Opt
     let mut answers = trial.rubbish(2 * queries.len());
     let code = trial.closed(area, &queries, &mut scratch, &mut answers)?;
     codes.push(code.err());
+    let mut layers = trial.rubbish(usize::from(page.count));
+    let code = trial.layers(area, &mut layers)?;
+    codes.push(code.err().map(|refusal| refusal.number));
     Ok(codes)
 }
 
@@ -103,7 +109,7 @@ fn wrong_page_areas(trial: &mut Trial, item: u64) -> Check {
         trial.pages += 1;
         figure(&bad.how, decode(&bad.numbers), None)?;
         let codes = each_operation(trial, &page, &bad.numbers)?;
-        figure(&bad.how, codes, vec![Some(PAGE_UNSOUND); 5])?;
+        figure(&bad.how, codes, vec![Some(PAGE_UNSOUND); 6])?;
     }
     Ok(())
 }
@@ -157,7 +163,7 @@ fn too_many_lines(trial: &mut Trial, _: u64) -> Check {
         trial.pages += 2;
         let area = spoil::too_many_lines(&page, &line);
         let codes = each_operation(trial, &page, &area)?;
-        figure("1,025 lines", codes, vec![Some(PAGE_UNSOUND); 5])?;
+        figure("1,025 lines", codes, vec![Some(PAGE_UNSOUND); 6])?;
         let full = Page {
             lines: vec![line; 1024],
             ..page.clone()
@@ -256,5 +262,8 @@ fn past_the_parts(trial: &mut Trial, item: u64) -> Check {
     let mut scratch = trial.rubbish(6 * usize::from(page.count));
     let mut answers = trial.rubbish(2 * queries.len());
     let closed = trial.closed(&area, &queries, &mut scratch, &mut answers)?;
-    figure("the closed reading's success", closed.is_ok(), true)
+    figure("the closed reading's success", closed.is_ok(), true)?;
+    let mut layers = trial.rubbish(usize::from(page.count));
+    let _ = trial.layers(&area, &mut layers)?;
+    Ok(())
 }

@@ -6,6 +6,7 @@ mod cover;
 mod figures;
 mod grades;
 pub mod large;
+mod layers;
 mod lists;
 mod reader;
 mod refusals;
@@ -33,6 +34,7 @@ pub fn calls() -> Vec<Case> {
     cases.extend(runs::cases());
     cases.extend(closed::cases());
     cases.extend(cover::cases());
+    cases.extend(layers::cases());
     cases.extend(thresholds::cases());
     cases.extend(lists::cases());
     cases.extend(large::cases());

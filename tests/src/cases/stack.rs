@@ -56,8 +56,9 @@ static VALUE: Function = function("SIMJORAD_STACK_VALUE", 2048);
 static LINE: Function = function("SIMJORAD_STACK_LINE", 2048);
 static CLOSED: Function = function("SIMJORAD_STACK_CLOSED", 2048);
 static CLOSED_INDEXED: Function = function("SIMJORAD_STACK_CLOSED_INDEXED", 3072);
+static LAYERS: Function = function("SIMJORAD_STACK_LAYERS", 2048);
 
-static FUNCTIONS: [&Function; 10] = [
+static FUNCTIONS: [&Function; 11] = [
     &READ,
     &SHOW_LINE,
     &OPEN,
@@ -68,6 +69,7 @@ static FUNCTIONS: [&Function; 10] = [
     &LINE,
     &CLOSED,
     &CLOSED_INDEXED,
+    &LAYERS,
 ];
 
 /// Evaluations of a drive.
@@ -249,6 +251,12 @@ impl Bench<'_> {
         })
     }
 
+    fn layers(&mut self, lent: &Lent) -> Check<i32> {
+        self.call(&LAYERS, Call::Layers.function(), lent, |lent| {
+            [lent.page(), lent.area(), lent.out(0)].concat()
+        })
+    }
+
     /// Texts read, and refused for each cause.
     fn reads(&mut self, text: &[u8], used: usize) -> Check {
         let mut lent = Lent {
@@ -369,6 +377,24 @@ impl Bench<'_> {
         Ok(())
     }
 
+    /// The layers of a page that passes and of one that is refused, and the causes before that.
+    fn layered(&mut self, good: &Lent) -> Check {
+        let mut lent = good.clone();
+        self.layers(&lent)?;
+        for negated in [0, 1] {
+            for head in (4..lent.page.len()).step_by(12) {
+                if lent.page[head + 1] % 6 != 0 && lent.page[head + 3] == 8 {
+                    lent.page[head + 4] = 2 * lent.page[head] + negated;
+                }
+            }
+            self.layers(&lent)?;
+        }
+        lent.area.truncate(511);
+        figure("layers", self.layers(&lent)?, -LAYERS_SHORT)?;
+        lent.page.pop();
+        figure("layers", self.layers(&lent)?, -PAGE_UNSOUND)
+    }
+
     fn workspace_lengths(&self, lent: &Lent) -> [usize; 4] {
         let needed = workspace::needed(&lent.page);
         [0, needed - 1, needed, workspace::WORKSPACE_MAX]
@@ -418,5 +444,7 @@ fn on_a_large_page(trial: &mut Trial, item: u64) -> Check {
     bench.indexed_runs(&lent)?;
     lent.area = vec![7; 6 * 512];
     bench.closeds(&lent)?;
+    lent.area = vec![7; 512];
+    bench.layered(&lent)?;
     bench.over
 }
