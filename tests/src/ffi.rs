@@ -77,6 +77,7 @@ extern "C" {
         area: *mut u16,
         area_length: usize,
         line: *mut u32,
+        place: *mut u32,
     ) -> i32;
 
     pub fn simjorad_show_line(

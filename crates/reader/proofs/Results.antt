@@ -28,9 +28,9 @@ length-lines [] = refl
 length-lines (l ∷ ls) = ap suc (length-lines ls)
 
 module _ (s area : List ℕ) {r : Checked} (q : CheckedAs (textRefusal s) s r) where
-  pub refused-text : {number line : ℕ} → r ≡ Refused number line → Result s area (refusedPage number line) area
+  pub refused-text : {number line place : ℕ} → r ≡ Refused number line place → Result s area (refusedPage number line place) area
   unfolding readOf refusalOf
-  refused-text {number} {line} e = let h = subst (CheckedAs (textRefusal s) s) e q in (rw h, rw h)
+  refused-text e = let h = subst (CheckedAs (textRefusal s) s) e q in (rw h, rw h)
 
   module _ {t n k u from : ℕ} (e : r ≡ Page t n k u from) where
     none-bad : textRefusal s ≡ none
@@ -49,7 +49,7 @@ module _ (s area : List ℕ) {r : Checked} (q : CheckedAs (textRefusal s) s r) w
     unfolding areaOf pageIn
     used-is = let a = accepted in sym (a .all .used ∙ rw (← a .lines))
 
-    pub too-short : length area < u → Result s area (refusedPage 6 0) area
+    pub too-short : length area < u → Result s area (refusedPage 6 0 0) area
     unfolding readOf refusalOf
     too-short h = (rw (none-bad, used-is, lt-ltb (length area) u h), rw (none-bad, used-is, lt-ltb (length area) u h))
 

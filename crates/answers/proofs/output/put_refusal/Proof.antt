@@ -29,7 +29,7 @@ same-length : tie.Need-same-length
 same-length c = search needs
 
 returns : tie.Need-returns
-returns c = let s = c .before .before .before .before .before .before .before .before .before .before .before .before .before .before in wrote-as (refusal-text (record { number = s .args .number; line = s .args .line })) (wrote-then (wrote-then (c .before .before .before .before .before .before .before .before .before .before .put-all .ensures) (c .before .before .before .before .before .before .put-field .ensures)) (c .before .before .put-field2 .ensures))
+returns c = let s = c .before .before .before .before .before .before .before .before .before .before .before .before .before .before in wrote-as (refusal-text (s .args .number) (s .args .line)) (wrote-then (wrote-then (c .before .before .before .before .before .before .before .before .before .before .put-all .ensures) (c .before .before .before .before .before .before .put-field .ensures)) (c .before .before .put-field2 .ensures))
 
 pub put-refusal-spec : {M : Type 1} → statement M
 put-refusal-spec =
