@@ -98,7 +98,7 @@ extern "C" {
  * x86-64, measured by tests/ with the largest page, and of simjorad.c by gcc -Os and -O2 on a Cortex-M4, added up by c99/figures. Both fail if a
  * call takes more. On the Cortex-M4 the host's own memcpy and memset are not counted in.
  */
-#define SIMJORAD_STACK_READ 384
+#define SIMJORAD_STACK_READ 448
 #define SIMJORAD_STACK_SHOW_LINE 64
 #define SIMJORAD_STACK_OPEN 1280
 #define SIMJORAD_STACK_EVALUATE 1472

@@ -136,7 +136,7 @@ fn every_function(_: &mut Trial, _: u64) -> Check {
     figure(
         "tests/c/every.c",
         lines(&ended),
-        vec!["48 passed, 0 failed".to_string()],
+        vec!["55 passed, 0 failed".to_string()],
     )?;
     figure("the exit status", ended.status, Some(0))?;
     let test = file("tests/c/every.c")?;
@@ -186,7 +186,7 @@ fn exported_functions(_: &mut Trial, _: u64) -> Check {
 }
 
 /// The version of the header and a fingerprint of what it declares. A change of either asks for the other.
-const VERSION: (usize, u64) = (1, 5_936_916_236_464_936_633);
+const VERSION: (usize, u64) = (5, 11_919_070_960_217_022_077);
 
 /// What a program may depend on: the figures but those of stack, and the declarations.
 fn version(_: &mut Trial, _: u64) -> Check {

@@ -67,11 +67,7 @@ pub const FAULTS: &[(&str, &str, &str)] = &[
         "quick only CASE",
         "texts_have_their_stated_outcome",
     ),
-    (
-        "rightmost_bad_field",
-        "quick only CASE",
-        "reader_limits",
-    ),
+    ("rightmost_bad_field", "quick only CASE", "reader_limits"),
     (
         "grade_before_a_bad_condition",
         "quick only CASE",
@@ -1108,7 +1104,8 @@ fn misplaced(text: &[u8], mut refusal: ReadRefusal) -> ReadRefusal {
     }
     // A line with a bad condition is read once more with a good one: what is found then stands to its right.
     let right = ["rightmost_bad_field", "grade_before_a_bad_condition"];
-    if right.contains(&planted()) && number == LINE_RANGE && refusal.place == 2 && refusal.line > 1 {
+    if right.contains(&planted()) && number == LINE_RANGE && refusal.place == 2 && refusal.line > 1
+    {
         let all = String::from_utf8_lossy(text).into_owned();
         let lines: Vec<&str> = all.split('\n').collect();
         let mut fields: Vec<&str> = lines[refusal.line as usize - 1].split(',').collect();

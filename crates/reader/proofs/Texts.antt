@@ -54,10 +54,10 @@ module _ (s : List ℕ) {t n next : ℕ} (w : HeadSays s t n next) {f : Option F
     good-head = by-head ∙ rw m
 
     module _ {y : Tally} (q : Tallied s next t n y) where
-      pub accepted : {k u : ℕ} → y ≡ Good k u → CheckedAs (badLineOf (textLines s)) s (Page t n k u next)
+      pub accepted : {k u : ℕ} → y ≡ Good k u → CheckedAs (badLineOf (textLines s)) s (Page t n k u)
       accepted d =
           let a = subst (Tallied s next t n) d q in
-          (good-head ∙ a .good, record { top = tops; conditions = counts; lines = rest; all = a })
+          (good-head ∙ a .good, record { top = tops; conditions = counts; from = next; lines = rest; all = a })
 
       pub refused : {number line place : ℕ} → y ≡ Bad number line place → CheckedAs (badLineOf (textLines s)) s (Refused number line place)
       refused d = good-head ∙ subst (Tallied s next t n) d q

@@ -84,16 +84,17 @@ abbrev pub Tallied : List ℕ → ℕ → ℕ → ℕ → Tally → Type 0
 Tallied s from top n (Good k u) = AllGood s from top n k u
 Tallied s from top n (Bad number line place) = badLine top n 2 (textLines (drop from s)) ≡ some (record { number = number; line = line; place = place })
 
--- an accepted text: its top and C, k lines after the first, the used length u, and the place where line 2 begins
-pub record Accepted (s : List ℕ) (t n k u from : ℕ) : Type 0 where
+-- an accepted text: its top and C, k lines after the first, the used length u; line 2 begins at the place `from`
+pub record Accepted (s : List ℕ) (t n k u : ℕ) : Type 0 where
   pub top : t ≡ topIn (textLines s)
   pub conditions : n ≡ conditionsIn (textLines s)
+  pub from : ℕ
   pub lines : drop 1 (textLines s) ≡ textLines (drop from s)
   pub all : AllGood s from t n k u
 
 -- the answer for a text whose refusal is o
 abbrev pub CheckedAs : Option Refusal → List ℕ → Checked → Type 0
-CheckedAs o s (aPage t n k u from) = (o ≡ none) × Accepted s t n k u from
+CheckedAs o s (aPage t n k u) = (o ≡ none) × Accepted s t n k u
 CheckedAs o s (Refused number line place) = o ≡ some (record { number = number; line = line; place = place })
 
 -- none of the lines from a place on is bad, where the first of them has the number k, and the area has room for their entries

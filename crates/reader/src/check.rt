@@ -259,14 +259,13 @@ fn head_fault(top: u16, conditions: u16) -> Fault
     Fault::None
 }
 
-// What a text comes to: the numbers of its page and the place of its second line, or a refusal.
+// What a text comes to: the numbers of its page, or a refusal.
 pub enum Checked {
     Page {
         top: u16,
         conditions: u16,
         count: usize,
         used: usize,
-        from: usize,
     },
     Refused {
         number: u16,
@@ -310,7 +309,6 @@ fn check_all(bytes: &[u8]) -> Checked
             conditions,
             count,
             used,
-            from: next,
         },
         Tally::Bad {
             number,

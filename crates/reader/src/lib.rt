@@ -48,7 +48,6 @@ pub fn read_page(bytes: &[u8], area: &mut [u16]) -> ReadAnswer
             conditions,
             count,
             used,
-            from,
         } => {
             if area.len() < used {
                 return ReadAnswer::Refused {
@@ -57,6 +56,7 @@ pub fn read_page(bytes: &[u8], area: &mut [u16]) -> ReadAnswer
                     place: 0,
                 };
             }
+            let from = next_line(bytes, 0);
             let start = put_head(area, top, conditions, count as u16, used as u16);
             write_lines(bytes, from, area, start);
             ReadAnswer::Read(used)

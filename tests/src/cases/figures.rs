@@ -279,7 +279,10 @@ fn row_11_line_1025_is_read_and_1026_refused_however_it_looks(trial: &mut Trial,
     Ok(())
 }
 
-fn row_12_leading_zero_is_form_and_low_above_high_has_a_number_of_its_own(trial: &mut Trial, _: u64) -> Check {
+fn row_12_leading_zero_is_form_and_low_above_high_has_a_number_of_its_own(
+    trial: &mut Trial,
+    _: u64,
+) -> Check {
     refused(trial, b"G,10,1\nF,0,03,4\n", (3, 2, 0))?;
     refused(trial, b"G,10,1\nF,0,4,3\n", (23, 2, 4))?;
     accepted(trial, b"G,10,1\nF,0,3,4\n")

@@ -43,14 +43,7 @@ pub fn cases() -> Vec<Case> {
             name: "reader_agrees_on_every_three_digit_number_in_every_field",
             items: FIELDS.len() as u64,
             each: every_number,
-            must_see: &[
-                ("read", 0),
-                ("read", 3),
-                ("read", 4),
-                ("read", 21),
-                ("read", 22),
-                ("read", 23),
-            ],
+            must_see: &[("read", 0), ("read", 3), ("read", 4)],
         },
         Case {
             name: "reader_limits",
@@ -217,13 +210,7 @@ fn every_number(trial: &mut Trial, item: u64) -> Check {
 }
 
 /// A text must be refused so, with a place in the line, whatever the area's length.
-fn refused_at(
-    trial: &mut Trial,
-    text: &[u8],
-    number: Refusal,
-    line: u32,
-    place: u32,
-) -> Check {
+fn refused_at(trial: &mut Trial, text: &[u8], number: Refusal, line: u32, place: u32) -> Check {
     trial.pages += 1;
     for length in [PAGE_MAX, 4, 0] {
         let mut area = trial.rubbish(length);

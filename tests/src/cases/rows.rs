@@ -31,7 +31,11 @@ type Outcome = Result<usize, (Refusal, u32, u32)>;
 
 const TEXTS: &[(&str, &[u8], Outcome)] = &[
     ("condition 511 of 512", b"G,1,512\nF,511,0,1\n", Ok(8)),
-    ("condition 512 of 512", b"G,1,512\nF,512,0,1\n", Err((4, 2, 2))),
+    (
+        "condition 512 of 512",
+        b"G,1,512\nF,512,0,1\n",
+        Err((4, 2, 2)),
+    ),
     ("literal 511 of 512", b"G,1,512\nR,0,1,M,!511\n", Ok(9)),
     (
         "literal 512 of 512",
@@ -81,15 +85,39 @@ const TEXTS: &[(&str, &[u8], Outcome)] = &[
     ("weight 10", b"G,9,1\nR,0,10,M,0\n", Err((21, 2, 3))),
     ("form before range", b"G,9,1\nF,7,9,8,x\n", Err((3, 2, 0))),
     ("low over top", b"G,9,1\nF,0,10,10\n", Err((22, 2, 3))),
-    ("low over top and above high", b"G,9,1\nF,0,10,3\n", Err((22, 2, 3))),
-    ("high over top and low above it", b"G,9,1\nF,0,12,11\n", Err((22, 2, 3))),
+    (
+        "low over top and above high",
+        b"G,9,1\nF,0,10,3\n",
+        Err((22, 2, 3)),
+    ),
+    (
+        "high over top and low above it",
+        b"G,9,1\nF,0,12,11\n",
+        Err((22, 2, 3)),
+    ),
     ("low above high", b"G,9,1\nF,0,9,8\n", Err((23, 2, 4))),
     ("condition and low", b"G,9,1\nF,1,10,9\n", Err((4, 2, 2))),
-    ("condition, low above high", b"G,9,1\nF,1,9,8\n", Err((4, 2, 2))),
-    ("weight and literal", b"G,9,1\nR,0,10,M,1\n", Err((21, 2, 3))),
-    ("condition and weight", b"G,9,1\nR,1,0,M,0\n", Err((4, 2, 2))),
+    (
+        "condition, low above high",
+        b"G,9,1\nF,1,9,8\n",
+        Err((4, 2, 2)),
+    ),
+    (
+        "weight and literal",
+        b"G,9,1\nR,0,10,M,1\n",
+        Err((21, 2, 3)),
+    ),
+    (
+        "condition and weight",
+        b"G,9,1\nR,1,0,M,0\n",
+        Err((4, 2, 2)),
+    ),
     ("two literals", b"G,9,1\nR,0,1,M,0,!1,0,1\n", Err((4, 2, 6))),
-    ("the last literal", b"G,9,1\nR,0,1,M,0,0,0,0,0,0,0,1\n", Err((4, 2, 12))),
+    (
+        "the last literal",
+        b"G,9,1\nR,0,1,M,0,0,0,0,0,0,0,1\n",
+        Err((4, 2, 12)),
+    ),
     ("a query", b"G,9,1\nQ,W,1\n", Err((4, 2, 3))),
     ("top 0", b"G,0,1\n", Err((4, 1, 2))),
     ("no conditions", b"G,1,0\n", Err((4, 1, 3))),
