@@ -16,7 +16,7 @@ use lines::parse_line;
 // line, from 1.
 pub enum Fault {
     None,
-    At { number: u16, place: usize },
+    At(u16, usize),
 }
 
 // The fields of a fact.
@@ -24,28 +24,16 @@ fn fact_fault(condition: u16, low: u16, high: u16, top: u16, conditions: u16) ->
     ensures { λ r. ⌜ faultOf r ≡ leftmost 1 (lineRanges top conditions (fact condition low high)) ⌝ }
 {
     if conditions <= condition {
-        return Fault::At {
-            number: 4,
-            place: 2,
-        };
+        return Fault::At(4, 2);
     }
     if top < low {
-        return Fault::At {
-            number: 22,
-            place: 3,
-        };
+        return Fault::At(22, 3);
     }
     if top < high {
-        return Fault::At {
-            number: 22,
-            place: 4,
-        };
+        return Fault::At(22, 4);
     }
     if high < low {
-        return Fault::At {
-            number: 23,
-            place: 4,
-        };
+        return Fault::At(23, 4);
     }
     Fault::None
 }
@@ -56,26 +44,17 @@ fn rule_fault(condition: u16, weight: u16, far: usize, top: u16, conditions: u16
     ensures { λ r. ⌜ faultOf r ≡ ruleFault top conditions condition weight far ⌝ }
 {
     if conditions <= condition {
-        return Fault::At {
-            number: 4,
-            place: 2,
-        };
+        return Fault::At(4, 2);
     }
     if weight < 1 {
-        return Fault::At {
-            number: 21,
-            place: 3,
-        };
+        return Fault::At(21, 3);
     }
     if top < weight {
-        return Fault::At {
-            number: 21,
-            place: 3,
-        };
+        return Fault::At(21, 3);
     }
     if far != 0 {
         let place = 4 + far;
-        return Fault::At { number: 4, place };
+        return Fault::At(4, place);
     }
     Fault::None
 }
@@ -85,10 +64,7 @@ fn query_fault(condition: u16, conditions: u16) -> Fault
     ensures { λ r. ⌜ faultOf r ≡ queryFault conditions condition ⌝ }
 {
     if conditions <= condition {
-        return Fault::At {
-            number: 4,
-            place: 3,
-        };
+        return Fault::At(4, 3);
     }
     Fault::None
 }
@@ -105,7 +81,7 @@ fn by_fault(fault: Fault, next: usize, size: usize) -> Line
 {
     match fault {
         Fault::None => Line::Good { next, size },
-        Fault::At { number, place } => Line::Bad(number, place),
+        Fault::At(number, place) => Line::Bad(number, place),
     }
 }
 
@@ -233,28 +209,16 @@ fn head_fault(top: u16, conditions: u16) -> Fault
     ensures { λ r. ⌜ faultOf r ≡ leftmost 1 (headRanges top conditions) ⌝ }
 {
     if top < 1 {
-        return Fault::At {
-            number: 4,
-            place: 2,
-        };
+        return Fault::At(4, 2);
     }
     if 200 < top {
-        return Fault::At {
-            number: 4,
-            place: 2,
-        };
+        return Fault::At(4, 2);
     }
     if conditions < 1 {
-        return Fault::At {
-            number: 4,
-            place: 3,
-        };
+        return Fault::At(4, 3);
     }
     if 512 < conditions {
-        return Fault::At {
-            number: 4,
-            place: 3,
-        };
+        return Fault::At(4, 3);
     }
     Fault::None
 }
@@ -294,7 +258,7 @@ fn check_all(bytes: &[u8]) -> Checked
     let fault = head_fault(top, conditions);
     match fault {
         Fault::None => {}
-        Fault::At { number, place } => {
+        Fault::At(number, place) => {
             return Checked::Refused {
                 number,
                 line: 1,
