@@ -62,8 +62,8 @@ int main(void)
     uint16_t ends[2];
     unsigned k, count = 0;
     const uint16_t *p;
-    uint32_t bad;
-    int32_t used = scan_read(text, read_all(), page, PAGE_MAX, &bad);
+    uint32_t bad, place;
+    int32_t used = scan_read(text, read_all(), page, PAGE_MAX, &bad, &place);
 
     if (used < 0) {
         s = digits(line + sprintf((char *)line, "refused,"), -used);

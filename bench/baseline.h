@@ -5,7 +5,8 @@
 #include <stddef.h>
 #include <stdint.h>
 
-int32_t scan_read(const uint8_t *text, size_t text_length, uint16_t *area, size_t area_length, uint32_t *line);
+int32_t scan_read(const uint8_t *text, size_t text_length, uint16_t *area, size_t area_length, uint32_t *line,
+                  uint32_t *place);
 size_t scan_show_line(const uint8_t *text, size_t text_length, size_t number, size_t *start);
 int32_t scan_open(const uint16_t *page, size_t page_length, const uint16_t *queries, size_t queries_length,
                   uint16_t *run, size_t run_length, uint32_t *reached, uint32_t *edges, uint32_t *bound);

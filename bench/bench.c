@@ -50,7 +50,7 @@ static void load(const char *name)
 {
     uint16_t run[sizeof given.run / sizeof *given.run];
     const uint16_t *p;
-    uint32_t r, e, b, line, c;
+    uint32_t r, e, b, line, place, c;
     int32_t used;
 
     given.text_length = page_text(name, given.text);
@@ -58,9 +58,10 @@ static void load(const char *name)
         fprintf(stderr, "no input %s\n", name);
         exit(2);
     }
-    used = scan_read((uint8_t *)given.text, given.text_length, given.page, SIMJORAD_PAGE_MAX, &line);
+    used = scan_read((uint8_t *)given.text, given.text_length, given.page, SIMJORAD_PAGE_MAX, &line,
+                     &place);
     if (used < 0) {
-        fprintf(stderr, "input %s refused: %d, line %u\n", name, (int)-used, (unsigned)line);
+        fprintf(stderr, "input %s refused: %d, line %u, field %u\n", name, (int)-used, (unsigned)line, (unsigned)place);
         exit(2);
     }
     given.page_length = used;
@@ -123,7 +124,8 @@ __attribute__((noinline, noclone)) void measured(const struct impl *impl, int op
 
     switch (op) {
     case READ:
-        result.code = impl->read((uint8_t *)given.text, given.text_length, result.area, result.length, &out[0]);
+        result.code = impl->read((uint8_t *)given.text, given.text_length, result.area, result.length, &out[0],
+                                 &out[1]);
         break;
     case SHOW:
         result.code = impl->show_line((uint8_t *)given.text, given.text_length, given.page[2] + 1, &start);

@@ -43,21 +43,23 @@ static inline unsigned kind_of(uint8_t letter)
     return place < sizeof kinds ? kinds[place] : 0;
 }
 
-/* Checks the first line; returns 0, 3 or 4. */
-static inline int check_head(const uint8_t **text, unsigned *top, unsigned *count)
+/* Checks the first line; returns 0, 3, or 4 with the place of the field. */
+static inline int check_head(const uint8_t **text, unsigned *top, unsigned *count, uint32_t *place)
 {
     const uint8_t *s = *text;
 
     if (s[0] != 'G' || !(s = field(s + 1, top)) || !(s = field(s, count)) || *s != '\n')
         return 3;
-    if (*top - 1 >= TOP_MAX || *count - 1 >= CONDITIONS_MAX)
+    if (*top - 1 >= TOP_MAX || *count - 1 >= CONDITIONS_MAX) {
+        *place = *top - 1 >= TOP_MAX ? 2 : 3;
         return 4;
+    }
     *text = s + 1;
     return 0;
 }
 
-/* Checks a fact; returns 0, 3 or 4. */
-static inline int check_fact(const uint8_t **text, unsigned top, unsigned count)
+/* Checks a fact; returns 0, 3, or 4, 22 or 23 with the place of the leftmost bad field. */
+static inline int check_fact(const uint8_t **text, unsigned top, unsigned count, uint32_t *place)
 {
     const uint8_t *s = *text;
     unsigned condition, low, high;
@@ -65,53 +67,10 @@ static inline int check_fact(const uint8_t **text, unsigned top, unsigned count)
     if (!(s = field(s + 1, &condition)) || !(s = field(s, &low)) || !(s = field(s, &high)) || *s != '\n')
         return 3;
     *text = s + 1;
-    return condition >= count || low > high || high > top ? 4 : 0;
-}
-
-/* Checks a rule and counts its literals; returns 0, 3 or 4. */
-static inline int check_rule(const uint8_t **text, unsigned top, unsigned count, unsigned *literals)
-{
-    const uint8_t *s = *text;
-    unsigned condition, weight, c, n = 0, bad;
-
-    if (!(s = field(s + 1, &condition)) || !(s = field(s, &weight)) || s[0] != ',' || !kind_of(s[1]))
-        return 3;
-    s += 2;
-    bad = condition >= count || weight - 1 >= top;
-    do {
-        if (*s != ',' || n == LITERALS_MAX)
-            return 3;
-        s += s[1] == '!' ? 2 : 1;
-        if (!(s = number(s, &c)))
-            return 3;
-        bad |= c >= count;
-        n++;
-    } while (*s != '\n');
-    *literals += n;
-    *text = s + 1;
-    return bad ? 4 : 0;
-}
-
-/* Checks a query; returns 0, 3 or 4. */
-static inline int check_query(const uint8_t **text, unsigned count)
-{
-    const uint8_t *s = *text;
-    unsigned condition;
-
-    if (s[1] != ',' || (s[2] != 'K' && s[2] != 'W') || !(s = field(s + 3, &condition)) || *s != '\n')
-        return 3;
-    *text = s + 1;
-    return condition >= count ? 4 : 0;
-}
-
-static inline int check_line(const uint8_t **text, unsigned top, unsigned count, unsigned *literals)
-{
-    switch (**text) {
-    case 'F': return check_fact(text, top, count);
-    case 'R': return check_rule(text, top, count, literals);
-    case 'Q': return check_query(text, count);
-    default: return 3;
-    }
+    if (condition < count && low <= high && high <= top)
+        return 0;
+    *place = condition >= count ? 2 : low > top ? 3 : 4;
+    return condition >= count ? 4 : low > top || high > top ? 22 : 23;
 }
 
 /* Reads a number of a checked text. */
@@ -129,6 +88,74 @@ static inline const uint8_t *checked_number(const uint8_t *s, uint16_t *value)
     }
     *value = v;
     return s;
+}
+
+/* The leftmost bad field of a rule that has its form and a bad field. */
+static int rule_fault(const uint8_t *s, unsigned top, unsigned count, uint32_t *place)
+{
+    uint16_t condition, weight, c;
+
+    s = checked_number(s + 2, &condition);
+    s = checked_number(s + 1, &weight) + 2;
+    *place = condition >= count ? 2 : 3;
+    if (condition >= count)
+        return 4;
+    if (weight - 1u >= top)
+        return 21;
+    for (*place = 5;; ++*place) {
+        s = checked_number(s + (s[1] == '!' ? 2 : 1), &c);
+        if (c >= count)
+            return 4;
+    }
+}
+
+/* Checks a rule and counts its literals; returns 0, 3, or 4 or 21 with the place of the leftmost bad field. */
+static inline int check_rule(const uint8_t **text, unsigned top, unsigned count, unsigned *literals, uint32_t *place)
+{
+    const uint8_t *line = *text, *s = line;
+    unsigned condition, weight, c, n = 0, bad;
+
+    if (!(s = field(s + 1, &condition)) || !(s = field(s, &weight)) || s[0] != ',' || !kind_of(s[1]))
+        return 3;
+    s += 2;
+    bad = condition >= count || weight - 1 >= top;
+    do {
+        if (*s != ',' || n == LITERALS_MAX)
+            return 3;
+        s += s[1] == '!' ? 2 : 1;
+        if (!(s = number(s, &c)))
+            return 3;
+        bad |= c >= count;
+        n++;
+    } while (*s != '\n');
+    *literals += n;
+    *text = s + 1;
+    return bad ? rule_fault(line, top, count, place) : 0;
+}
+
+/* Checks a query; returns 0, 3, or 4 with the place of its condition. */
+static inline int check_query(const uint8_t **text, unsigned count, uint32_t *place)
+{
+    const uint8_t *s = *text;
+    unsigned condition;
+
+    if (s[1] != ',' || (s[2] != 'K' && s[2] != 'W') || !(s = field(s + 3, &condition)) || *s != '\n')
+        return 3;
+    *text = s + 1;
+    if (condition < count)
+        return 0;
+    *place = 3;
+    return 4;
+}
+
+static inline int check_line(const uint8_t **text, unsigned top, unsigned count, unsigned *literals, uint32_t *place)
+{
+    switch (**text) {
+    case 'F': return check_fact(text, top, count, place);
+    case 'R': return check_rule(text, top, count, literals, place);
+    case 'Q': return check_query(text, count, place);
+    default: return 3;
+    }
 }
 
 /* Writes the literals of a checked rule; returns the place after its byte 10. */
@@ -173,22 +200,23 @@ static inline const uint8_t *write_line(const uint8_t *s, uint16_t **out)
     }
 }
 
-int32_t scan_read(const uint8_t *text, size_t text_length, uint16_t *area, size_t area_length, uint32_t *line)
+int32_t scan_read(const uint8_t *text, size_t text_length, uint16_t *area, size_t area_length, uint32_t *line,
+                  uint32_t *place)
 {
     const uint8_t *s = text, *end = text + text_length, *second;
     unsigned top = 0, count = 0, number = 1, literals = 0, used;
     int fault;
 
-    *line = 0;
+    *line = *place = 0;
     if (text_length > TEXT_MAX)
         return -1;
     if (text_length == 0 || end[-1] != '\n')
         return -2;
-    fault = check_head(&s, &top, &count);
+    fault = check_head(&s, &top, &count, place);
     second = s;
     while (!fault && s < end) {
         number++;
-        fault = number > LINES_MAX + 1 ? 5 : check_line(&s, top, count, &literals);
+        fault = number > LINES_MAX + 1 ? 5 : check_line(&s, top, count, &literals, place);
     }
     if (fault) {
         *line = number;

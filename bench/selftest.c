@@ -52,8 +52,15 @@ static int ref_number(const char *text, size_t length)
     return v;
 }
 
-/* One line without its byte 10, cut at its commas: form first, then ranges. Appends to area; returns 0, 3 or 4. */
-static int ref_line(const char *line, size_t length, int first, uint16_t *area, unsigned *used)
+/* The refusal for field k, from 0; sets its place. */
+static int bad_field(int k, int fault, uint32_t *place)
+{
+    *place = k + 1;
+    return fault;
+}
+
+/* One line without its byte 10, cut at its commas: form first, then ranges. Appends to area; returns 0, 3, or 4, 21, 22 or 23 with the place. */
+static int ref_line(const char *line, size_t length, int first, uint16_t *area, unsigned *used, uint32_t *place)
 {
     const char *token[16];
     size_t size[16], i;
@@ -74,8 +81,10 @@ static int ref_line(const char *line, size_t length, int first, uint16_t *area, 
     if (first) {
         if (*token[0] != 'G' || n != 3 || number[1] < 0 || number[2] < 0)
             return 3;
-        if (number[1] < 1 || number[1] > 200 || number[2] < 1 || number[2] > 512)
-            return 4;
+        if (number[1] < 1 || number[1] > 200)
+            return bad_field(1, 4, place);
+        if (number[2] < 1 || number[2] > 512)
+            return bad_field(2, 4, place);
         area[0] = number[1];
         area[1] = number[2];
         return 0;
@@ -83,8 +92,13 @@ static int ref_line(const char *line, size_t length, int first, uint16_t *area, 
     if (*token[0] == 'F') {
         if (n != 4 || number[1] < 0 || number[2] < 0 || number[3] < 0)
             return 3;
-        if (number[1] >= count || number[2] > number[3] || number[3] > top)
-            return 4;
+        if (number[1] >= count)
+            return bad_field(1, 4, place);
+        for (k = 2; k < 4; k++)
+            if (number[k] > top)
+                return bad_field(k, 22, place);
+        if (number[2] > number[3])
+            return bad_field(3, 23, place);
         area[(*used)++] = number[1];
         area[(*used)++] = 0;
         area[(*used)++] = number[2];
@@ -95,7 +109,7 @@ static int ref_line(const char *line, size_t length, int first, uint16_t *area, 
         if (n != 3 || size[1] != 1 || (*token[1] != 'K' && *token[1] != 'W') || number[2] < 0)
             return 3;
         if (number[2] >= count)
-            return 4;
+            return bad_field(2, 4, place);
         area[(*used)++] = number[2];
         area[(*used)++] = 6;
         area[(*used)++] = *token[1] == 'W';
@@ -117,11 +131,13 @@ static int ref_line(const char *line, size_t length, int first, uint16_t *area, 
         if (number[k] < 0)
             return 3;
     }
-    if (number[1] >= count || number[2] < 1 || number[2] > top)
-        return 4;
+    if (number[1] >= count)
+        return bad_field(1, 4, place);
+    if (number[2] < 1 || number[2] > top)
+        return bad_field(2, 21, place);
     for (k = 4; k < n; k++)
         if (number[k] >= count)
-            return 4;
+            return bad_field(k, 4, place);
     area[(*used)++] = number[1];
     area[(*used)++] = op;
     area[(*used)++] = number[2];
@@ -131,14 +147,14 @@ static int ref_line(const char *line, size_t length, int first, uint16_t *area, 
     return 0;
 }
 
-static int ref_read(const char *text, size_t length, uint16_t *area, size_t area_length, uint32_t *line)
+static int ref_read(const char *text, size_t length, uint16_t *area, size_t area_length, uint32_t *line, uint32_t *place)
 {
     static uint16_t made[AREA];
     unsigned used = 4, number = 0;
     size_t start = 0, i;
     int fault;
 
-    *line = 0;
+    *line = *place = 0;
     if (length > 65535)
         return -1;
     if (length == 0 || text[length - 1] != '\n')
@@ -147,7 +163,7 @@ static int ref_read(const char *text, size_t length, uint16_t *area, size_t area
         if (text[i] != '\n')
             continue;
         number++;
-        fault = number == 1026 ? 5 : ref_line(text + start, i - start, number == 1, made, &used);
+        fault = number == 1026 ? 5 : ref_line(text + start, i - start, number == 1, made, &used, place);
         if (fault) {
             *line = number;
             return -fault;
@@ -446,10 +462,11 @@ static uint16_t page[AREA], run[RUN], scratch[SCRATCH], answers[32];
 
 static int take(const char *text)
 {
-    uint32_t line = 77;
-    int used = at->read((const uint8_t *)text, strlen(text), page, SIMJORAD_PAGE_MAX, &line);
+    uint32_t line = 77, place = 77;
+    int used = at->read((const uint8_t *)text, strlen(text), page, SIMJORAD_PAGE_MAX, &line, &place);
 
     same("line after reading", line, 0);
+    same("place after reading", place, 0);
     return used;
 }
 
@@ -497,8 +514,8 @@ static const char example[] = "G,10,2\nF,0,2,2\nF,1,3,3\nR,0,10,M,!1\nR,1,10,M,!
 /* What the program attach prints. */
 static void attach(const char *text, char *out)
 {
-    uint32_t line = 0, r, e, bound, taken;
-    int used = at->read((const uint8_t *)text, strlen(text), page, SIMJORAD_PAGE_MAX, &line), queries = 0;
+    uint32_t line = 0, place, r, e, bound, taken;
+    int used = at->read((const uint8_t *)text, strlen(text), page, SIMJORAD_PAGE_MAX, &line, &place), queries = 0;
     const uint16_t *p;
     uint16_t low, high;
 
@@ -600,15 +617,16 @@ static void figures(void)
     same("attach, refused", strcmp(out, "refused,4,3\n"), 0);
 }
 
-static void refused(const char *text, size_t length, int fault, unsigned line)
+static void refused(const char *text, size_t length, int fault, unsigned line, unsigned place)
 {
-    uint32_t got = 77;
+    uint32_t got = 77, got_place = 77;
     unsigned i;
 
     for (i = 0; i < AREA; i++)
         page[i] = FILL;
-    same(text, -at->read((const uint8_t *)text, length, page, SIMJORAD_PAGE_MAX, &got), fault);
+    same(text, -at->read((const uint8_t *)text, length, page, SIMJORAD_PAGE_MAX, &got, &got_place), fault);
     same(text, got, line);
+    same(text, got_place, place);
     for (i = 0; i < AREA; i++)
         if (page[i] != FILL)
             same("area after a refusal", page[i], FILL);
@@ -616,53 +634,58 @@ static void refused(const char *text, size_t length, int fault, unsigned line)
 
 static void reading(void)
 {
-    static const struct { const char *text; int fault; unsigned line; } bad[] = {
-        { "", 2, 0 }, { "G,10,2", 2, 0 }, { "G,10,2\nF,0,1,1", 2, 0 }, { "\n", 3, 1 }, { "F,0,1,1\n", 3, 1 },
-        { "G,0,1\n", 4, 1 }, { "G,201,1\n", 4, 1 }, { "G,1,0\n", 4, 1 }, { "G,1,513\n", 4, 1 }, { "G,1\n", 3, 1 },
-        { "G,1,1,\n", 3, 1 }, { "G,1,1,1\n", 3, 1 }, { "G,01,1\n", 3, 1 }, { "G,1000,1\n", 3, 1 }, { " G,1,1\n", 3, 1 },
-        { "G,1,1\r\n", 3, 1 }, { "G,1,1\n\n", 3, 2 }, { "G,1,1\nG,1,1\n", 3, 2 }, { "G,10,2\nF,0,03,4\n", 3, 2 },
-        { "G,10,2\nF,0,4,3\n", 4, 2 }, { "G,10,2\nF,2,3,4\n", 4, 2 }, { "G,10,2\nF,0,3,11\n", 4, 2 },
-        { "G,10,2\nF,0,3\n", 3, 2 }, { "G,10,2\nF,0,3,4,5\n", 3, 2 }, { "G,10,2\nF,0,999,0004\n", 3, 2 },
-        { "G,10,2\nF,9,9,3,4\n", 3, 2 }, { "G,10,2\nF,!0,3,4\n", 3, 2 }, { "G,10,2\nR,0,0,M,1\n", 4, 2 },
-        { "G,10,2\nR,0,11,M,1\n", 4, 2 }, { "G,10,2\nR,2,1,M,1\n", 4, 2 }, { "G,10,2\nR,0,1,M,2\n", 4, 2 },
-        { "G,10,2\nR,0,1,M,!2\n", 4, 2 }, { "G,10,2\nR,0,1,M,!!1\n", 3, 2 }, { "G,10,2\nR,0,1,M,!\n", 3, 2 },
-        { "G,10,2\nR,0,1,M\n", 3, 2 }, { "G,10,2\nR,0,1,M,\n", 3, 2 }, { "G,10,2\nR,0,1,N,1\n", 3, 2 },
-        { "G,10,2\nR,0,1,MX,1\n", 3, 2 }, { "G,10,2\nR,0,1,m,1\n", 3, 2 }, { "G,10,2\nR,0,1,M,1,0,1,0,1,0,1,0,1\n", 3, 2 },
-        { "G,10,2\nR,9,0,M,9,9,9,9,9,9,9,9,x\n", 3, 2 }, { "G,10,2\nR,0,1,M,01\n", 3, 2 }, { "G,10,2\nR,0,1,M,!01\n", 3, 2 },
-        { "G,10,2\nQ,K,2\n", 4, 2 }, { "G,10,2\nQ,X,1\n", 3, 2 }, { "G,10,2\nQ,K\n", 3, 2 }, { "G,10,2\nQ,K,1,1\n", 3, 2 },
-        { "G,10,2\nQ,,1\n", 3, 2 }, { "G,10,2\nQ\n", 3, 2 }, { "G,10,2\nX\n", 3, 2 }, { "G,10,2\nF,0,1,1\nF,5,1,1\nF\n", 4, 3 },
-        { "G,1,512\nQ,K,512\n", 4, 2 }, { "G,1,1\nF,0,0,0 \n", 3, 2 }, { "G,1,1\nF,0,0,-0\n", 3, 2 },
+    static const struct { const char *text; int fault; unsigned line, place; } bad[] = {
+        { "", 2, 0, 0 }, { "G,10,2", 2, 0, 0 }, { "G,10,2\nF,0,1,1", 2, 0, 0 }, { "\n", 3, 1, 0 }, { "F,0,1,1\n", 3, 1, 0 },
+        { "G,0,1\n", 4, 1, 2 }, { "G,201,1\n", 4, 1, 2 }, { "G,1,0\n", 4, 1, 3 }, { "G,1,513\n", 4, 1, 3 },
+        { "G,1\n", 3, 1, 0 }, { "G,1,1,\n", 3, 1, 0 }, { "G,1,1,1\n", 3, 1, 0 }, { "G,01,1\n", 3, 1, 0 },
+        { "G,1000,1\n", 3, 1, 0 }, { " G,1,1\n", 3, 1, 0 }, { "G,1,1\r\n", 3, 1, 0 }, { "G,1,1\n\n", 3, 2, 0 },
+        { "G,1,1\nG,1,1\n", 3, 2, 0 }, { "G,10,2\nF,0,03,4\n", 3, 2, 0 }, { "G,10,2\nF,0,4,3\n", 23, 2, 4 },
+        { "G,10,2\nF,2,3,4\n", 4, 2, 2 }, { "G,10,2\nF,0,3,11\n", 22, 2, 4 }, { "G,10,2\nF,0,3\n", 3, 2, 0 },
+        { "G,10,2\nF,0,3,4,5\n", 3, 2, 0 }, { "G,10,2\nF,0,999,0004\n", 3, 2, 0 }, { "G,10,2\nF,9,9,3,4\n", 3, 2, 0 },
+        { "G,10,2\nF,!0,3,4\n", 3, 2, 0 }, { "G,10,2\nR,0,0,M,1\n", 21, 2, 3 }, { "G,10,2\nR,0,11,M,1\n", 21, 2, 3 },
+        { "G,10,2\nR,2,1,M,1\n", 4, 2, 2 }, { "G,10,2\nR,0,1,M,2\n", 4, 2, 5 }, { "G,10,2\nR,0,1,M,!2\n", 4, 2, 5 },
+        { "G,10,2\nR,0,1,M,!!1\n", 3, 2, 0 }, { "G,10,2\nR,0,1,M,!\n", 3, 2, 0 }, { "G,10,2\nR,0,1,M\n", 3, 2, 0 },
+        { "G,10,2\nR,0,1,M,\n", 3, 2, 0 }, { "G,10,2\nR,0,1,N,1\n", 3, 2, 0 }, { "G,10,2\nR,0,1,MX,1\n", 3, 2, 0 },
+        { "G,10,2\nR,0,1,m,1\n", 3, 2, 0 }, { "G,10,2\nR,0,1,M,1,0,1,0,1,0,1,0,1\n", 3, 2, 0 },
+        { "G,10,2\nR,9,0,M,9,9,9,9,9,9,9,9,x\n", 3, 2, 0 }, { "G,10,2\nR,0,1,M,01\n", 3, 2, 0 },
+        { "G,10,2\nR,0,1,M,!01\n", 3, 2, 0 }, { "G,10,2\nQ,K,2\n", 4, 2, 3 }, { "G,10,2\nQ,X,1\n", 3, 2, 0 },
+        { "G,10,2\nQ,K\n", 3, 2, 0 }, { "G,10,2\nQ,K,1,1\n", 3, 2, 0 }, { "G,10,2\nQ,,1\n", 3, 2, 0 },
+        { "G,10,2\nQ\n", 3, 2, 0 }, { "G,10,2\nX\n", 3, 2, 0 }, { "G,10,2\nF,0,1,1\nF,5,1,1\nF\n", 4, 3, 2 },
+        { "G,1,512\nQ,K,512\n", 4, 2, 3 }, { "G,1,1\nF,0,0,0 \n", 3, 2, 0 }, { "G,1,1\nF,0,0,-0\n", 3, 2, 0 },
+        { "G,201,513\n", 4, 1, 2 }, { "G,10,2\nF,0,11,12\n", 22, 2, 3 }, { "G,10,2\nF,0,11,3\n", 22, 2, 3 },
+        { "G,10,2\nF,2,4,3\n", 4, 2, 2 }, { "G,10,2\nR,2,0,M,2\n", 4, 2, 2 }, { "G,10,2\nR,0,0,M,2\n", 21, 2, 3 },
+        { "G,10,2\nR,0,1,M,1,!2,1,2\n", 4, 2, 6 }, { "G,10,2\nR,0,1,M,1,1,1,1,1,1,1,2\n", 4, 2, 12 },
     };
     static char text[70000];
     static uint16_t want[AREA];
-    uint32_t line;
+    uint32_t line, place;
     size_t i, length, start;
     int used;
 
     for (i = 0; i < sizeof bad / sizeof *bad; i++)
-        refused(bad[i].text, strlen(bad[i].text), bad[i].fault, bad[i].line);
-    refused("G,1,1\nF,0\0,0,0\n", 15, 3, 2);
+        refused(bad[i].text, strlen(bad[i].text), bad[i].fault, bad[i].line, bad[i].place);
+    refused("G,1,1\nF,0\0,0,0\n", 15, 3, 2, 0);
     same("511 is read", take("G,200,512\nQ,K,511\nR,0,200,M,1,2,3,!4,5,6,7,!511\n"), 20);
-    same("no bytes", at->read(NULL, 0, NULL, 0, &line), -2);
+    same("no bytes", at->read(NULL, 0, NULL, 0, &line, &place), -2);
 
     /* 1,025 lines are read, the longest page too; line 1,026 is refused 5 */
     length = sprintf(text, "G,200,512\n");
     for (i = 0; i < 1024; i++)
         length += sprintf(text + length, "R,%d,200,P,1,2,3,4,5,6,!7,!%d\n", (int)(i % 512), (int)(i / 2));
-    used = at->read((uint8_t *)text, length, page, SIMJORAD_PAGE_MAX, &line);
+    used = at->read((uint8_t *)text, length, page, SIMJORAD_PAGE_MAX, &line, &place);
     same("longest page", used, 12292);
-    same("longest page, reference", ref_read(text, length, want, SIMJORAD_PAGE_MAX, &line), 12292);
+    same("longest page, reference", ref_read(text, length, want, SIMJORAD_PAGE_MAX, &line, &place), 12292);
     same("longest page, area", memcmp(page, want, 12292 * sizeof *page), 0);
-    same("area short by 1", at->read((uint8_t *)text, length, page, 12291, &line), -6);
+    same("area short by 1", at->read((uint8_t *)text, length, page, 12291, &line, &place), -6);
     same("area short by 1, line", line, 0);
     text[length] = '?';
     text[length + 1] = '\n';
-    refused(text, length + 2, 5, 1026);
+    refused(text, length + 2, 5, 1026, 0);
     text[length] = '\n';
-    refused(text, length + 1, 5, 1026);
+    refused(text, length + 1, 5, 1026, 0);
     memset(text, '\n', sizeof text);
-    refused(text, 65536, 1, 0);
-    refused(text, 65535, 3, 1);
+    refused(text, 65536, 1, 0, 0);
+    refused(text, 65535, 3, 1, 0);
 
     /* showing lines */
     length = 9;
@@ -685,8 +708,8 @@ static void falling(void)
 {
     static char text[PAGE_TEXT_MAX];
     size_t length = page_text("falling", text);
-    uint32_t line;
-    int used = at->read((const uint8_t *)text, length, page, SIMJORAD_PAGE_MAX, &line);
+    uint32_t line, place;
+    int used = at->read((const uint8_t *)text, length, page, SIMJORAD_PAGE_MAX, &line, &place);
 
     open_one(used, 0, 512, 4054, 811312);
     driven(used, 811112, 0, 811112);
@@ -730,15 +753,16 @@ static size_t random_text(char *text)
 static void compare_read(const char *text, size_t length, size_t area_length)
 {
     static uint16_t want[AREA];
-    uint32_t line = 77, want_line;
+    uint32_t line = 77, place = 77, want_line, want_place;
     size_t i;
     int fault;
 
     for (i = 0; i < AREA; i++)
         page[i] = want[i] = FILL;
-    fault = ref_read(text, length, want, area_length, &want_line);
-    same("read", at->read((const uint8_t *)text, length, page, area_length, &line), fault);
+    fault = ref_read(text, length, want, area_length, &want_line, &want_place);
+    same("read", at->read((const uint8_t *)text, length, page, area_length, &line, &place), fault);
     same("read, line", line, want_line);
+    same("read, place", place, want_place);
     same("read, area", memcmp(page, want, sizeof page), 0);
 }
 
@@ -748,13 +772,13 @@ static void random_page(void)
     static uint16_t first[RUN], want[RUN], unsound[AREA];
     struct pair plain[512], closed[512];
     uint16_t queries[16], low, high;
-    uint32_t line, r, e, bound, taken, want_taken, want_line, allowance;
+    uint32_t line, place, r, e, bound, taken, want_taken, want_line, allowance;
     unsigned want_r, want_e, used, c, i, n, count, order, state, length = random_text(text);
     int32_t code;
     int fault, fault_line, k;
 
     order = seed;
-    fault = ref_read(text, length, page, SIMJORAD_PAGE_MAX, &line);
+    fault = ref_read(text, length, page, SIMJORAD_PAGE_MAX, &line, &place);
     same("random page", fault > 0, 1);
     used = fault;
     count = page[1];

@@ -186,11 +186,12 @@ static void hand_on(struct call *c)
 #define BYTES(k, p) .slices[k] = {1, p##_length, (void *)p}
 #define NUMBERS(k, p) .slices[k] = {2, p##_length, (void *)p}
 
-int32_t simjorad_read(const uint8_t *text, size_t text_length, uint16_t *area, size_t area_length, uint32_t *line)
+int32_t simjorad_read(const uint8_t *text, size_t text_length, uint16_t *area, size_t area_length, uint32_t *line, uint32_t *place)
 {
-    struct call c = {.function = READ, BYTES(0, text), NUMBERS(1, area), .outs = {*line}};
+    struct call c = {.function = READ, BYTES(0, text), NUMBERS(1, area), .outs = {*line, *place}};
     hand_on(&c);
     *line = c.outs[0];
+    *place = c.outs[1];
     return (int32_t)c.answer;
 }
 

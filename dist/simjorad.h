@@ -11,7 +11,7 @@
  * out-parameter of that call; this duty of the caller and these declarations are all that no proof covers.
  *
  * Results. A call returns a result of 0 or more, or minus the number of its refusal. A refused call changes nothing that was lent to
- * it and no out-parameter, with two exceptions: *line of simjorad_read and *condition of simjorad_layers tell of a refusal and are set by
+ * it and no out-parameter, but for those that tell of a refusal: *line and *place of simjorad_read and *condition of simjorad_layers are set by
  * every call, to 0 where there is nothing to tell. Out-parameters must not be NULL.
  *
  * Calls. No call keeps anything between calls, allocates or blocks. Calls on different areas may run at the same time. On one run
@@ -63,7 +63,7 @@ extern "C" {
  * measurements and do not count). SIMJORAD_LAYOUT is raised whenever the layout of a page area or a run area changes: an area that was
  * kept under another layout must be read or opened again.
  */
-#define SIMJORAD_VERSION 4
+#define SIMJORAD_VERSION 5
 #define SIMJORAD_LAYOUT 1
 
 /*
@@ -105,7 +105,7 @@ extern "C" {
  * x86-64, measured by tests/ with the largest page, and of simjorad.c by gcc -Os and -O2 on a Cortex-M4, added up by c99/figures. Both fail if a
  * call takes more. On the Cortex-M4 the host's own memcpy and memset are not counted in.
  */
-#define SIMJORAD_STACK_READ 384
+#define SIMJORAD_STACK_READ 448
 #define SIMJORAD_STACK_SHOW_LINE 64
 #define SIMJORAD_STACK_OPEN 1280
 #define SIMJORAD_STACK_EVALUATE 1600
@@ -121,7 +121,7 @@ extern "C" {
 #define SIMJORAD_TEXT_TOO_LONG 1      /* more than 65,535 bytes */
 #define SIMJORAD_TEXT_UNENDED 2       /* empty, or the last byte is not 10 */
 #define SIMJORAD_LINE_FORM 3          /* a line has none of the forms for its place */
-#define SIMJORAD_LINE_RANGE 4         /* a number is out of range, or low above high */
+#define SIMJORAD_LINE_RANGE 4         /* a condition or literal is C or more, or a number of the G line is out of range */
 #define SIMJORAD_LINE_COUNT 5         /* it is line 1,026 */
 #define SIMJORAD_AREA_SHORT 6         /* the page area is shorter than the used length */
 #define SIMJORAD_PAGE_UNSOUND 10      /* the page area is not sound */
@@ -134,15 +134,20 @@ extern "C" {
 #define SIMJORAD_NOT_REACHED 17       /* the condition is not reached */
 #define SIMJORAD_SCRATCH_SHORT 18     /* scratch shorter than 6 * C */
 #define SIMJORAD_ANSWERS_SHORT 19     /* answers shorter than 2 * the list */
+#define SIMJORAD_WEIGHT_RANGE 21      /* a weight outside 1 to top */
+#define SIMJORAD_GRADE_RANGE 22       /* a low or high over top */
+#define SIMJORAD_LOW_ABOVE_HIGH 23    /* low above high, both at most top */
 #define SIMJORAD_NEGATED_LOOP 30      /* a chain through a negation leads back */
 #define SIMJORAD_LAYERS_SHORT 31      /* the slice for the layers is shorter than C */
 
 /*
- * Read a page: the text becomes a page area. Returns the used length (4 or more), or minus 1, 2, 5, 3, 4 or 6.
- * Sets *line, also on refusal: to the line's number for 3, 4 and 5 (lines count from 1, and the G line is 1), and to 0 for 1, 2 and 6 and for
- * a page that is read. Writes the used length of area, and nothing of it on refusal.
+ * Read a page: the text becomes a page area. Returns the used length (4 or more), or minus 1, 2, 5, 3, 4, 21, 22, 23 or 6.
+ * Sets *line, also on refusal: to the line's number for 3, 5, 4, 21, 22 and 23 (lines count from 1, and the G line is 1), and to 0 for 1, 2 and 6
+ * and for a page that is read. Sets *place likewise: for 4, 21, 22 and 23 to the place of the leftmost bad field in its line (fields count from 1,
+ * and the letter is 1, so the first literal of a rule is 5), and to 0 else. Low above high is told at the high field.
+ * Writes the used length of area, and nothing of it on refusal.
  */
-int32_t simjorad_read(const uint8_t *text, size_t text_length, uint16_t *area, size_t area_length, uint32_t *line);
+int32_t simjorad_read(const uint8_t *text, size_t text_length, uint16_t *area, size_t area_length, uint32_t *line, uint32_t *place);
 
 /*
  * Show a line: where line `number` (from 1) of the text starts, without its byte 10. Returns its length and sets *start;

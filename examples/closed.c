@@ -29,10 +29,10 @@ int main(int argc, char **argv)
     if (unread)
         return 2;
 
-    uint32_t line = 0;
-    int32_t used = simjorad_read(text, length, page, NUMBERS(page), &line);
+    uint32_t line, place;
+    int32_t used = simjorad_read(text, length, page, NUMBERS(page), &line, &place);
     if (used < 0) {
-        printf("page refused: %d, line %u\n", (int)-used, (unsigned)line);
+        printf("page refused: %d, line %u, field %u\n", (int)-used, (unsigned)line, (unsigned)place);
         return 1;
     }
     for (size_t i = 0; i < count; i++) { /* a query is 16 bits wide: a larger number must not be cut to a good one */

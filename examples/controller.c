@@ -52,11 +52,12 @@ static int load(const char *path)
     if (unread)
         return 2;
 
-    uint32_t line = 0;
-    int32_t used = simjorad_read(text, text_length, page, sizeof page / sizeof page[0], &line);
+    uint32_t line, place; /* 0 where no line, or no single field of it, is at fault */
+    int32_t used = simjorad_read(text, text_length, page, sizeof page / sizeof page[0], &line, &place);
     if (used < 0) {
         size_t start = 0, length = simjorad_show_line(text, text_length, line, &start);
-        printf("page refused: %d, line %u: %.*s\n", (int)-used, (unsigned)line, (int)length, (const char *)text + start);
+        printf("page refused: %d, line %u, field %u: %.*s\n", (int)-used, (unsigned)line, (unsigned)place, (int)length,
+               (const char *)text + start);
         return 1;
     }
     page_length = (size_t)used;

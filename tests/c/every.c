@@ -28,19 +28,26 @@ static int same(const uint16_t *numbers, const uint16_t *wanted, size_t count)
 static void reads(void)
 {
     uint16_t page[USED + 1];
-    uint32_t line = 77;
+    uint32_t line = 77, place = 77;
     size_t start = 77;
 
     page[USED] = 4711;
-    CHECK(simjorad_read((const uint8_t *)text, TEXT, page, USED + 1, &line) == USED);
-    CHECK(line == 0 && same(page, area, USED) && page[USED] == 4711);
+    CHECK(simjorad_read((const uint8_t *)text, TEXT, page, USED + 1, &line, &place) == USED);
+    CHECK(line == 0 && place == 0 && same(page, area, USED) && page[USED] == 4711);
     memset(page, 0, sizeof page);
-    CHECK(simjorad_read((const uint8_t *)text, TEXT, page, USED - 1, &line) == -SIMJORAD_AREA_SHORT && line == 0 && page[0] == 0);
+    CHECK(simjorad_read((const uint8_t *)text, TEXT, page, USED - 1, &line, &place) == -SIMJORAD_AREA_SHORT && line == 0 && place == 0 && page[0] == 0);
     line = 77;
-    CHECK(simjorad_read((const uint8_t *)text, TEXT - 1, page, USED, &line) == -SIMJORAD_TEXT_UNENDED && line == 0);
-    CHECK(simjorad_read(NULL, 0, NULL, 0, &line) == -SIMJORAD_TEXT_UNENDED && line == 0);
-    CHECK(simjorad_read((const uint8_t *)"G,10,2\nF,0,03,4\n", 16, page, USED, &line) == -SIMJORAD_LINE_FORM && line == 2);
-    CHECK(simjorad_read((const uint8_t *)"G,10,2\nF,0,4,3\n", 15, page, USED, &line) == -SIMJORAD_LINE_RANGE && line == 2);
+    CHECK(simjorad_read((const uint8_t *)text, TEXT - 1, page, USED, &line, &place) == -SIMJORAD_TEXT_UNENDED && line == 0 && place == 0);
+    CHECK(simjorad_read(NULL, 0, NULL, 0, &line, &place) == -SIMJORAD_TEXT_UNENDED && line == 0 && place == 0);
+    CHECK(simjorad_read((const uint8_t *)"G,10,2\nF,0,03,4\n", 16, page, USED, &line, &place) == -SIMJORAD_LINE_FORM && line == 2 && place == 0);
+    CHECK(simjorad_read((const uint8_t *)"G,10,2\nF,0,4,3\n", 15, page, USED, &line, &place) == -SIMJORAD_LOW_ABOVE_HIGH && line == 2);
+    CHECK(place == 4);
+    CHECK(simjorad_read((const uint8_t *)"G,10,2\nF,0,11,3\n", 16, page, USED, &line, &place) == -SIMJORAD_GRADE_RANGE && line == 2);
+    CHECK(place == 3);
+    CHECK(simjorad_read((const uint8_t *)"G,10,2\nR,0,11,M,2\n", 18, page, USED, &line, &place) == -SIMJORAD_WEIGHT_RANGE && line == 2);
+    CHECK(place == 3);
+    CHECK(simjorad_read((const uint8_t *)"G,10,2\nR,0,1,M,1,!2\n", 20, page, USED, &line, &place) == -SIMJORAD_LINE_RANGE && line == 2);
+    CHECK(place == 6);
     CHECK(simjorad_show_line((const uint8_t *)text, TEXT, 4, &start) == 11 && start == 23);
     CHECK(memcmp(text + start, "R,0,10,M,!1", 11) == 0);
     CHECK(simjorad_show_line((const uint8_t *)text, TEXT, 8, &start) == 0);
@@ -51,22 +58,22 @@ static void long_texts(void)
 {
     static uint8_t bytes[SIMJORAD_TEXT_MAX + 1];
     static uint16_t page[SIMJORAD_PAGE_MAX];
-    uint32_t line = 77;
+    uint32_t line = 77, place = 77;
     size_t at = 0;
 
     memset(bytes, 10, sizeof bytes);
-    CHECK(simjorad_read(bytes, SIMJORAD_TEXT_MAX + 1, page, SIMJORAD_PAGE_MAX, &line) == -SIMJORAD_TEXT_TOO_LONG && line == 0);
-    CHECK(simjorad_read(bytes, SIMJORAD_TEXT_MAX, page, SIMJORAD_PAGE_MAX, &line) == -SIMJORAD_LINE_FORM && line == 1);
+    CHECK(simjorad_read(bytes, SIMJORAD_TEXT_MAX + 1, page, SIMJORAD_PAGE_MAX, &line, &place) == -SIMJORAD_TEXT_TOO_LONG && line == 0 && place == 0);
+    CHECK(simjorad_read(bytes, SIMJORAD_TEXT_MAX, page, SIMJORAD_PAGE_MAX, &line, &place) == -SIMJORAD_LINE_FORM && line == 1 && place == 0);
     at = (size_t)sprintf((char *)bytes, "G,%d,%d\n", SIMJORAD_TOP_MAX, SIMJORAD_CONDITIONS_MAX);
     for (int i = 0; i < SIMJORAD_LINES_MAX; i++)
         at += (size_t)sprintf((char *)bytes + at, "R,511,200,P,0,1,2,3,4,5,6,!511\n");
-    CHECK(simjorad_read(bytes, at, page, SIMJORAD_PAGE_MAX, &line) == SIMJORAD_PAGE_MAX && line == 0);
+    CHECK(simjorad_read(bytes, at, page, SIMJORAD_PAGE_MAX, &line, &place) == SIMJORAD_PAGE_MAX && line == 0 && place == 0);
     CHECK(page[3] == SIMJORAD_PAGE_MAX && page[2] == SIMJORAD_LINES_MAX);
     CHECK(SIMJORAD_WORKSPACE_LENGTH(page[1], page[2], page[3] - 4 - 4 * page[2]) == SIMJORAD_WORKSPACE_MAX);
-    CHECK(simjorad_read(bytes, at, page, SIMJORAD_PAGE_MAX - 1, &line) == -SIMJORAD_AREA_SHORT && line == 0);
+    CHECK(simjorad_read(bytes, at, page, SIMJORAD_PAGE_MAX - 1, &line, &place) == -SIMJORAD_AREA_SHORT && line == 0 && place == 0);
     bytes[at] = 'x';
     bytes[at + 1] = 10;
-    CHECK(simjorad_read(bytes, at + 2, page, SIMJORAD_PAGE_MAX, &line) == -SIMJORAD_LINE_COUNT && line == SIMJORAD_LINES_MAX + 2);
+    CHECK(simjorad_read(bytes, at + 2, page, SIMJORAD_PAGE_MAX, &line, &place) == -SIMJORAD_LINE_COUNT && line == SIMJORAD_LINES_MAX + 2 && place == 0);
 }
 
 /* A run of the page above: R 2, E 2, bound 22; spent after 3 evaluations, at rest after 4 (docs/RULES.md, row 2). */

@@ -19,14 +19,28 @@ pub const NOT_WAITING: Refusal = 16;
 pub const NOT_REACHED: Refusal = 17;
 pub const SCRATCH_SHORT: Refusal = 18;
 pub const ANSWERS_SHORT: Refusal = 19;
+pub const WEIGHT_RANGE: Refusal = 21;
+pub const GRADE_RANGE: Refusal = 22;
+pub const LOW_ABOVE_HIGH: Refusal = 23;
 pub const NEGATED_LOOP: Refusal = 30;
 pub const LAYERS_SHORT: Refusal = 31;
 
-/// Why a page's text is refused; the line counts from 1 and is 0 where none is at fault.
+/// Why a page's text is refused; the line, and the place of the field in it, count from 1 and are 0 where none is at fault.
 #[derive(Clone, Copy, Debug, PartialEq, Eq)]
 pub struct ReadRefusal {
     pub number: Refusal,
     pub line: u32,
+    pub place: u32,
+}
+
+impl ReadRefusal {
+    pub fn new(number: Refusal, line: u32, place: u32) -> ReadRefusal {
+        ReadRefusal {
+            number,
+            line,
+            place,
+        }
+    }
 }
 
 /// Why a page has no layers; the condition is 0 where none is told.

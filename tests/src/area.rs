@@ -145,10 +145,7 @@ fn decode_line(rest: &[u16], top: u16, count: u16) -> Option<(Line, usize)> {
 pub fn read_into(text: &[u8], area: &mut [u16]) -> Result<usize, ReadRefusal> {
     let numbers = encode(&read(text)?);
     if area.len() < numbers.len() {
-        return Err(ReadRefusal {
-            number: AREA_SHORT,
-            line: 0,
-        });
+        return Err(ReadRefusal::new(AREA_SHORT, 0, 0));
     }
     area[..numbers.len()].copy_from_slice(&numbers);
     Ok(numbers.len())

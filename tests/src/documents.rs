@@ -298,6 +298,7 @@ impl Document {
             "pages," => readings_of_pages(rest, table),
             "ops," => ops(rest, table),
             "texts" => texts(table),
+            "fields," => fields(rest, table),
             "runs," => runs(rest, table),
             "layers," => layers_of_pages(rest, table),
             "limits" => limits(table),
@@ -448,6 +449,25 @@ fn texts(table: &Table) -> Check {
         wanted.push(10);
         let wanted = String::from_utf8_lossy(&wanted).into_owned();
         figure(&format!("the answer to `{text}`"), printed, wanted)?;
+    }
+    Ok(())
+}
+
+/// `fields, FIRST`: columns line, refusal, place. A line that begins with `G` is the first, any other comes behind FIRST.
+fn fields(first: &str, table: &Table) -> Check {
+    let mut trial = Trial::new();
+    for row in &table.rows {
+        let line = quoted(table.cell(row, "line")?).concat();
+        let (text, number) = match line.starts_with('G') {
+            true => (format!("{line}\n"), 1),
+            false => (format!("{first}\n{line}\n"), 2),
+        };
+        let got = trial.read(text.as_bytes(), &mut [0; 64])?;
+        let refusal = got.err().ok_or(format!("{line} is read"))?;
+        figure(&format!("the line of {line}"), refusal.line, number)?;
+        let told = (refusal.number.to_string(), refusal.place.to_string());
+        let stated = (table.cell(row, "refusal")?, table.cell(row, "place")?);
+        figure(&line, stated, (told.0.as_str(), told.1.as_str()))?;
     }
     Ok(())
 }

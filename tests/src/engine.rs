@@ -196,6 +196,7 @@ impl Engine {
         let text_loan = self.lend(0, text);
         let (area_loan, area_length) = self.lend_area(1, area);
         let mut line = self.out(|number| number as u32);
+        let mut place = self.out(|number| number as u32);
         let slices = [
             Self::note(text, text_loan.ptr() as usize),
             Self::note(area, area_loan.ptr() as usize),
@@ -206,18 +207,18 @@ impl Engine {
             area_loan.ptr_mut() as usize,
             area_length,
             line.ptr() as usize,
+            place.ptr() as usize,
         ];
         let code = self.call(Call::Read, area_length as u64, &slices, &arguments)? as i32;
         text_loan.end_const("text", text)?;
         area_loan.end_mut("area", area)?;
-        let line = line.set("line")?;
+        let (line, place) = (line.set("line")?, place.set("place")?);
         match code {
-            -6..=-1 => Ok(Err(ReadRefusal {
-                number: -code,
-                line,
-            })),
-            4.. if line == 0 => Ok(Ok(code as usize)),
-            4.. => Err(format!("a page that is read leaves {line} in `*line`")),
+            -6..=-1 | -23..=-21 => Ok(Err(ReadRefusal::new(-code, line, place))),
+            4.. if line == 0 && place == 0 => Ok(Ok(code as usize)),
+            4.. => Err(format!(
+                "a page that is read leaves {line} in `*line` and {place} in `*place`"
+            )),
             _ => Err(format!("returned {code}")),
         }
     }

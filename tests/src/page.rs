@@ -174,24 +174,64 @@ fn later_form(line: &[u8]) -> Option<Line> {
     }
 }
 
-/// Whether every number of a line is in range.
-fn in_range(line: &Line, top: u16, count: u16) -> bool {
+/// A bad field: its place in the line, and the refusal's number.
+type BadField = (u32, Refusal);
+
+/// The bad fields of the first line, in any order.
+fn first_bad(top: u16, count: u16) -> Vec<BadField> {
+    let mut bad = Vec::new();
+    if !(1..=CONDITIONS_MAX).contains(&count) {
+        bad.push((3, LINE_RANGE));
+    }
+    if !(1..=TOP_MAX).contains(&top) {
+        bad.push((2, LINE_RANGE));
+    }
+    bad
+}
+
+/// The bad fields of a later line, in any order.
+fn later_bad(line: &Line, top: u16, count: u16) -> Vec<BadField> {
+    let mut bad = Vec::new();
+    let mut condition = |place, cond| {
+        if cond >= count {
+            bad.push((place, LINE_RANGE));
+        }
+    };
     match line {
-        Line::Fact { cond, low, high } => *cond < count && low <= high && *high <= top,
+        Line::Fact { cond, low, high } => {
+            condition(2, *cond);
+            match (*low > top, *high > top) {
+                (false, false) if low > high => bad.push((4, LOW_ABOVE_HIGH)),
+                (low_over, high_over) => {
+                    bad.extend(high_over.then_some((4, GRADE_RANGE)));
+                    bad.extend(low_over.then_some((3, GRADE_RANGE)));
+                }
+            }
+        }
         Line::Rule {
             head, weight, body, ..
         } => {
-            *head < count
-                && (1..=top).contains(weight)
-                && body.iter().all(|literal| literal.cond < count)
+            for (literal, place) in body.iter().zip(5..) {
+                condition(place, literal.cond);
+            }
+            condition(2, *head);
+            if !(1..=top).contains(weight) {
+                bad.push((3, WEIGHT_RANGE));
+            }
         }
-        Line::Query { cond, .. } => *cond < count,
+        Line::Query { cond, .. } => condition(3, *cond),
     }
+    bad
 }
 
 /// Reads a page's text.
 pub fn read(text: &[u8]) -> Result<Page, ReadRefusal> {
-    let refuse = |number, line| Err(ReadRefusal { number, line });
+    let refuse = |number, line| Err(ReadRefusal::new(number, line, 0));
+    // The leftmost bad field decides.
+    let leftmost = |bad: Vec<BadField>, line| match bad.into_iter().min() {
+        Some((place, number)) => Err(ReadRefusal::new(number, line, place)),
+        None => Ok(()),
+    };
     if text.len() > TEXT_MAX {
         return refuse(TEXT_TOO_LONG, 0);
     }
@@ -211,18 +251,14 @@ pub fn read(text: &[u8]) -> Result<Page, ReadRefusal> {
             let Some((top, count)) = first_form(line) else {
                 return refuse(LINE_FORM, number);
             };
-            if !(1..=TOP_MAX).contains(&top) || !(1..=CONDITIONS_MAX).contains(&count) {
-                return refuse(LINE_RANGE, number);
-            }
+            leftmost(first_bad(top, count), number)?;
             page.top = top;
             page.count = count;
         } else {
             let Some(line) = later_form(line) else {
                 return refuse(LINE_FORM, number);
             };
-            if !in_range(&line, page.top, page.count) {
-                return refuse(LINE_RANGE, number);
-            }
+            leftmost(later_bad(&line, page.top, page.count), number)?;
             page.lines.push(line);
         }
     }

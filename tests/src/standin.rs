@@ -33,6 +33,47 @@ pub const FAULTS: &[(&str, &str, &str)] = &[
         "row_01_two_rivals_plain_and_closed",
     ),
     (
+        "place_not_set_to_zero_on_success",
+        "quick only CASE",
+        "row_01_two_rivals_plain_and_closed",
+    ),
+    (
+        "place_left_for_other_refusals",
+        "quick only CASE",
+        "texts_have_their_stated_outcome",
+    ),
+    (
+        "place_from_zero",
+        "quick only CASE",
+        "row_09_condition_511_is_read_and_512_refused",
+    ),
+    (
+        "place_told_with_a_wrong_form",
+        "quick only CASE",
+        "texts_have_their_stated_outcome",
+    ),
+    (
+        "low_above_high_at_the_low_field",
+        "quick only CASE",
+        "row_12_leading_zero_is_form_and_low_above_high_has_a_number_of_its_own",
+    ),
+    (
+        "low_above_high_as_a_range",
+        "quick only CASE",
+        "row_12_leading_zero_is_form_and_low_above_high_has_a_number_of_its_own",
+    ),
+    (
+        "weight_as_a_range",
+        "quick only CASE",
+        "texts_have_their_stated_outcome",
+    ),
+    ("rightmost_bad_field", "quick only CASE", "reader_limits"),
+    (
+        "grade_before_a_bad_condition",
+        "quick only CASE",
+        "texts_have_their_stated_outcome",
+    ),
+    (
         "area_written_past_used_length",
         "quick only CASE",
         "row_01_two_rivals_plain_and_closed",
@@ -45,7 +86,7 @@ pub const FAULTS: &[(&str, &str, &str)] = &[
     (
         "leading_zero_accepted",
         "quick only CASE",
-        "row_12_leading_zero_is_form_and_low_above_high_is_range",
+        "row_12_leading_zero_is_form_and_low_above_high_has_a_number_of_its_own",
     ),
     (
         "carriage_return_accepted",
@@ -1224,24 +1265,51 @@ fn overlooked_text(text: &[u8]) -> Vec<u8> {
     out
 }
 
+/// A refusal with the planted fault in its number or its place.
+fn misplaced(text: &[u8], mut refusal: ReadRefusal) -> ReadRefusal {
+    let number = refusal.number;
+    if fault("place_from_zero") && refusal.place > 0 {
+        refusal.place -= 1;
+    }
+    if fault("place_told_with_a_wrong_form") && number == LINE_FORM {
+        refusal.place = 1;
+    }
+    if fault("low_above_high_at_the_low_field") && number == LOW_ABOVE_HIGH {
+        refusal.place = 3;
+    }
+    if fault("low_above_high_as_a_range") && number == LOW_ABOVE_HIGH {
+        refusal.number = LINE_RANGE;
+    }
+    if fault("weight_as_a_range") && number == WEIGHT_RANGE {
+        refusal.number = LINE_RANGE;
+    }
+    // A line with a bad condition is read once more with a good one: what is found then stands to its right.
+    let right = ["rightmost_bad_field", "grade_before_a_bad_condition"];
+    if right.contains(&planted()) && number == LINE_RANGE && refusal.place == 2 && refusal.line > 1
+    {
+        let all = String::from_utf8_lossy(text).into_owned();
+        let lines: Vec<&str> = all.split('\n').collect();
+        let mut fields: Vec<&str> = lines[refusal.line as usize - 1].split(',').collect();
+        fields[1] = "0";
+        let alone = format!("{}\n{}\n", lines[0], fields.join(","));
+        if let Err(other) = page::read(alone.as_bytes()) {
+            if fault("rightmost_bad_field") || other.number == GRADE_RANGE {
+                refusal = ReadRefusal::new(other.number, refusal.line, other.place);
+            }
+        }
+    }
+    refusal
+}
+
 fn read_text(text: &[u8], area: &mut [u16]) -> Result<usize, ReadRefusal> {
     if fault("text_of_65535_bytes_too_long") && text.len() == 65_535 {
-        return Err(ReadRefusal {
-            number: TEXT_TOO_LONG,
-            line: 0,
-        });
+        return Err(ReadRefusal::new(TEXT_TOO_LONG, 0, 0));
     }
     if fault("short_area_before_bad_line") && area.len() < 4 && page::read(text).is_err() {
-        return Err(ReadRefusal {
-            number: AREA_SHORT,
-            line: 0,
-        });
+        return Err(ReadRefusal::new(AREA_SHORT, 0, 0));
     }
     if fault("condition_300_refused_at_301_conditions") && text.starts_with(b"G,101,301\nQ,K,300") {
-        return Err(ReadRefusal {
-            number: LINE_RANGE,
-            line: 2,
-        });
+        return Err(ReadRefusal::new(LINE_RANGE, 2, 3));
     }
     let changes = [
         "carriage_return_accepted",
@@ -1269,6 +1337,7 @@ fn read_text(text: &[u8], area: &mut [u16]) -> Result<usize, ReadRefusal> {
     if fault("line_number_from_zero") && refusal.line > 0 {
         refusal.line -= 1;
     }
+    refusal = misplaced(text, refusal);
     if let Some((start, length)) = page::show_line(text, refusal.line as usize) {
         let line = &text[start..start + length];
         if fault("range_before_form") && refusal.number == LINE_FORM {
@@ -1296,16 +1365,23 @@ pub unsafe extern "C" fn simjorad_read(
     area: *mut u16,
     area_length: usize,
     line: *mut u32,
+    place: *mut u32,
 ) -> i32 {
     match read_text(lent(text, text_length), lent_mut(area, area_length)) {
         Ok(used) => {
             if !fault("line_not_set_to_zero_on_success") {
                 *line = 0;
             }
+            if !fault("place_not_set_to_zero_on_success") {
+                *place = 0;
+            }
             used as i32
         }
         Err(refusal) => {
             *line = refusal.line;
+            if !(fault("place_left_for_other_refusals") && refusal.place == 0) {
+                *place = refusal.place;
+            }
             -refusal.number
         }
     }

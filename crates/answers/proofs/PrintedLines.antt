@@ -3,7 +3,6 @@ use mathlib.Core.Path.{_≡_, sym, _∙_, ap}
 use mathlib.Core.List.{List, [], _∷_, _++_, append-assoc, append-nil}
 use Prim.Native.Nat.{ℕ}
 use Rattle.fixpoint.specs.Interval.{Interval}
-use Rattle.semantics.specs.ReadPage.{Refusal}
 use Rattle.semantics.specs.Fields.{numberText, readingLetter}
 use Rattle.semantics.specs.Output.{Query, topFields, answerFields, endFields, refusalFields, printed}
 
@@ -30,8 +29,8 @@ two-fields m n =
     field-on m (ended n 10) ∙ ap (λ (s : List ℕ). numberText m ++ (44 ∷ s)) (last-on n)
     ∙ sym (append-assoc (numberText m) (44 ∷ numberText n ++ []) (10 ∷ []))
 
-pub refusal-text : (r : Refusal) → ((114 ∷ 101 ∷ 102 ∷ 117 ∷ 115 ∷ 101 ∷ 100 ∷ 44 ∷ []) ++ ended (r .number) 44) ++ ended (r .line) 10 ≡ printed (refusalFields r ∷ [])
-refusal-text r = ap (λ (s : List ℕ). 114 ∷ 101 ∷ 102 ∷ 117 ∷ 115 ∷ 101 ∷ 100 ∷ 44 ∷ s) (two-fields (r .number) (r .line))
+pub refusal-text : (number line : ℕ) → ((114 ∷ 101 ∷ 102 ∷ 117 ∷ 115 ∷ 101 ∷ 100 ∷ 44 ∷ []) ++ ended number 44) ++ ended line 10 ≡ printed (refusalFields number line ∷ [])
+refusal-text number line = ap (λ (s : List ℕ). 114 ∷ 101 ∷ 102 ∷ 117 ∷ 115 ∷ 101 ∷ 100 ∷ 44 ∷ s) (two-fields number line)
 
 pub answer-text : (q : Query) (p : Interval)
     → ((((readingLetter (q .reading) ∷ []) ++ (44 ∷ [])) ++ ended (q .condition) 44) ++ ended (p .low) 44) ++ ended (p .high) 10 ≡ printed (answerFields q p ∷ [])

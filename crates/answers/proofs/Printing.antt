@@ -150,12 +150,12 @@ puts-page a {count = count} top lines end A h =
 
 -- The output for a text, from what reading it answered.
 module _ (text area : List ℕ) (long : 12292 ≤ length area) {out out′ : List ℕ} {next : ℕ} where
-  pub puts-refusal : {number line : ℕ} → refusedPage number line ≡ readOf text area .answer
-      → Wrote out 0 (printed (refusalFields (record { number = number; line = line }) ∷ [])) out′ next → PutOutput text out out′ next
+  pub puts-refusal : {number line place : ℕ} → refusedPage number line place ≡ readOf text area .answer
+      → Wrote out 0 (printed (refusalFields number line ∷ [])) out′ next → PutOutput text out out′ next
   unfolding IsOutput
   puts-refusal {number} {line} e w =
       record {
-        output = printed (refusalFields (record { number = number; line = line }) ∷ []);
+        output = printed (refusalFields number line ∷ []);
         is-output = rw (read-refused text area long e);
         wrote = w;
       }

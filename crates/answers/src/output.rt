@@ -38,7 +38,7 @@ fn put_end(out: &mut [u8], at: usize, count: u16) -> usize
 // `refused,number,line`.
 fn put_refusal(out: &mut [u8], number: u16, line: usize) -> usize
     requires { ⌜ (17 ≤ length (now out)) × (number < 1000) × (line < 10000) ⌝ }
-    ensures { λ r. ⌜ Wrote (now (out .entry)) 0 (printed (refusalFields (record { number = number; line = line }) ∷ [])) (now (out .exit)) r ⌝ }
+    ensures { λ r. ⌜ Wrote (now (out .entry)) 0 (printed (refusalFields number line ∷ [])) (now (out .exit)) r ⌝ }
 {
     let at = put_all(out, 0, b"refused,");
     let next = put_field(out, at, number as u32, b',');
@@ -131,7 +131,11 @@ pub fn put_output(text: &[u8], out: &mut [u8]) -> usize
     let mut page = [0u16; 12292];
     let read = reader::read_page(text, &mut page);
     match read {
-        ReadAnswer::Refused { number, line } => put_refusal(out, number, line),
+        ReadAnswer::Refused {
+            number,
+            line,
+            place: _,
+        } => put_refusal(out, number, line),
         ReadAnswer::Read(_) => put_page(&page, out),
     }
 }

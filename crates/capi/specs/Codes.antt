@@ -72,13 +72,18 @@ countsOr old (openedWith R E bound) = record { reached = R; edges = E; bound = b
 
 -- read: minus the refusal number, or the used length
 abbrev pub readCode : ReadAnswer → ℤ
-readCode (refusedPage number line) = minus number
+readCode (refusedPage number line place) = minus number
 readCode (readPage used) = pos used
 
 -- the line of a refusal, "For 1, 2 and 6 the line is 0"; 0 for a page that is read
 abbrev pub lineTold : ReadAnswer → ℕ
-lineTold (refusedPage number line) = line
+lineTold (refusedPage number line place) = line
 lineTold (readPage used) = 0
+
+-- the place of the field that a refusal tells of, "For every other refusal the place is 0"; 0 for a page that is read
+abbrev pub placeTold : ReadAnswer → ℕ
+placeTold (refusedPage number line place) = place
+placeTold (readPage used) = 0
 
 -- closed reading: minus the refusal number, or 0
 abbrev pub closedCode : Option ℕ → ℤ

@@ -6,7 +6,7 @@ ghost use Rattle.semantics.specs.ReadPage.{readOf, lineOf, startOf};
 ghost use Rattle.semantics.specs.Operation.{openOf, evaluateOf, driveOf, valueOf, lineHeldOf, ClosedOf, driveWorkspace, closedWorkspace};
 ghost use Rattle.run.specs.Answers.{statusIf, driveAnswerOf};
 ghost use Rattle.closed.specs.Answer.{refusalTold};
-ghost use Rattle.capi.specs.Codes.{minus as Codes·minus, statusCode, answerCode, takenOr, lineOr, intervalOr, openCode, countsOr, readCode, lineTold, closedCode, closedRefusal, LayersCall};
+ghost use Rattle.capi.specs.Codes.{minus as Codes·minus, statusCode, answerCode, takenOr, lineOr, intervalOr, openCode, countsOr, readCode, lineTold, placeTold, closedCode, closedRefusal, LayersCall};
 use closed::ClosedAnswer;
 use layers::Verdict;
 use run::DriveAnswer;
@@ -25,21 +25,33 @@ fn rest_code(rest: bool) -> i32
     if rest { 1 } else { 0 }
 }
 
-// Read a page: the used length, or minus 1, 2, 5, 3, 4 or 6.
+// Read a page: the used length, or minus 1, 2, 5, 3, 4, 21, 22, 23 or 6.
 #[no_mangle]
-pub extern "C" fn simjorad_read(text: &[u8], area: &mut [u16], line: &mut u32) -> i32
+pub extern "C" fn simjorad_read(
+    text: &[u8],
+    area: &mut [u16],
+    line: &mut u32,
+    place: &mut u32,
+) -> i32
     ensures code { λ r. ⌜ r ≡ readCode (readOf (now (text .entry)) (now (area .entry)) .answer) ⌝ }
     ensures area { λ _. ⌜ now (area .exit) ≡ readOf (now (text .entry)) (now (area .entry)) .area ⌝ }
     ensures line { λ _. ⌜ now (line .exit) ≡ lineTold (readOf (now (text .entry)) (now (area .entry)) .answer) ⌝ }
+    ensures place { λ _. ⌜ now (place .exit) ≡ placeTold (readOf (now (text .entry)) (now (area .entry)) .answer) ⌝ }
 {
     let answer = reader::read_page(text, area);
     match answer {
-        reader::ReadAnswer::Refused { number, line: bad } => {
+        reader::ReadAnswer::Refused {
+            number,
+            line: bad,
+            place: field,
+        } => {
             *line = bad as u32;
+            *place = field as u32;
             minus(number as u8)
         }
         reader::ReadAnswer::Read(used) => {
             *line = 0;
+            *place = 0;
             used as i32
         }
     }

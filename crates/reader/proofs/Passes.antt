@@ -9,11 +9,11 @@ use lib.ListN.{length, getD, drop, drop-of-length-le, length-append}
 use borrow.Author.Tests.{eq-eqb, ne-eqb}
 use Rattle.semantics.specs.Area.{headLength, lineCode, lineCodes}
 use Rattle.semantics.specs.Text.{textLines, fieldsOf, lineIn, linesIn}
-use Rattle.semantics.specs.ReadPage.{toldAt, orElse, badLine}
+use Rattle.semantics.specs.ReadPage.{toldAt, orElse, lineFault, badLine}
 use Rattle.fields.specs.Cursor.{fieldsAt, linesAfter}
 use Rattle.reader.specs.declared.check.Line.{Line}
 use Rattle.reader.specs.declared.check.Line.the-variants.{Good, Bad}
-use Rattle.reader.specs.Checks.{lineRefusal, LineGood, LineAs, AllGood, entriesOf}
+use Rattle.reader.specs.Checks.{faultIn, LineGood, LineAs, AllGood, entriesOf}
 use Rattle.reader.proofs.LinePlaces.{line-here}
 
 -- what a line comes to, by the cases of the answer
@@ -21,7 +21,7 @@ module _ (s : List ℕ) (at top n : ℕ) {r : Line} (q : LineAs s at top n r) wh
   pub good-told : {next size : ℕ} → r ≡ Good next size → LineGood s at top n next size
   good-told e = subst (LineAs s at top n) e q
 
-  pub bad-told : {number : ℕ} → r ≡ Bad number → lineRefusal top n (fieldsAt (drop at s)) ≡ some number
+  pub bad-told : {number place : ℕ} → r ≡ Bad number place → faultIn top n (fieldsAt (drop at s)) ≡ some (record { number = number; place = place })
   bad-told e = subst (LineAs s at top n) e q
 
 -- The first of the lines at a place, and their entries.
@@ -38,12 +38,12 @@ module _ (s : List ℕ) (i : ℕ) (h : i < length s) where
   entries-here = ap (λ (ls : List (List ℕ)). lineCodes (linesIn ls)) (line-here s i h) ∙ rw fields-here
 
   module _ (top n k : ℕ) where
-    late-line : k ≡ 1026 → badLine top n k (textLines (drop i s)) ≡ some (record { number = 5; line = k })
-    unfolding badLine
+    late-line : k ≡ 1026 → badLine top n k (textLines (drop i s)) ≡ some (record { number = 5; line = k; place = 0 })
+    unfolding badLine lineFault
     late-line e = rw (line-here s i h, eq-eqb k 1026 e)
 
-    line-bad : (k ≡ 1026 → ⊥) → badLine top n k (textLines (drop i s)) ≡ orElse (toldAt k (lineRefusal top n (fieldsAt (drop i s)))) (badLine top n (suc k) (linesAfter (drop i s)))
-    unfolding badLine
+    line-bad : (k ≡ 1026 → ⊥) → badLine top n k (textLines (drop i s)) ≡ orElse (toldAt k (faultIn top n (fieldsAt (drop i s)))) (badLine top n (suc k) (linesAfter (drop i s)))
+    unfolding badLine lineFault
     line-bad e = rw (line-here s i h, ne-eqb k 1026 e, fields-here)
 
 -- The lines from the place `from` on have been checked as far as the place i, where line k begins; their used length is u.
@@ -74,11 +74,12 @@ module _ (s : List ℕ) (from top n : ℕ) {i k u : ℕ} (w : Checking s from to
       }
 
   module _ (h : i < length s) where
-    pub refused-late : k ≡ 1026 → badLine top n 2 (textLines (drop from s)) ≡ some (record { number = 5; line = k })
+    pub refused-late : k ≡ 1026 → badLine top n 2 (textLines (drop from s)) ≡ some (record { number = 5; line = k; place = 0 })
     refused-late e = w .bad ∙ late-line s i h top n k e
 
     module _ (e : k ≡ 1026 → ⊥) where
-      pub refused-line : {number : ℕ} → lineRefusal top n (fieldsAt (drop i s)) ≡ some number → badLine top n 2 (textLines (drop from s)) ≡ some (record { number = number; line = k })
+      pub refused-line : {number place : ℕ} → faultIn top n (fieldsAt (drop i s)) ≡ some (record { number = number; place = place })
+          → badLine top n 2 (textLines (drop from s)) ≡ some (record { number = number; line = k; place = place })
       refused-line f = w .bad ∙ line-bad s i h top n k e ∙ rw f
 
       pub checking-next : {next size : ℕ} → LineGood s i top n next size → Checking s from top n next (k + 1) (u + size)

@@ -7,15 +7,16 @@ use native.Mathlib.Omega.{arith}
 use lib.ListN.{length, getD, drop}
 use lib.Seq.{sets, sets-eq}
 use borrow.Author.Tests.{eqb-true, eqb-false, lt-ltb, le-ltb}
-use Rattle.semantics.specs.Area.{headLength, areaOf}
+use Rattle.semantics.specs.Area.{headLength, lineCodes, areaOf}
 use Rattle.semantics.specs.Text.{textLines, linesIn, pageIn}
-use Rattle.semantics.specs.ReadPage.{textRefusal, pageRead, usedBy, refusalOf, ReadAnswer, refusedPage, readPage, readOf}
+use Rattle.semantics.specs.ReadPage.{badLine, textRefusal, pageRead, usedBy, refusalOf, ReadAnswer, refusedPage, readPage, readOf}
 use Rattle.semantics.proofs.ReadLines.{good-text}
-use Rattle.fields.specs.Cursor.{InText}
+use Rattle.fields.specs.Cursor.{InText, linesAfter}
 use Rattle.fields.proofs.Places.{byte-here}
 use Rattle.reader.specs.declared.check.Checked.{Checked}
 use Rattle.reader.specs.declared.check.Checked.the-variants.{Page, Refused}
-use Rattle.reader.specs.Checks.{entriesOf, Accepted, CheckedAs, LinesFit}
+use Rattle.reader.specs.Checks.{entriesOf, AllGood, Accepted, CheckedAs, LinesFit}
+use Rattle.reader.specs.Shown.{NextLine}
 use Rattle.reader.proofs.Writes.{sets-append}
 
 -- an answer and what the area holds are those of the definition
@@ -28,28 +29,22 @@ length-lines [] = refl
 length-lines (l ∷ ls) = ap suc (length-lines ls)
 
 module _ (s area : List ℕ) {r : Checked} (q : CheckedAs (textRefusal s) s r) where
-  pub refused-text : {number line : ℕ} → r ≡ Refused number line → Result s area (refusedPage number line) area
+  pub refused-text : {number line place : ℕ} → r ≡ Refused number line place → Result s area (refusedPage number line place) area
   unfolding readOf refusalOf
-  refused-text {number} {line} e = let h = subst (CheckedAs (textRefusal s) s) e q in (rw h, rw h)
+  refused-text e = let h = subst (CheckedAs (textRefusal s) s) e q in (rw h, rw h)
 
-  module _ {t n k u from : ℕ} (e : r ≡ Page t n k u from) where
+  module _ {t n k u : ℕ} (e : r ≡ Page t n k u) where
     none-bad : textRefusal s ≡ none
     none-bad = subst (CheckedAs (textRefusal s) s) e q .0
 
-    pub accepted : Accepted s t n k u from
+    pub accepted : Accepted s t n k u
     accepted = subst (CheckedAs (textRefusal s) s) e q .1
-
-    page-area : t ∷ n ∷ k ∷ u ∷ entriesOf s from ≡ areaOf (pageRead s)
-    unfolding areaOf pageIn
-    page-area =
-        let a = accepted in
-        rw (a .top, a .conditions, a .all .used, a .all .count, ← (length-lines (textLines (drop from s))), ← a .lines)
 
     used-is : usedBy s ≡ u
     unfolding areaOf pageIn
     used-is = let a = accepted in sym (a .all .used ∙ rw (← a .lines))
 
-    pub too-short : length area < u → Result s area (refusedPage 6 0) area
+    pub too-short : length area < u → Result s area (refusedPage 6 0 0) area
     unfolding readOf refusalOf
     too-short h = (rw (none-bad, used-is, lt-ltb (length area) u h), rw (none-bad, used-is, lt-ltb (length area) u h))
 
@@ -64,29 +59,53 @@ module _ (s area : List ℕ) {r : Checked} (q : CheckedAs (textRefusal s) s r) w
           ended = sym (byte-here s (length s - 1) l) ∙ eqb-true (getD s (length s - 1) 0) 10 (g .ended);
         }
 
-    module _ (h : u ≤ length area) where
-      pub lines-fit : {area₁ : List ℕ} → length area₁ ≡ length area → LinesFit s from area₁ (headLength n)
-      lines-fit l =
+    -- the place behind the first line
+    module _ {from : ℕ} (next : NextLine s 0 from) where
+      lines-here : drop 1 (textLines s) ≡ textLines (drop from s)
+      unfolding linesAfter
+      lines-here = next .lines
+
+      all-here : AllGood s from t n k u
+      all-here =
+          let a = accepted in
+          let same : textLines (drop (a .from) s) ≡ textLines (drop from s) = sym (a .lines) ∙ lines-here in
           record {
-            top = t;
-            n = n;
-            k = 2;
-            good = accepted .all .good;
-            text = text-place;
-            room = omega (arith, accepted .all .used);
+            good = ap (badLine t n 2) (sym same) ∙ a .all .good;
+            count = a .all .count ∙ ap length same;
+            used = a .all .used ∙ ap (λ (ls : List (List ℕ)). headLength n + length (lineCodes (linesIn ls))) same;
+            few = a .all .few;
+            short = a .all .short;
           }
 
-      whole-area : sets (sets area 0 (t ∷ n ∷ k ∷ u ∷ [])) (headLength n) (entriesOf s from) ≡ areaOf (pageRead s) ++ drop u area
-      whole-area =
-          let zero-add : 0 + length (t ∷ n ∷ k ∷ u ∷ entriesOf s from) ≡ u = omega (arith, accepted .all .used) in
-          sets-append area 0 (t ∷ n ∷ k ∷ u ∷ []) (entriesOf s from)
-          ∙ sets-eq (t ∷ n ∷ k ∷ u ∷ entriesOf s from) area 0 (omega arith)
-          ∙ ap (λ (j : ℕ). (t ∷ n ∷ k ∷ u ∷ entriesOf s from) ++ drop j area) zero-add
-          ∙ ap (λ (l : List ℕ). l ++ drop u area) page-area
+      page-area : t ∷ n ∷ k ∷ u ∷ entriesOf s from ≡ areaOf (pageRead s)
+      unfolding areaOf pageIn
+      page-area =
+          let a = all-here in
+          rw (accepted .top, accepted .conditions, a .used, a .count, ← (length-lines (textLines (drop from s))), ← lines-here)
 
-      pub read-whole : {area₁ area₂ : List ℕ} → area₁ ≡ sets area 0 (t ∷ n ∷ k ∷ u ∷ []) → area₂ ≡ sets area₁ (headLength n) (entriesOf s from) → Result s area (readPage u) area₂
-      unfolding readOf refusalOf
-      read-whole {area₁} {area₂} a b = (
-        rw (none-bad, used-is, le-ltb (length area) u h) (ap readPage (sym used-is)),
-        b ∙ ap (λ (l : List ℕ). sets l (headLength n) (entriesOf s from)) a ∙ whole-area ∙ rw (none-bad, used-is, le-ltb (length area) u h) (rw used-is),
-      )
+      module _ (h : u ≤ length area) where
+        pub lines-fit : {area₁ : List ℕ} → length area₁ ≡ length area → LinesFit s from area₁ (headLength n)
+        lines-fit l =
+            record {
+              top = t;
+              n = n;
+              k = 2;
+              good = all-here .good;
+              text = text-place;
+              room = omega (arith, all-here .used);
+            }
+
+        whole-area : sets (sets area 0 (t ∷ n ∷ k ∷ u ∷ [])) (headLength n) (entriesOf s from) ≡ areaOf (pageRead s) ++ drop u area
+        whole-area =
+            let zero-add : 0 + length (t ∷ n ∷ k ∷ u ∷ entriesOf s from) ≡ u = omega (arith, all-here .used) in
+            sets-append area 0 (t ∷ n ∷ k ∷ u ∷ []) (entriesOf s from)
+            ∙ sets-eq (t ∷ n ∷ k ∷ u ∷ entriesOf s from) area 0 (omega arith)
+            ∙ ap (λ (j : ℕ). (t ∷ n ∷ k ∷ u ∷ entriesOf s from) ++ drop j area) zero-add
+            ∙ ap (λ (l : List ℕ). l ++ drop u area) page-area
+
+        pub read-whole : {area₁ area₂ : List ℕ} → area₁ ≡ sets area 0 (t ∷ n ∷ k ∷ u ∷ []) → area₂ ≡ sets area₁ (headLength n) (entriesOf s from) → Result s area (readPage u) area₂
+        unfolding readOf refusalOf
+        read-whole {area₁} {area₂} a b = (
+          rw (none-bad, used-is, le-ltb (length area) u h) (ap readPage (sym used-is)),
+          b ∙ ap (λ (l : List ℕ). sets l (headLength n) (entriesOf s from)) a ∙ whole-area ∙ rw (none-bad, used-is, le-ltb (length area) u h) (rw used-is),
+        )

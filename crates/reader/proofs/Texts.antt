@@ -1,16 +1,13 @@
 -- A text as a whole: the refusals of the text, of its first line and of the others. Assumes nothing.
 use mathlib.Core.Path.{_≡_, refl, sym, _∙_, subst}
-use mathlib.Core.Bool.{Bool, true, false, not}
 use mathlib.Core.List.{List, [], _∷_}
-use mathlib.Core.Option.{some}
+use mathlib.Core.Option.{Option, none, some}
 use Prim.Native.Nat.{ℕ, _-_, _≤_, _<_}
 use native.Mathlib.Omega.{arith}
 use lib.ListN.{length, getD, drop}
 use borrow.Author.Tests.{eq-eqb, ne-eqb, lt-ltb, le-ltb}
-use Rattle.semantics.specs.Area.{every}
-use Rattle.semantics.specs.Text.{textLines, headRanges, topIn, conditionsIn}
-use Rattle.semantics.specs.Call.{cause, firstOf}
-use Rattle.semantics.specs.ReadPage.{toldAt, orElse, badLine, badLineOf, textRefusal}
+use Rattle.semantics.specs.Text.{textLines, topIn, conditionsIn}
+use Rattle.semantics.specs.ReadPage.{Fault, toldAt, orElse, headRanges, leftmost, headFault, badLine, badLineOf, textRefusal}
 use Rattle.reader.specs.declared.check.Head.{Head}
 use Rattle.reader.specs.declared.check.Head.the-variants as head-as
 use Rattle.reader.specs.declared.check.Tally.{Tally}
@@ -19,19 +16,19 @@ use Rattle.reader.specs.declared.check.Checked.{Checked}
 use Rattle.reader.specs.declared.check.Checked.the-variants.{Page, Refused}
 use Rattle.fields.specs.Cursor.{InText, fieldsAt, linesAfter}
 use Rattle.fields.proofs.Places.{byte-here}
-use Rattle.reader.specs.Checks.{faultOf, HeadSays, HeadAt, Tallied, CheckedAs}
+use Rattle.reader.specs.Checks.{HeadSays, HeadAt, Tallied, CheckedAs}
 
 -- what is read of the first line, by the cases of the answer
 module _ (s : List ℕ) {r : Head} (w : HeadAt s r) where
   pub head-told : {t n next : ℕ} → r ≡ head-as.Good t n next → HeadSays s t n next
   head-told e = subst (HeadAt s) e w
 
-  pub no-head : r ≡ head-as.Form → badLineOf (textLines s) ≡ some (record { number = 3; line = 1 })
-  unfolding badLineOf fieldsAt
+  pub no-head : r ≡ head-as.Form → badLineOf (textLines s) ≡ some (record { number = 3; line = 1; place = 0 })
+  unfolding badLineOf headFault fieldsAt
   no-head e = rw (subst (HeadAt s) e w)
 
--- The lines of a text, by its first line, and the refusal f of its fields.
-module _ (s : List ℕ) {t n next : ℕ} (w : HeadSays s t n next) {f : ℕ} (r : f ≡ faultOf (every (headRanges t n))) where
+-- The lines of a text, by its first line, and what its fields come to.
+module _ (s : List ℕ) {t n next : ℕ} (w : HeadSays s t n next) {f : Option Fault} (r : f ≡ leftmost 1 (headRanges t n)) where
   tops : t ≡ topIn (textLines s)
   unfolding fieldsAt
   tops = w .top
@@ -44,49 +41,40 @@ module _ (s : List ℕ) {t n next : ℕ} (w : HeadSays s t n next) {f : ℕ} (r 
   unfolding linesAfter
   rest = w .lines
 
-  pub far-head : (f ≡ 0 → ⊥) → badLineOf (textLines s) ≡ some (record { number = f; line = 1 })
-  unfolding badLineOf fieldsAt
-  far-head m = rw (w .form, ← tops, ← counts) (go (every (headRanges t n)) r)
-    where
-      go : (b : Bool) → f ≡ faultOf b
-          → orElse (toldAt 1 (firstOf (cause (not b) 4 ∷ []))) (badLine t n 2 (drop 1 (textLines s))) ≡ some (record { number = f; line = 1 })
-      go true e = absurd (m e)
-      go false e = rw e
+  by-head : badLineOf (textLines s) ≡ orElse (toldAt 1 f) (badLine t n 2 (textLines (drop next s)))
+  unfolding badLineOf headFault fieldsAt
+  by-head = rw (w .form, ← tops, ← counts) (rw (← r, rest))
 
-  module _ (m : f ≡ 0) where
-    in-range : every (headRanges t n) ≡ true
-    in-range = go (every (headRanges t n)) r
-      where
-        go : (b : Bool) → f ≡ faultOf b → b ≡ true
-        go true e = refl
-        go false e = absurd (omega arith)
+  pub far-head : {number place : ℕ} → f ≡ some (record { number = number; place = place })
+      → badLineOf (textLines s) ≡ some (record { number = number; line = 1; place = place })
+  far-head e = by-head ∙ rw e
 
+  module _ (m : f ≡ none) where
     good-head : badLineOf (textLines s) ≡ badLine t n 2 (textLines (drop next s))
-    unfolding badLineOf fieldsAt
-    good-head = rw (w .form, ← tops, ← counts, in-range) (rw rest)
+    good-head = by-head ∙ rw m
 
     module _ {y : Tally} (q : Tallied s next t n y) where
-      pub accepted : {k u : ℕ} → y ≡ Good k u → CheckedAs (badLineOf (textLines s)) s (Page t n k u next)
+      pub accepted : {k u : ℕ} → y ≡ Good k u → CheckedAs (badLineOf (textLines s)) s (Page t n k u)
       accepted d =
           let a = subst (Tallied s next t n) d q in
-          (good-head ∙ a .good, record { top = tops; conditions = counts; lines = rest; all = a })
+          (good-head ∙ a .good, record { top = tops; conditions = counts; from = next; lines = rest; all = a })
 
-      pub refused : {number line : ℕ} → y ≡ Bad number line → CheckedAs (badLineOf (textLines s)) s (Refused number line)
+      pub refused : {number line place : ℕ} → y ≡ Bad number line place → CheckedAs (badLineOf (textLines s)) s (Refused number line place)
       refused d = good-head ∙ subst (Tallied s next t n) d q
 
 -- The text before its lines.
 module _ (s : List ℕ) where
-  pub too-long : 65535 < length s → textRefusal s ≡ some (record { number = 1; line = 0 })
+  pub too-long : 65535 < length s → textRefusal s ≡ some (record { number = 1; line = 0; place = 0 })
   unfolding textRefusal
   too-long h = rw (lt-ltb 65535 (length s) h)
 
   module _ (h : length s ≤ 65535) where
-    pub empty : length s ≡ 0 → textRefusal s ≡ some (record { number = 2; line = 0 })
+    pub empty : length s ≡ 0 → textRefusal s ≡ some (record { number = 2; line = 0; place = 0 })
     unfolding textRefusal
     empty e = rw (le-ltb 65535 (length s) h, eq-eqb (length s) 0 e)
 
     module _ (n : length s ≡ 0 → ⊥) {x : ℕ} (b : x ≡ getD s (length s - 1) 0) where
-      pub unended : (x ≡ 10 → ⊥) → textRefusal s ≡ some (record { number = 2; line = 0 })
+      pub unended : (x ≡ 10 → ⊥) → textRefusal s ≡ some (record { number = 2; line = 0; place = 0 })
       unfolding textRefusal
       unended m = rw (le-ltb 65535 (length s) h, ne-eqb (length s) 0 n, ← b, ne-eqb x 10 m)
 

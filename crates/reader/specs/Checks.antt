@@ -1,16 +1,18 @@
 -- What the two passes over a text hand back and write. Assumes nothing.
 use mathlib.Core.Path.{_≡_}
-use mathlib.Core.Bool.{Bool, true, false}
+use mathlib.Core.Bool.{true, false, not}
 use mathlib.Core.List.{List, [], _∷_}
 use mathlib.Core.Option.{Option, none, some}
 use Prim.Native.Nat.{ℕ, _+_, _≤_}
-use lib.Dec.{eqb, ltb, leb}
+use lib.Dec.{eqb}
 use lib.ListN.{length, drop}
 use Rattle.semantics.specs.Area.{headLength, lineCode, lineCodes}
-use Rattle.semantics.specs.Call.{firstOf}
+use Rattle.semantics.specs.Call.{cause, firstOf}
 use Rattle.semantics.specs.Text.{textLines, field, numberIn, isHead, lineIn, topIn, conditionsIn, linesIn}
-use Rattle.semantics.specs.ReadPage.{Refusal, lineCauses, badLine}
+use Rattle.semantics.specs.ReadPage.{Refusal, Fault as LineFault, placed, orElse, outside, conditionRange, leftmost, lineFault, badLine}
 use Rattle.fields.specs.Cursor.{InText, fieldsAt, linesAfter}
+use Rattle.reader.specs.declared.check.Fault.{Fault}
+use Rattle.reader.specs.declared.check.Fault.the-variants as fault-as
 use Rattle.reader.specs.declared.check.Line.{Line}
 use Rattle.reader.specs.declared.check.Line.the-variants as line-as
 use Rattle.reader.specs.declared.check.Head.{Head}
@@ -21,37 +23,39 @@ use Rattle.reader.specs.declared.check.Checked.{Checked}
 use Rattle.reader.specs.declared.check.Checked.the-variants.{Page as aPage, Refused}
 use Rattle.lines.specs.Lines.{Ends}
 
--- the ranges of a rule in the order of its fields, where `far` is its first literal out of range, or 0
-abbrev pub ruleRanges : ℕ → ℕ → ℕ → ℕ → ℕ → List Bool
-ruleRanges top n c w far = ltb c n ∷ leb 1 w ∷ leb w top ∷ eqb far 0 ∷ []
+-- what the fields of a line come to, in document 01: the number of a refusal and a place, or none
+abbrev pub faultOf : Fault → Option LineFault
+faultOf fault-as.None = none
+faultOf (fault-as.At number place) = some (record { number = number; place = place })
 
--- the number of the refusal where a test fails, or 0
-abbrev pub faultOf : Bool → ℕ
-faultOf true = 0
-faultOf false = 4
+-- the same for a rule, where `far` is its first literal out of range, or 0, and for a query
+abbrev pub ruleFault : ℕ → ℕ → ℕ → ℕ → ℕ → Option LineFault
+ruleFault top n c w far =
+    orElse (leftmost 1 ([] ∷ conditionRange n c ∷ (cause (outside 1 top w) 21 ∷ []) ∷ []))
+    (placed (4 + far) (firstOf (cause (not (eqb far 0)) 4 ∷ [])))
 
--- a line that has a form, by the refusal for its fields
-abbrev pub lineIf : Bool → Line → Line → Line
-lineIf true x y = x
-lineIf false x y = y
+abbrev pub queryFault : ℕ → ℕ → Option LineFault
+queryFault n c = leftmost 1 ([] ∷ [] ∷ conditionRange n c ∷ [])
 
-abbrev pub lineBy : ℕ → ℕ → ℕ → Line
-lineBy fault next size = lineIf (eqb fault 0) (line-as.Good next size) (line-as.Bad fault)
+-- a line that has a form, by what its fields come to
+abbrev pub lineBy : Option LineFault → ℕ → ℕ → Line
+lineBy none next size = line-as.Good next size
+lineBy (some f) next size = line-as.Bad (f .number) (f .place)
 
--- the refusal of a line that is not line 1,026
-abbrev pub lineRefusal : ℕ → ℕ → List (List ℕ) → Option ℕ
-lineRefusal top n fs = firstOf (drop 1 (lineCauses top n 0 fs))
+-- what is wrong with a line that is not line 1,026
+abbrev pub faultIn : ℕ → ℕ → List (List ℕ) → Option LineFault
+faultIn top n fs = lineFault top n 0 fs
 
 -- a good line: its entry has so many numbers, and the next line begins at the place `next`
 pub record LineGood (s : List ℕ) (at top n next size : ℕ) : Type 0 where
-  pub good : lineRefusal top n (fieldsAt (drop at s)) ≡ none
+  pub good : faultIn top n (fieldsAt (drop at s)) ≡ none
   pub entry : size ≡ length (lineCode (lineIn (fieldsAt (drop at s))))
   pub few : size ≤ 12
   pub ends : Ends s at next
 
 abbrev pub LineAs : List ℕ → ℕ → ℕ → ℕ → Line → Type 0
 LineAs s at top n (line-as.Good next size) = LineGood s at top n next size
-LineAs s at top n (line-as.Bad number) = lineRefusal top n (fieldsAt (drop at s)) ≡ some number
+LineAs s at top n (line-as.Bad number place) = faultIn top n (fieldsAt (drop at s)) ≡ some (record { number = number; place = place })
 
 -- the first line has its form, says top and C, and the next line begins at the place `next`
 pub record HeadSays (s : List ℕ) (t n next : ℕ) : Type 0 where
@@ -78,19 +82,20 @@ pub record AllGood (s : List ℕ) (from top n k u : ℕ) : Type 0 where
 
 abbrev pub Tallied : List ℕ → ℕ → ℕ → ℕ → Tally → Type 0
 Tallied s from top n (Good k u) = AllGood s from top n k u
-Tallied s from top n (Bad number line) = badLine top n 2 (textLines (drop from s)) ≡ some (record { number = number; line = line })
+Tallied s from top n (Bad number line place) = badLine top n 2 (textLines (drop from s)) ≡ some (record { number = number; line = line; place = place })
 
--- an accepted text: its top and C, k lines after the first, the used length u, and the place where line 2 begins
-pub record Accepted (s : List ℕ) (t n k u from : ℕ) : Type 0 where
+-- an accepted text: its top and C, k lines after the first, the used length u; line 2 begins at the place `from`
+pub record Accepted (s : List ℕ) (t n k u : ℕ) : Type 0 where
   pub top : t ≡ topIn (textLines s)
   pub conditions : n ≡ conditionsIn (textLines s)
+  pub from : ℕ
   pub lines : drop 1 (textLines s) ≡ textLines (drop from s)
   pub all : AllGood s from t n k u
 
 -- the answer for a text whose refusal is o
 abbrev pub CheckedAs : Option Refusal → List ℕ → Checked → Type 0
-CheckedAs o s (aPage t n k u from) = (o ≡ none) × Accepted s t n k u from
-CheckedAs o s (Refused number line) = o ≡ some (record { number = number; line = line })
+CheckedAs o s (aPage t n k u) = (o ≡ none) × Accepted s t n k u
+CheckedAs o s (Refused number line place) = o ≡ some (record { number = number; line = line; place = place })
 
 -- none of the lines from a place on is bad, where the first of them has the number k, and the area has room for their entries
 pub record LinesFit (s : List ℕ) (from : ℕ) (area : List ℕ) (end : ℕ) : Type 0 where

@@ -1,82 +1,92 @@
 // The first pass over a text: each line is parsed and its fields are checked, and the used length is summed.
 ghost use mathlib.Core.Path.{_≡_};
-ghost use lib.Dec.{ltb};
+ghost use Prim.Native.Nat.{_≤_};
 ghost use Rattle.semantics.specs.Page.{fact};
-ghost use Rattle.semantics.specs.Area.{every, headLength};
-ghost use Rattle.semantics.specs.Text.{textLines, headRanges, rangeTests};
-ghost use Rattle.semantics.specs.ReadPage.{badLineOf, textRefusal};
+ghost use Rattle.semantics.specs.Area.{headLength};
+ghost use Rattle.semantics.specs.Text.{textLines};
+ghost use Rattle.semantics.specs.ReadPage.{headRanges, lineRanges, leftmost, badLineOf, textRefusal};
 ghost use Rattle.fields.specs.Cursor.{InText};
-ghost use Rattle.reader.specs.Checks.{faultOf, ruleRanges, lineBy, LineAs, HeadAt, Tallied, CheckedAs};
+ghost use Rattle.reader.specs.Checks.{faultOf, ruleFault, queryFault, lineBy, LineAs, HeadAt, Tallied, CheckedAs};
 use fields::Field;
 use fields::number_before;
 use lines::Parsed;
 use lines::parse_line;
 
-// The refusal for the first field of a fact that is out of range; 0 where there is none.
-fn fact_fault(condition: u16, low: u16, high: u16, top: u16, conditions: u16) -> u16
-    ensures { λ r. ⌜ r ≡ faultOf (every (rangeTests top conditions (fact condition low high))) ⌝ }
+// What the fields of a line come to: all are in range, or the number of the refusal for the leftmost that is not, and its place in the
+// line, from 1.
+pub enum Fault {
+    None,
+    At(u16, usize),
+}
+
+// The fields of a fact.
+fn fact_fault(condition: u16, low: u16, high: u16, top: u16, conditions: u16) -> Fault
+    ensures { λ r. ⌜ faultOf r ≡ leftmost 1 (lineRanges top conditions (fact condition low high)) ⌝ }
 {
     if conditions <= condition {
-        return 4;
+        return Fault::At(4, 2);
     }
     if top < low {
-        return 4;
+        return Fault::At(22, 3);
     }
     if top < high {
-        return 4;
+        return Fault::At(22, 4);
     }
     if high < low {
-        return 4;
+        return Fault::At(23, 4);
     }
-    0
+    Fault::None
 }
 
-// The refusal for the first field of a rule that is out of range, where `far` is the first such literal; 0 where there is none.
-fn rule_fault(condition: u16, weight: u16, far: usize, top: u16, conditions: u16) -> u16
-    ensures { λ r. ⌜ r ≡ faultOf (every (ruleRanges top conditions condition weight far)) ⌝ }
+// The fields of a rule, where `far` is the first literal that is out of range, from 1, or 0 for none.
+fn rule_fault(condition: u16, weight: u16, far: usize, top: u16, conditions: u16) -> Fault
+    requires { ⌜ far ≤ 8 ⌝ }
+    ensures { λ r. ⌜ faultOf r ≡ ruleFault top conditions condition weight far ⌝ }
 {
     if conditions <= condition {
-        return 4;
+        return Fault::At(4, 2);
     }
     if weight < 1 {
-        return 4;
+        return Fault::At(21, 3);
     }
     if top < weight {
-        return 4;
+        return Fault::At(21, 3);
     }
     if far != 0 {
-        return 4;
+        let place = 4 + far;
+        return Fault::At(4, place);
     }
-    0
+    Fault::None
 }
 
-// The refusal for the condition of a query; 0 where there is none.
-fn query_fault(condition: u16, conditions: u16) -> u16
-    ensures { λ r. ⌜ r ≡ faultOf (ltb condition conditions) ⌝ }
+// The fields of a query.
+fn query_fault(condition: u16, conditions: u16) -> Fault
+    ensures { λ r. ⌜ faultOf r ≡ queryFault conditions condition ⌝ }
 {
     if conditions <= condition {
-        return 4;
+        return Fault::At(4, 3);
     }
-    0
+    Fault::None
 }
 
-// What a line comes to: the place of the next line and the numbers of its entry, or the number of its refusal.
+// What a line comes to: the place of the next line and the numbers of its entry, or the number of its refusal and the field's place.
 pub enum Line {
     Good { next: usize, size: usize },
-    Bad(u16),
+    Bad(u16, usize),
 }
 
-// A line that has a form, by the refusal for its fields.
-fn by_fault(fault: u16, next: usize, size: usize) -> Line
-    ensures { λ r. ⌜ r ≡ lineBy fault next size ⌝ }
+// A line that has a form, by what its fields come to.
+fn by_fault(fault: Fault, next: usize, size: usize) -> Line
+    ensures { λ r. ⌜ r ≡ lineBy (faultOf fault) next size ⌝ }
 {
-    if fault == 0 {
-        return Line::Good { next, size };
+    match fault {
+        Fault::None => Line::Good { next, size },
+        Fault::At(number, place) => Line::Bad(number, place),
     }
-    Line::Bad(fault)
 }
 
 // The line at a place, and its refusal: its form first, then its fields in their order. No other function refuses a line by what it says.
+// A refusal for the form has no place.
 fn check_line(bytes: &[u8], at: usize, top: u16, conditions: u16) -> Line
     requires { ⌜ InText (now bytes) at ⌝ }
     ensures { λ r. ⌜ LineAs (now (bytes .entry)) at top conditions r ⌝ }
@@ -101,7 +111,7 @@ fn check_line(bytes: &[u8], at: usize, top: u16, conditions: u16) -> Line
             4 + count,
         ),
         Parsed::Query { condition, next } => by_fault(query_fault(condition, conditions), next, 4),
-        Parsed::Form => Line::Bad(3),
+        Parsed::Form => Line::Bad(3, 0),
     }
 }
 
@@ -140,8 +150,15 @@ fn parse_head(bytes: &[u8]) -> Head
 
 // What the lines after the first come to.
 pub enum Tally {
-    Good { count: usize, used: usize },
-    Bad { number: u16, line: usize },
+    Good {
+        count: usize,
+        used: usize,
+    },
+    Bad {
+        number: u16,
+        line: usize,
+        place: usize,
+    },
 }
 
 // How many numbers stand before the lines of a page area, with so many conditions.
@@ -161,7 +178,11 @@ fn check_lines(bytes: &[u8], from: usize, top: u16, conditions: u16) -> Tally
     let mut used = head_length(conditions);
     while at < bytes.len() {
         if line == 1026 {
-            return Tally::Bad { number: 5, line };
+            return Tally::Bad {
+                number: 5,
+                line,
+                place: 0,
+            };
         }
         let checked = check_line(bytes, at, top, conditions);
         match checked {
@@ -169,49 +190,51 @@ fn check_lines(bytes: &[u8], from: usize, top: u16, conditions: u16) -> Tally
                 at = next;
                 used += size;
             }
-            Line::Bad(number) => {
-                return Tally::Bad { number, line };
+            Line::Bad(number, place) => {
+                return Tally::Bad {
+                    number,
+                    line,
+                    place,
+                };
             }
         }
         line += 1;
     }
-    Tally::Good {
-        count: line - 2,
-        used,
-    }
+    let count = line - 2;
+    Tally::Good { count, used }
 }
 
-// The refusal for the first field of the first line that is out of range; 0 where there is none.
-fn head_fault(top: u16, conditions: u16) -> u16
-    ensures { λ r. ⌜ r ≡ faultOf (every (headRanges top conditions)) ⌝ }
+// The fields of the first line.
+fn head_fault(top: u16, conditions: u16) -> Fault
+    ensures { λ r. ⌜ faultOf r ≡ leftmost 1 (headRanges top conditions) ⌝ }
 {
     if top < 1 {
-        return 4;
+        return Fault::At(4, 2);
     }
     if 200 < top {
-        return 4;
+        return Fault::At(4, 2);
     }
     if conditions < 1 {
-        return 4;
+        return Fault::At(4, 3);
     }
     if 512 < conditions {
-        return 4;
+        return Fault::At(4, 3);
     }
-    0
+    Fault::None
 }
 
-// What a text comes to: the numbers of its page and the place of its second line, or a refusal.
+// What a text comes to: the numbers of its page, or a refusal.
 pub enum Checked {
     Page {
         top: u16,
         conditions: u16,
         count: usize,
         used: usize,
-        from: usize,
     },
     Refused {
         number: u16,
         line: usize,
+        place: usize,
     },
 }
 
@@ -226,14 +249,22 @@ fn check_all(bytes: &[u8]) -> Checked
         next,
     } = parse_head(bytes)
     else {
-        return Checked::Refused { number: 3, line: 1 };
+        return Checked::Refused {
+            number: 3,
+            line: 1,
+            place: 0,
+        };
     };
     let fault = head_fault(top, conditions);
-    if fault != 0 {
-        return Checked::Refused {
-            number: fault,
-            line: 1,
-        };
+    match fault {
+        Fault::None => {}
+        Fault::At(number, place) => {
+            return Checked::Refused {
+                number,
+                line: 1,
+                place,
+            };
+        }
     }
     let tally = check_lines(bytes, next, top, conditions);
     match tally {
@@ -242,9 +273,16 @@ fn check_all(bytes: &[u8]) -> Checked
             conditions,
             count,
             used,
-            from: next,
         },
-        Tally::Bad { number, line } => Checked::Refused { number, line },
+        Tally::Bad {
+            number,
+            line,
+            place,
+        } => Checked::Refused {
+            number,
+            line,
+            place,
+        },
     }
 }
 
@@ -254,13 +292,25 @@ pub fn check_page(bytes: &[u8]) -> Checked
 {
     let n = bytes.len();
     if 65535 < n {
-        return Checked::Refused { number: 1, line: 0 };
+        return Checked::Refused {
+            number: 1,
+            line: 0,
+            place: 0,
+        };
     }
     if n == 0 {
-        return Checked::Refused { number: 2, line: 0 };
+        return Checked::Refused {
+            number: 2,
+            line: 0,
+            place: 0,
+        };
     }
     if bytes[n - 1] != b'\n' {
-        return Checked::Refused { number: 2, line: 0 };
+        return Checked::Refused {
+            number: 2,
+            line: 0,
+            place: 0,
+        };
     }
     check_all(bytes)
 }

@@ -17,10 +17,14 @@ use crate::show::next_line;
 use crate::write::put_head;
 use crate::write::write_lines;
 
-// The used length of a page that is read, or the number and the line of a refusal.
+// The used length of a page that is read, or the number of a refusal, its line and the place of its field.
 pub enum ReadAnswer {
     Read(usize),
-    Refused { number: u16, line: usize },
+    Refused {
+        number: u16,
+        line: usize,
+        place: usize,
+    },
 }
 
 // Read a page, in two passes: the area is written when no refusal can follow.
@@ -30,17 +34,29 @@ pub fn read_page(bytes: &[u8], area: &mut [u16]) -> ReadAnswer
 {
     let checked = check_page(bytes);
     match checked {
-        Checked::Refused { number, line } => ReadAnswer::Refused { number, line },
+        Checked::Refused {
+            number,
+            line,
+            place,
+        } => ReadAnswer::Refused {
+            number,
+            line,
+            place,
+        },
         Checked::Page {
             top,
             conditions,
             count,
             used,
-            from,
         } => {
             if area.len() < used {
-                return ReadAnswer::Refused { number: 6, line: 0 };
+                return ReadAnswer::Refused {
+                    number: 6,
+                    line: 0,
+                    place: 0,
+                };
             }
+            let from = next_line(bytes, 0);
             let start = put_head(area, top, conditions, count as u16, used as u16);
             write_lines(bytes, from, area, start);
             ReadAnswer::Read(used)

@@ -11,6 +11,7 @@ pub mod ExactAreas
 pub mod UsedLength
 -- the text of a page
 pub mod TestLists
+pub mod FieldRanges
 pub mod ReadLines
 pub mod ReadProper
 -- what is read is what was written

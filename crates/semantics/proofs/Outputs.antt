@@ -17,7 +17,7 @@ use Rattle.semantics.specs.Area.{sound, pageOf, areaOf}
 use Rattle.semantics.specs.ReadPage.{Refusal, textRefusal, pageRead, usedBy, refusalOf, refusedPage, readPage, readAs, readOf}
 use Rattle.semantics.specs.Fields.{numberText, joined}
 use Rattle.semantics.proofs.Readings.{plain-is, closed-is, plain-one, closed-one}
-use Rattle.semantics.proofs.ReadProper.{accepted-proper, read-small}
+use Rattle.semantics.proofs.ReadProper.{accepted-proper, SmallRefusal, read-small}
 use Rattle.semantics.proofs.ExactAreas.{proper-sound}
 use Rattle.semantics.proofs.RoundTrip.{page-area}
 use Rattle.semantics.proofs.UsedLength.{used-most}
@@ -86,7 +86,7 @@ unfolding IsOutput
 output-exists text = go (textRefusal text) refl
   where
     go : (o : Option Refusal) → textRefusal text ≡ o → (output : List ℕ) × PrintedAs o (pageRead text) output
-    go (some r) e = (printed (refusalFields r ∷ []), refl)
+    go (some r) e = (printed (refusalFields (r .number) (r .line) ∷ []), refl)
     go none e =
         let x = answers-exist (pageRead text) (accepted-proper text e) in
         (pageOutput (pageRead text) (x .0), record { answers = x .0; are = x .1; is = refl })
@@ -109,15 +109,15 @@ pub end-short : (count : ℕ) → count < 10000 → length (printed (endFields c
 end-short count h =
     omega (arith, length-append (numberText count) [], number-four count h, length-append (joined (endFields count)) (10 ∷ []))
 
-pub refusal-short : (r : Refusal) → r .number < 1000 → r .line < 10000 → length (printed (refusalFields r ∷ [])) ≤ 17
-refusal-short r h k =
+pub refusal-short : (number line : ℕ) → number < 1000 → line < 10000 → length (printed (refusalFields number line ∷ [])) ≤ 17
+refusal-short number line h k =
     omega (
       arith,
-      length-append (numberText (r .line)) [],
-      length-append (numberText (r .number)) (44 ∷ numberText (r .line) ++ []),
-      number-short (r .number) h,
-      number-four (r .line) k,
-      length-append (joined (refusalFields r)) (10 ∷ []),
+      length-append (numberText line) [],
+      length-append (numberText number) (44 ∷ numberText line ++ []),
+      number-short number h,
+      number-four line k,
+      length-append (joined (refusalFields number line)) (10 ∷ []),
     )
 
 pub answer-short : (q : Query) (p : Interval) → q .condition < 1000 → p .low < 1000 → p .high < 1000 → length (printed (answerFields q p ∷ [])) ≤ 14
@@ -182,8 +182,8 @@ module _ (page : Page) (w : Proper page) {A : Answers} (a : AreAnswers page A) w
         end-short n (omega (arith, m)),
       )
 
--- a refusal of a text has a number of at most 6 and a line of at most 1,026
-text-small : (text : List ℕ) (r : Refusal) → textRefusal text ≡ some r → (r .number ≤ 6) × (r .line ≤ 1026)
+-- a refusal of a text has a small number and a small line
+text-small : (text : List ℕ) (r : Refusal) → textRefusal text ≡ some r → SmallRefusal (r .number) (r .line) (r .place)
 unfolding readOf refusalOf
 text-small text r e = read-small text [] (rw e)
 
@@ -195,7 +195,7 @@ output-short text output p = go (textRefusal text) refl p
     go : (o : Option Refusal) → textRefusal text ≡ o → PrintedAs o (pageRead text) output → length output ≤ 14353
     go (some r) e p =
         let s = text-small text r e in
-        omega (arith, ap length p, refusal-short r (omega (arith, s .0)) (omega (arith, s .1)))
+        omega (arith, ap length p, refusal-short (r .number) (r .line) (omega (arith, s .number-most)) (omega (arith, s .line-most)))
     go none e p = omega (arith, ap length (p .is), page-short (pageRead text) (accepted-proper text e) (p .are))
 
 -- Reading into an area that is long enough for every page: it is refused exactly if the text is.
@@ -208,20 +208,22 @@ module _ (text area : List ℕ) (long : 12292 ≤ length area) where
       let m : usedBy text ≤ length area = omega (arith, used-most (a ++ []) s) in
       rw (e, le-ltb (length area) (usedBy text) m)
 
-  pub read-refused : {number line : ℕ} → refusedPage number line ≡ readOf text area .answer → textRefusal text ≡ some (record { number = number; line = line })
+  pub read-refused : {number line place : ℕ} → refusedPage number line place ≡ readOf text area .answer
+      → textRefusal text ≡ some (record { number = number; line = line; place = place })
   unfolding readOf refusalOf
-  read-refused {number} {line} e = go (textRefusal text) refl
+  read-refused {number} {line} {place} e = go (textRefusal text) refl
     where
-      go : (o : Option Refusal) → textRefusal text ≡ o → o ≡ some (record { number = number; line = line })
+      go : (o : Option Refusal) → textRefusal text ≡ o → o ≡ some (record { number = number; line = line; place = place })
       go none f =
-          let h : refusedPage number line ≡ readPage (usedBy text) = e ∙ ap (λ (o : Option Refusal). readAs o text area .answer) (no-cause f) in
+          let h : refusedPage number line place ≡ readPage (usedBy text) = e ∙ ap (λ (o : Option Refusal). readAs o text area .answer) (no-cause f) in
           let z : _≡_ {A = ℕ} 0 1 = cc in
           absurd (omega arith)
       go (some r) f =
-          let h : refusedPage number line ≡ refusedPage (r .number) (r .line) = e ∙ rw f in
+          let h : refusedPage number line place ≡ refusedPage (r .number) (r .line) (r .place) = e ∙ rw f in
           let p : r .number ≡ number = cc in
           let q : r .line ≡ line = cc in
-          ap₂ {C = Option Refusal} (λ (n l : ℕ). some (record { number = n; line = l })) p q
+          let s : r .place ≡ place = cc in
+          λ i. some (record { number = p i; line = q i; place = s i })
 
   pub read-accepted : {used : ℕ} → readPage used ≡ readOf text area .answer → textRefusal text ≡ none
   unfolding readOf refusalOf
@@ -230,7 +232,7 @@ module _ (text area : List ℕ) (long : 12292 ≤ length area) where
       go : (o : Option Refusal) → textRefusal text ≡ o → o ≡ none
       go none f = refl
       go (some r) f =
-          let h : readPage used ≡ refusedPage (r .number) (r .line) = e ∙ rw f in
+          let h : readPage used ≡ refusedPage (r .number) (r .line) (r .place) = e ∙ rw f in
           let z : _≡_ {A = ℕ} 0 1 = cc in
           absurd (omega arith)
 

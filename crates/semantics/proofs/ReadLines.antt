@@ -1,56 +1,56 @@
 -- What it says of a text that none of its lines is bad. Assumes nothing.
-use mathlib.Core.Path.{_≡_, refl}
-use mathlib.Core.Bool.{Bool, true, false, not, _||_}
+use mathlib.Core.Path.{_≡_, refl, sym}
+use mathlib.Core.Bool.{Bool, true, false, not, _||_, false≢true}
 use mathlib.Core.List.{List, [], _∷_}
 use mathlib.Core.Option.{Option, none, some}
 use Prim.Native.Nat.{ℕ, suc, _-_}
-use native.Mathlib.Omega.{arith}
 use lib.Dec.{eqb, ltb}
 use lib.ListN.{length, getD, drop}
-use Rattle.semantics.specs.Area.{every}
-use Rattle.semantics.specs.Call.{cause, firstOf}
-use Rattle.semantics.specs.Text.{textLines, fieldsOf, isHead, hasForm, lineIn, headRanges, rangeTests, topIn, conditionsIn}
-use Rattle.semantics.specs.ReadPage.{Refusal, toldAt, orElse, badLine, badLineOf, textRefusal, usedBy, refusalOf}
+use Rattle.semantics.specs.Call.{firstOf}
+use Rattle.semantics.specs.Text.{textLines, fieldsOf, isHead, hasForm, lineIn, topIn, conditionsIn}
+use Rattle.semantics.specs.ReadPage.{Fault, Refusal, placed, toldAt, orElse, textCauses, headRanges, lineRanges, leftmost, headCauses, headFault, lineCauses, lineFault, badLine, badLineOf, textRefusal, usedBy, areaCauses, refusalOf}
+use Rattle.semantics.proofs.FieldRanges.{some-none, else-none, no-cause-placed, NoFault, no-fault}
 
-pub some-none : {A : Type 0} {x : A} {P : Type 0} → some x ≡ none → P
-some-none e = let z : _≡_ {A = ℕ} 0 1 = cc in absurd (omega arith)
+told-none : (k : ℕ) (o : Option Fault) → toldAt k o ≡ none → o ≡ none
+told-none k none e = refl
+told-none k (some f) e = some-none e
+
+not-false : (t : Bool) → not t ≡ false → t ≡ true
+not-false true e = refl
+not-false false e = sym e
 
 -- a line after the first that is not bad, and those behind it
 pub record GoodLine (top n k : ℕ) (l : List ℕ) (ls : List (List ℕ)) : Type 0 where
   pub early : eqb k 1026 ≡ false
   pub form : hasForm (fieldsOf l) ≡ true
-  pub range : every (rangeTests top n (lineIn (fieldsOf l))) ≡ true
+  pub range : NoFault (lineRanges top n (lineIn (fieldsOf l)))
   pub others : badLine top n (suc k) ls ≡ none
 
 pub good-line : (top n k : ℕ) (l : List ℕ) (ls : List (List ℕ)) → badLine top n k (l ∷ ls) ≡ none → GoodLine top n k l ls
-unfolding badLine
+unfolding badLine lineFault
 good-line top n k l ls e =
-    let w = go (eqb k 1026) (hasForm (fieldsOf l)) (every (rangeTests top n (lineIn (fieldsOf l)))) (badLine top n (suc k) ls) e in
-    record { early = w .0; form = w .1; range = w .2; others = w .3 }
-  where
-    go : (t u v : Bool) (o : Option Refusal) → orElse (toldAt k (firstOf (cause t 5 ∷ cause (not u) 3 ∷ cause (not v) 4 ∷ []))) o ≡ none
-        → (t ≡ false) × (u ≡ true) × (v ≡ true) × (o ≡ none)
-    go true u v o e = some-none e
-    go false true true o e = (refl, refl, refl, e)
-    go false true false o e = some-none e
-    go false false v o e = some-none e
+    let fs = fieldsOf l in
+    let w = else-none (toldAt k (lineFault top n k fs)) (badLine top n (suc k) ls) e in
+    let f = else-none (placed 0 (firstOf (lineCauses k fs))) (leftmost 1 (lineRanges top n (lineIn fs))) (told-none k (lineFault top n k fs) (w .0)) in
+    let c = no-cause-placed 0 (lineCauses k fs) (f .0) in
+    record { early = c .0; form = not-false (hasForm fs) (c .1 .0); range = no-fault 1 (lineRanges top n (lineIn fs)) (f .1); others = w .1 }
 
 -- the first line, and those behind it
 pub record GoodHead (ls : List (List ℕ)) : Type 0 where
   pub form : isHead (fieldsOf (getD ls 0 [])) ≡ true
-  pub range : every (headRanges (topIn ls) (conditionsIn ls)) ≡ true
+  pub range : NoFault (headRanges (topIn ls) (conditionsIn ls))
   pub others : badLine (topIn ls) (conditionsIn ls) 2 (drop 1 ls) ≡ none
 
 pub good-head : (ls : List (List ℕ)) → badLineOf ls ≡ none → GoodHead ls
-unfolding badLineOf
+unfolding badLineOf headFault
 good-head ls e =
-    let w = go (isHead (fieldsOf (getD ls 0 []))) (every (headRanges (topIn ls) (conditionsIn ls))) (badLine (topIn ls) (conditionsIn ls) 2 (drop 1 ls)) e in
-    record { form = w .0; range = w .1; others = w .2 }
-  where
-    go : (t u : Bool) (o : Option Refusal) → orElse (toldAt 1 (firstOf (cause (not t) 3 ∷ cause (not u) 4 ∷ []))) o ≡ none → (t ≡ true) × (u ≡ true) × (o ≡ none)
-    go true true o e = (refl, refl, e)
-    go true false o e = some-none e
-    go false u o e = some-none e
+    let fs = fieldsOf (getD ls 0 []) in
+    let r = headRanges (topIn ls) (conditionsIn ls) in
+    let o = headFault (topIn ls) (conditionsIn ls) fs in
+    let w = else-none (toldAt 1 o) (badLine (topIn ls) (conditionsIn ls) 2 (drop 1 ls)) e in
+    let f = else-none (placed 0 (firstOf (headCauses fs))) (leftmost 1 r) (told-none 1 o (w .0)) in
+    let c = no-cause-placed 0 (headCauses fs) (f .0) in
+    record { form = not-false (isHead fs) (c .0); range = no-fault 1 r (f .1); others = w .1 }
 
 -- the text before its lines
 pub record GoodText (bytes : List ℕ) : Type 0 where
@@ -62,15 +62,15 @@ pub record GoodText (bytes : List ℕ) : Type 0 where
 pub good-text : (bytes : List ℕ) → textRefusal bytes ≡ none → GoodText bytes
 unfolding textRefusal
 good-text bytes e =
-    let w = go (ltb 65535 (length bytes)) (eqb (length bytes) 0) (eqb (getD bytes (length bytes - 1) 0) 10) (badLineOf (textLines bytes)) e in
-    record { short = w .0; filled = w .1; ended = w .2; lines = w .3 }
+    let f = placed 0 (firstOf (textCauses bytes)) in
+    let w = else-none (toldAt 0 f) (badLineOf (textLines bytes)) e in
+    let c = no-cause-placed 0 (textCauses bytes) (told-none 0 f (w .0)) in
+    let d = neither (eqb (length bytes) 0) (eqb (getD bytes (length bytes - 1) 0) 10) (c .1 .0) in
+    record { short = c .0; filled = d .0; ended = d .1; lines = w .1 }
   where
-    go : (t u v : Bool) (o : Option Refusal) → orElse (toldAt 0 (firstOf (cause t 1 ∷ cause (u || not v) 2 ∷ []))) o ≡ none
-        → (t ≡ false) × (u ≡ false) × (v ≡ true) × (o ≡ none)
-    go true u v o e = some-none e
-    go false true v o e = some-none e
-    go false false true o e = (refl, refl, refl, e)
-    go false false false o e = some-none e
+    neither : (t u : Bool) → (t || not u) ≡ false → (t ≡ false) × (u ≡ true)
+    neither true u e = absurd (false≢true (sym e))
+    neither false u e = (refl, not-false u e)
 
 -- the text and the area
 pub record GoodRead (bytes area : List ℕ) : Type 0 where
@@ -79,9 +79,7 @@ pub record GoodRead (bytes area : List ℕ) : Type 0 where
 
 pub good-read : (bytes area : List ℕ) → refusalOf bytes area ≡ none → GoodRead bytes area
 unfolding refusalOf
-good-read bytes area e = let w = go (textRefusal bytes) (ltb (length area) (usedBy bytes)) e in record { text = w .0; room = w .1 }
-  where
-    go : (o : Option Refusal) (t : Bool) → orElse o (toldAt 0 (firstOf (cause t 6 ∷ []))) ≡ none → (o ≡ none) × (t ≡ false)
-    go none true e = some-none e
-    go none false e = (refl, refl)
-    go (some r) t e = some-none e
+good-read bytes area e =
+    let f = placed 0 (firstOf (areaCauses bytes area)) in
+    let w = else-none (textRefusal bytes) (toldAt 0 f) e in
+    record { text = w .0; room = no-cause-placed 0 (areaCauses bytes area) (told-none 0 f (w .1)) .0 }

@@ -1,21 +1,23 @@
 -- The forms of the lines: a line that is written has its form and says what was written, and a line of a form is the text of what it says.
 -- Assumes nothing.
-use mathlib.Core.Path.{_≡_, refl, sym, ap₂}
+use mathlib.Core.Path.{_≡_, refl, sym, _∙_, ap, ap₂}
 use mathlib.Core.Bool.{Bool, true, false, cond, _&&_, _||_, false≢true}
 use mathlib.Core.List.{List, [], _∷_, map}
-use Prim.Native.Nat.{ℕ, _≤_, _<_}
+use Prim.Native.Nat.{ℕ, suc, _≤_, _<_}
 use native.Mathlib.Omega.{arith}
-use lib.Dec.{eqb, leb, ltb}
+use lib.Dec.{eqb, leb}
 use lib.ListN.{length, getD, drop, length-map}
-use borrow.Author.Tests.{eqb-true, leb-true, ltb-true, le-leb, lt-ltb}
+use borrow.Author.Tests.{eqb-true, leb-true, le-leb}
 use Rattle.semantics.specs.Grade.{Op, M, X, L, B, P}
 use Rattle.semantics.specs.Page.{Literal, positive, negative, conditionOf, Reading, K, W, Line, fact, rule, query}
 use Rattle.semantics.proofs.Proper.{LiteralsBelow, InRange}
 use Rattle.semantics.specs.Area.{every}
-use Rattle.semantics.specs.Text.{field, isNumber, numberIn, isNegated, isLiteral, literalIn, allLiterals, isLetter, isOp, opIn, isReading, readingIn, headForm, isHead, factForm, isFact, ruleForm, isRule, queryForm, isQuery, hasForm, lineIn, literalRanges, rangeTests}
+use Rattle.semantics.specs.Text.{field, isNumber, numberIn, isNegated, isLiteral, literalIn, allLiterals, isLetter, isOp, opIn, isReading, readingIn, headForm, isHead, factForm, isFact, ruleForm, isRule, queryForm, isQuery, hasForm, lineIn}
+use Rattle.semantics.specs.ReadPage.{literalRanges, lineRanges}
 use Rattle.semantics.specs.Fields.{numberText, readingLetter}
 use Rattle.semantics.proofs.Written.{literalText, opLetter, lineFields, headFields}
 use Rattle.semantics.proofs.Soundness.{both-true, every-true}
+use Rattle.semantics.proofs.FieldRanges.{NoFault, Sized, fields-in}
 use Rattle.semantics.proofs.TextNumbers.{written-number, written-value, first-not, number-back}
 
 -- Letters.
@@ -211,46 +213,33 @@ line-written top n t m (query r c) w =
       line = rw (reading-written r .1, written-value c c′);
     }
 
--- Ranges: the tests hold exactly of the lines that are in range.
-literals-pass : (n : ℕ) (ls : List Literal) → LiteralsBelow n ls → every (literalRanges n ls) ≡ true
-literals-pass n [] w = refl
-literals-pass n (l ∷ ls) w = rw (lt-ltb (conditionOf l) n (w .0), literals-pass n ls (w .1))
-
-pub range-passes : (top n : ℕ) (l : Line) → InRange top n l → every (rangeTests top n l) ≡ true
-range-passes top n (fact c l h) w = rw (lt-ltb c n (w .0), le-leb l top (omega (arith, w .1, w .2)), le-leb h top (w .2), le-leb l h (w .1))
-range-passes top n (rule c v op lits) w = rw (lt-ltb c n (w .0), le-leb 1 v (w .1), le-leb v top (w .2), literals-pass n lits (w .5))
-range-passes top n (query r c) w = rw (lt-ltb c n w)
-
-literals-below : (n : ℕ) (ls : List Literal) → every (literalRanges n ls) ≡ true → LiteralsBelow n ls
-literals-below n [] e = tt
-literals-below n (l ∷ ls) e =
-    let h = both-true (ltb (conditionOf l) n) (every (literalRanges n ls)) e in
-    (ltb-true (conditionOf l) n (h .0), literals-below n ls (h .1))
-
-fact-in : (top n c l h : ℕ) → every (rangeTests top n (fact c l h)) ≡ true → InRange top n (fact c l h)
-fact-in top n c l h e =
-    let w = every-true (rangeTests top n (fact c l h)) e in
-    (ltb-true c n (w .0), leb-true l h (w .1 .1 .1 .0), leb-true h top (w .1 .1 .0))
-
-rule-in : (top n c v : ℕ) (op : Op) (ls : List Literal) → 1 ≤ length ls → length ls ≤ 8 → every (rangeTests top n (rule c v op ls)) ≡ true → InRange top n (rule c v op ls)
-rule-in top n c v op ls a b e =
-    let p = both-true (ltb c n) (leb 1 v && (leb v top && every (literalRanges n ls))) e in
-    let q = both-true (leb 1 v) (leb v top && every (literalRanges n ls)) (p .1) in
-    let r = both-true (leb v top) (every (literalRanges n ls)) (q .1) in
-    (ltb-true c n (p .0), leb-true 1 v (q .0), leb-true v top (r .0), a, b, literals-below n ls (r .1))
-
+-- A line of a form whose fields are in range.
 rule-size : (fs : List (List ℕ)) → isRule fs ≡ true → (1 ≤ length (map literalIn (drop 4 fs))) × (length (map literalIn (drop 4 fs)) ≤ 8)
 unfolding isRule
 rule-size fs h =
     let w = every-true (ruleForm fs) h in
     rw (length-map (drop 4 fs) literalIn) (leb-true 1 (length (drop 4 fs)) (w .1 .0), leb-true (length (drop 4 fs)) 8 (w .1 .1 .0))
 
-pub in-range : (top n : ℕ) (fs : List (List ℕ)) → hasForm fs ≡ true → every (rangeTests top n (lineIn fs)) ≡ true → InRange top n (lineIn fs)
-in-range top n fs e = go (form-of fs e)
+pub sized : (fs : List (List ℕ)) → hasForm fs ≡ true → Sized (lineIn fs)
+sized fs e = go (form-of fs e)
   where
-    go : Form fs → every (rangeTests top n (lineIn fs)) ≡ true → InRange top n (lineIn fs)
-    go (a-fact h l) r = rw l (fact-in top n (numberIn (field fs 1)) (numberIn (field fs 2)) (numberIn (field fs 3)) (rw l at r))
-    go (a-rule h l) r =
-        let s = rule-size fs h in
-        rw l (rule-in top n (numberIn (field fs 1)) (numberIn (field fs 2)) (opIn (field fs 3)) (map literalIn (drop 4 fs)) (s .0) (s .1) (rw l at r))
-    go (a-query h l) r = let c = numberIn (field fs 2) in rw l (ltb-true c n (both-true (ltb c n) true (rw l at r) .0))
+    go : Form fs → Sized (lineIn fs)
+    go (a-fact h l) = rw l tt
+    go (a-rule h l) = rw l (rule-size fs h)
+    go (a-query h l) = rw l tt
+
+pub in-range : (top n : ℕ) (fs : List (List ℕ)) → hasForm fs ≡ true → NoFault (lineRanges top n (lineIn fs)) → InRange top n (lineIn fs)
+in-range top n fs e r = fields-in top n (lineIn fs) (sized fs e) r
+
+-- The ranges speak of every field of the line, so a place in them is a place in the line.
+literals-covered : (n : ℕ) (ls : List Literal) → length (literalRanges n ls) ≡ length (map literalText ls)
+literals-covered n [] = refl
+literals-covered n (l ∷ ls) = ap suc (literals-covered n ls)
+
+ranges-covered : (top n : ℕ) (line : Line) → length (lineRanges top n line) ≡ length (lineFields line)
+ranges-covered top n (fact c l h) = refl
+ranges-covered top n (rule c w op lits) = ap (λ (k : ℕ). suc (suc (suc (suc k)))) (literals-covered n lits)
+ranges-covered top n (query r c) = refl
+
+pub fields-covered : (top n : ℕ) (fs : List (List ℕ)) → hasForm fs ≡ true → length (lineRanges top n (lineIn fs)) ≡ length fs
+fields-covered top n fs e = ranges-covered top n (lineIn fs) ∙ ap length (line-back fs e)

@@ -1,6 +1,6 @@
 -- Worked rows of our own on texts, in literal bytes: what reading answers and leaves in the area, and what showing a line hands back. One
 -- list, one claim (`text-bench`). For each refusal its nearest neighbour that is accepted, and the order
--- of the causes; rows 9 to 12 of the bench figures.
+-- of the causes; each range fault at each field that it can stand at, with its place; rows 9 to 12 of the bench figures.
 -- Assumes nothing.
 use mathlib.Core.Path.{_≡_}
 use mathlib.Core.List.{List, [], _∷_, _++_}
@@ -113,6 +113,86 @@ letters = 71 ∷ 44 ∷ 49 ∷ 44 ∷ 50 ∷ 10 ∷ 82 ∷ 44 ∷ 48 ∷ 44 ∷ 
 unfoldable pub formAndRange : List ℕ
 formAndRange = 71 ∷ 44 ∷ 49 ∷ 48 ∷ 44 ∷ 49 ∷ 10 ∷ 70 ∷ 44 ∷ 57 ∷ 44 ∷ 48 ∷ 51 ∷ 44 ∷ 52 ∷ 10 ∷ []
 
+-- `G,10,1\n`, and lines behind it
+unfoldable pub ten : List ℕ
+ten = 71 ∷ 44 ∷ 49 ∷ 48 ∷ 44 ∷ 49 ∷ 10 ∷ []
+
+-- `F,1,3,4\n`
+unfoldable pub farFact : List ℕ
+farFact = 70 ∷ 44 ∷ 49 ∷ 44 ∷ 51 ∷ 44 ∷ 52 ∷ 10 ∷ []
+
+-- `F,0,11,11\n`
+unfoldable pub lowOver : List ℕ
+lowOver = 70 ∷ 44 ∷ 48 ∷ 44 ∷ 49 ∷ 49 ∷ 44 ∷ 49 ∷ 49 ∷ 10 ∷ []
+
+-- `F,0,3,11\n`
+unfoldable pub highOver : List ℕ
+highOver = 70 ∷ 44 ∷ 48 ∷ 44 ∷ 51 ∷ 44 ∷ 49 ∷ 49 ∷ 10 ∷ []
+
+-- `F,0,10,10\n`
+unfoldable pub full : List ℕ
+full = 70 ∷ 44 ∷ 48 ∷ 44 ∷ 49 ∷ 48 ∷ 44 ∷ 49 ∷ 48 ∷ 10 ∷ []
+
+-- `F,1,4,3\n`
+unfoldable pub farCrossed : List ℕ
+farCrossed = 70 ∷ 44 ∷ 49 ∷ 44 ∷ 52 ∷ 44 ∷ 51 ∷ 10 ∷ []
+
+-- `F,1,11,11\n`
+unfoldable pub farLowOver : List ℕ
+farLowOver = 70 ∷ 44 ∷ 49 ∷ 44 ∷ 49 ∷ 49 ∷ 44 ∷ 49 ∷ 49 ∷ 10 ∷ []
+
+-- `F,0,11,3\n`
+unfoldable pub overCrossed : List ℕ
+overCrossed = 70 ∷ 44 ∷ 48 ∷ 44 ∷ 49 ∷ 49 ∷ 44 ∷ 51 ∷ 10 ∷ []
+
+-- `R,1,10,M,0\n`
+unfoldable pub farRule : List ℕ
+farRule = 82 ∷ 44 ∷ 49 ∷ 44 ∷ 49 ∷ 48 ∷ 44 ∷ 77 ∷ 44 ∷ 48 ∷ 10 ∷ []
+
+-- `R,1,0,M,0\n`
+unfoldable pub farWeight0 : List ℕ
+farWeight0 = 82 ∷ 44 ∷ 49 ∷ 44 ∷ 48 ∷ 44 ∷ 77 ∷ 44 ∷ 48 ∷ 10 ∷ []
+
+-- `R,0,0,M,1\n`
+unfoldable pub weight0Literal : List ℕ
+weight0Literal = 82 ∷ 44 ∷ 48 ∷ 44 ∷ 48 ∷ 44 ∷ 77 ∷ 44 ∷ 49 ∷ 10 ∷ []
+
+-- `R,0,11,M,!1\n`
+unfoldable pub weight11Literal : List ℕ
+weight11Literal = 82 ∷ 44 ∷ 48 ∷ 44 ∷ 49 ∷ 49 ∷ 44 ∷ 77 ∷ 44 ∷ 33 ∷ 49 ∷ 10 ∷ []
+
+-- `R,0,10,M,0,!1\n`
+unfoldable pub negationFar : List ℕ
+negationFar = 82 ∷ 44 ∷ 48 ∷ 44 ∷ 49 ∷ 48 ∷ 44 ∷ 77 ∷ 44 ∷ 48 ∷ 44 ∷ 33 ∷ 49 ∷ 10 ∷ []
+
+-- `R,0,10,M,0,1,1\n`
+unfoldable pub literalsFar : List ℕ
+literalsFar = 82 ∷ 44 ∷ 48 ∷ 44 ∷ 49 ∷ 48 ∷ 44 ∷ 77 ∷ 44 ∷ 48 ∷ 44 ∷ 49 ∷ 44 ∷ 49 ∷ 10 ∷ []
+
+-- `Q,K,1\n`
+unfoldable pub farQuery : List ℕ
+farQuery = 81 ∷ 44 ∷ 75 ∷ 44 ∷ 49 ∷ 10 ∷ []
+
+-- `R,0,10,M`, k literals `0` and the literal `1`
+unfoldable pub zeros : ℕ → List ℕ
+zeros zero = 44 ∷ 49 ∷ 10 ∷ []
+zeros (suc k) = 44 ∷ 48 ∷ zeros k
+
+unfoldable pub farAfter : ℕ → List ℕ
+farAfter k = ten ++ (82 ∷ 44 ∷ 48 ∷ 44 ∷ 49 ∷ 48 ∷ 44 ∷ 77 ∷ [] ++ zeros k)
+
+-- `G,0,1\n`
+unfoldable pub top0 : List ℕ
+top0 = 71 ∷ 44 ∷ 48 ∷ 44 ∷ 49 ∷ 10 ∷ []
+
+-- `G,1,0\n`
+unfoldable pub conditions0 : List ℕ
+conditions0 = 71 ∷ 44 ∷ 49 ∷ 44 ∷ 48 ∷ 10 ∷ []
+
+-- `G,201,513\n`
+unfoldable pub bothOver : List ℕ
+bothOver = 71 ∷ 44 ∷ 50 ∷ 48 ∷ 49 ∷ 44 ∷ 53 ∷ 49 ∷ 51 ∷ 10 ∷ []
+
 -- `x`
 unfoldable pub noLine : List ℕ
 noLine = 120 ∷ []
@@ -136,48 +216,79 @@ nines k = replicate k 9
 unfoldable pub textRows : List TextRow
 textRows =
     -- 1: longer than 65,535 bytes. No page is that long; a text of 65,535 bytes is refused for another cause.
-    answers (replicate 65536 10) [] (refusedPage 1 0)
-    ∷ answers (replicate 65535 10) [] (refusedPage 3 1)
+    answers (replicate 65536 10) [] (refusedPage 1 0 0)
+    ∷ answers (replicate 65535 10) [] (refusedPage 3 1 0)
     -- .. before 2
-    ∷ answers (replicate 65536 120) [] (refusedPage 1 0)
+    ∷ answers (replicate 65536 120) [] (refusedPage 1 0 0)
     -- 2: empty, or the last byte is not 10
-    ∷ reads [] (nines 5) (refusedPage 2 0) (nines 5)
-    ∷ reads noEnd (nines 5) (refusedPage 2 0) (nines 5)
+    ∷ reads [] (nines 5) (refusedPage 2 0 0) (nines 5)
+    ∷ reads noEnd (nines 5) (refusedPage 2 0 0) (nines 5)
     ∷ reads head (nines 5) (readPage 4) (1 ∷ 1 ∷ 0 ∷ 4 ∷ 9 ∷ [])
     -- .. before 3
-    ∷ reads noLine [] (refusedPage 2 0) []
+    ∷ reads noLine [] (refusedPage 2 0 0) []
     -- 3, and row 12: a leading zero
-    ∷ reads zeroFirst (nines 9) (refusedPage 3 2) (nines 9)
+    ∷ reads zeroFirst (nines 9) (refusedPage 3 2 0) (nines 9)
     ∷ reads fact34 (nines 9) (readPage 8) (10 ∷ 1 ∷ 1 ∷ 8 ∷ 0 ∷ 0 ∷ 3 ∷ 4 ∷ 9 ∷ [])
     -- .. before 4
-    ∷ reads formAndRange (nines 9) (refusedPage 3 2) (nines 9)
-    -- 4, and row 12: low above high
-    ∷ reads fact43 (nines 9) (refusedPage 4 2) (nines 9)
+    ∷ reads formAndRange (nines 9) (refusedPage 3 2 0) (nines 9)
+    -- 23, and row 12: low above high
+    ∷ reads fact43 (nines 9) (refusedPage 23 2 4) (nines 9)
     ∷ reads fact44 (nines 9) (readPage 8) (10 ∷ 1 ∷ 1 ∷ 8 ∷ 0 ∷ 0 ∷ 4 ∷ 4 ∷ 9 ∷ [])
     -- .. before 6
-    ∷ reads fact43 (nines 3) (refusedPage 4 2) (nines 3)
+    ∷ reads fact43 (nines 3) (refusedPage 23 2 4) (nines 3)
     -- 6: the area is shorter than the used length
-    ∷ reads fact44 (nines 7) (refusedPage 6 0) (nines 7)
+    ∷ reads fact44 (nines 7) (refusedPage 6 0 0) (nines 7)
     ∷ reads fact44 (nines 8) (readPage 8) (10 ∷ 1 ∷ 1 ∷ 8 ∷ 0 ∷ 0 ∷ 4 ∷ 4 ∷ [])
     -- row 9
     ∷ reads last (nines 8) (readPage 8) (1 ∷ 512 ∷ 1 ∷ 8 ∷ 511 ∷ 0 ∷ 0 ∷ 1 ∷ [])
-    ∷ reads past (nines 8) (refusedPage 4 2) (nines 8)
+    ∷ reads past (nines 8) (refusedPage 4 2 2) (nines 8)
     -- row 10
     ∷ reads top200 (nines 4) (readPage 4) (200 ∷ 1 ∷ 0 ∷ 4 ∷ [])
-    ∷ reads top201 (nines 4) (refusedPage 4 1) (nines 4)
-    ∷ reads top1000 (nines 4) (refusedPage 3 1) (nines 4)
+    ∷ reads top201 (nines 4) (refusedPage 4 1 2) (nines 4)
+    ∷ reads top1000 (nines 4) (refusedPage 3 1 0) (nines 4)
     ∷ reads conditions512 (nines 4) (readPage 4) (1 ∷ 512 ∷ 0 ∷ 4 ∷ [])
-    ∷ reads conditions513 (nines 4) (refusedPage 4 1) (nines 4)
+    ∷ reads conditions513 (nines 4) (refusedPage 4 1 3) (nines 4)
     ∷ reads weight3 (nines 9) (readPage 9) (3 ∷ 1 ∷ 1 ∷ 9 ∷ 0 ∷ 1 ∷ 3 ∷ 1 ∷ 0 ∷ [])
-    ∷ reads weight4 (nines 9) (refusedPage 4 2) (nines 9)
-    ∷ reads weight0 (nines 9) (refusedPage 4 2) (nines 9)
+    ∷ reads weight4 (nines 9) (refusedPage 21 2 3) (nines 9)
+    ∷ reads weight0 (nines 9) (refusedPage 21 2 3) (nines 9)
     ∷ reads eight (nines 16) (readPage 16) (1 ∷ 1 ∷ 1 ∷ 16 ∷ 0 ∷ 1 ∷ 1 ∷ 8 ∷ 0 ∷ 0 ∷ 0 ∷ 0 ∷ 0 ∷ 0 ∷ 0 ∷ 1 ∷ [])
-    ∷ reads nine (nines 17) (refusedPage 3 2) (nines 17)
+    ∷ reads nine (nines 17) (refusedPage 3 2 0) (nines 17)
+    -- 4 at each field that it can stand at: the first line,
+    ∷ answers top0 [] (refusedPage 4 1 2)
+    ∷ answers conditions0 [] (refusedPage 4 1 3)
+    -- a condition,
+    ∷ answers (ten ++ farFact) [] (refusedPage 4 2 2)
+    ∷ answers (ten ++ farRule) [] (refusedPage 4 2 2)
+    ∷ answers (ten ++ farQuery) [] (refusedPage 4 2 3)
+    -- a literal, the first to the eighth, and a negation
+    ∷ answers (farAfter 0) [] (refusedPage 4 2 5)
+    ∷ answers (farAfter 1) [] (refusedPage 4 2 6)
+    ∷ answers (farAfter 2) [] (refusedPage 4 2 7)
+    ∷ answers (farAfter 3) [] (refusedPage 4 2 8)
+    ∷ answers (farAfter 4) [] (refusedPage 4 2 9)
+    ∷ answers (farAfter 5) [] (refusedPage 4 2 10)
+    ∷ answers (farAfter 6) [] (refusedPage 4 2 11)
+    ∷ answers (farAfter 7) [] (refusedPage 4 2 12)
+    ∷ answers (ten ++ negationFar) [] (refusedPage 4 2 6)
+    -- 22: low, high
+    ∷ answers (ten ++ lowOver) [] (refusedPage 22 2 3)
+    ∷ answers (ten ++ highOver) [] (refusedPage 22 2 4)
+    ∷ answers (ten ++ full) (nines 8) (readPage 8)
+    -- two bad fields in one line: the left one
+    ∷ answers bothOver [] (refusedPage 4 1 2)
+    ∷ answers (ten ++ farLowOver) [] (refusedPage 4 2 2)
+    ∷ answers (ten ++ farCrossed) [] (refusedPage 4 2 2)
+    ∷ answers (ten ++ overCrossed) [] (refusedPage 22 2 3)
+    ∷ answers (ten ++ farWeight0) [] (refusedPage 4 2 2)
+    ∷ answers (ten ++ weight0Literal) [] (refusedPage 21 2 3)
+    ∷ answers (ten ++ weight11Literal) [] (refusedPage 21 2 3)
+    ∷ answers (ten ++ literalsFar) [] (refusedPage 4 2 6)
     -- row 11, and 5: 1,025 lines in all are read, a 1,026th is refused, however it looks
     ∷ answers (head ++ queries 1024) (nines 4100) (readPage 4100)
-    ∷ answers (head ++ queries 1025) (nines 4104) (refusedPage 5 1026)
-    ∷ answers (head ++ (queries 1024 ++ noForm)) (nines 4104) (refusedPage 5 1026)
-    ∷ answers (head ++ (queries 1023 ++ noForm)) (nines 4104) (refusedPage 3 1025)
+    ∷ answers (head ++ queries 1025) (nines 4104) (refusedPage 5 1026 0)
+    ∷ answers (head ++ (queries 1024 ++ noForm)) (nines 4104) (refusedPage 5 1026 0)
+    ∷ answers (head ++ (queries 1024 ++ farQuery)) (nines 4104) (refusedPage 5 1026 0)
+    ∷ answers (head ++ (queries 1023 ++ noForm)) (nines 4104) (refusedPage 3 1025 0)
     -- the page of row 1
     ∷ reads example (nines 31) (readPage 30)
     (10 ∷ 2 ∷ 6 ∷ 30 ∷ 0 ∷ 0 ∷ 2 ∷ 2 ∷ 1 ∷ 0 ∷ 3 ∷ 3 ∷ 0 ∷ 1 ∷ 10 ∷ 1 ∷ 3 ∷ 1 ∷ 1 ∷ 10 ∷ 1 ∷ 1 ∷ 0 ∷ 6 ∷ 0 ∷ 0 ∷ 1 ∷ 6 ∷ 1 ∷ 0 ∷ 9 ∷ [])

@@ -10,15 +10,16 @@ use borrow.Author.Tests.{eq-eqb, ne-eqb, le-leb, le-ltb}
 use Rattle.semantics.specs.Grade.{Op, M, X, L, B, P}
 use Rattle.semantics.specs.Page.{Literal, positive, negative, Reading, K, W, Line, fact, rule, query, Page}
 use Rattle.semantics.proofs.Proper.{LiteralsBelow, InRange, AllInRange, Proper}
-use Rattle.semantics.specs.Area.{every, usedOf, areaOf}
-use Rattle.semantics.specs.Text.{textLines, fieldsOf, isHead, lineIn, headRanges, topIn, conditionsIn, linesIn, pageIn}
-use Rattle.semantics.specs.ReadPage.{badLine, badLineOf, textRefusal, pageRead, refusalOf, readPage, readOf}
+use Rattle.semantics.specs.Area.{usedOf, areaOf}
+use Rattle.semantics.specs.Text.{textLines, fieldsOf, isHead, lineIn, topIn, conditionsIn, linesIn, pageIn}
+use Rattle.semantics.specs.ReadPage.{headRanges, lineRanges, leftmost, headFault, lineFault, badLine, badLineOf, textRefusal, pageRead, refusalOf, readPage, readOf}
 use Rattle.semantics.proofs.Rows.{page1}
 use Rattle.semantics.specs.Fields.{numberWithin, numberText, readingLetter, afterCommas, joined, endedLines}
 use Rattle.semantics.proofs.Written.{literalText, opLetter, lineFields, headFields, lineTexts, textOf}
+use Rattle.semantics.proofs.FieldRanges.{not-outside, range-passes}
 use Rattle.semantics.proofs.TextParts.{without, AllWithout, lines-of-ended, fields-of-joined, joined-without, ended-last}
 use Rattle.semantics.proofs.TextNumbers.{written-value, number-without, number-short}
-use Rattle.semantics.proofs.TextForms.{head-written, line-written, range-passes}
+use Rattle.semantics.proofs.TextForms.{head-written, line-written}
 
 -- The fields of a line hold neither a comma nor byte 10: no byte m below `0` other than `!`.
 module _ (m : ℕ) (h : m < 48) (n : 33 ≡ m → ⊥) where
@@ -73,7 +74,7 @@ module _ (top n : ℕ) (t : top < 1000) (l : n ≤ 1000) where
       ap₂ {C = List Line} (λ y ys. y ∷ ys) (ap lineIn (fields-back x (w .0)) ∙ line-written top n t l x (w .0) .line) (lines-back ls (w .1))
 
   none-bad : (k : ℕ) (ls : List Line) → AllInRange top n ls → k + length ls ≤ 1026 → badLine top n k (lineTexts ls) ≡ none
-  unfolding badLine
+  unfolding badLine lineFault
   none-bad k [] w h = refl
   none-bad k (x ∷ ls) w h =
       let s = line-written top n t l x (w .0) in
@@ -171,13 +172,12 @@ module _ (page : Page) (w : Proper page) where
         lines = (ap (λ (ls : List (List ℕ)). linesIn (drop 1 ls)) text-lines ∙ lines-back (page .top) (page .conditions) top′ some′ (page .lines) (w .ranged)) i;
       }
 
-  head-passes : every (headRanges (page .top) (page .conditions)) ≡ true
+  head-passes : leftmost 1 (headRanges (page .top) (page .conditions)) ≡ none
+  unfolding leftmost
   head-passes =
       rw (
-        le-leb 1 (page .top) (w .top-least),
-        le-leb (page .top) 200 (w .top-most),
-        le-leb 1 (page .conditions) (w .conditions-least),
-        le-leb (page .conditions) 512 (w .conditions-most),
+        not-outside 1 200 (page .top) (w .top-least) (w .top-most),
+        not-outside 1 512 (page .conditions) (w .conditions-least) (w .conditions-most),
       )
 
   is-head : isHead head ≡ true
@@ -185,7 +185,7 @@ module _ (page : Page) (w : Proper page) where
   is-head = head-written (page .top) (page .conditions) top′ conditions′
 
   no-bad-line : badLineOf (textLines (textOf page)) ≡ none
-  unfolding badLineOf
+  unfolding badLineOf headFault
   no-bad-line =
       rw (top-read, conditions-read, text-lines, head-fields)
       (rw (is-head, head-passes)

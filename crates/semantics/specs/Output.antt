@@ -47,9 +47,9 @@ answerFields q p = (readingLetter (q .reading) ∷ []) ∷ numberText (q .condit
 abbrev pub endFields : ℕ → List (List ℕ)
 endFields count = (101 ∷ 110 ∷ 100 ∷ []) ∷ numberText count ∷ []
 
--- "`refused,number,line`"
-abbrev pub refusalFields : Refusal → List (List ℕ)
-refusalFields r = (114 ∷ 101 ∷ 102 ∷ 117 ∷ 115 ∷ 101 ∷ 100 ∷ []) ∷ numberText (r .number) ∷ numberText (r .line) ∷ []
+-- "`refused,number,line`": "the program prints its refused line as before", without a place
+abbrev pub refusalFields : ℕ → ℕ → List (List ℕ)
+refusalFields number line = (114 ∷ 101 ∷ 102 ∷ 117 ∷ 115 ∷ 101 ∷ 100 ∷ []) ∷ numberText number ∷ numberText line ∷ []
 
 -- "Every printed line ends with byte 10."
 abbrev pub printed : List (List (List ℕ)) → List ℕ
@@ -73,7 +73,7 @@ pub record AnswersPrinted (page : Page) (output : List ℕ) : Type 0 where
 
 -- "A refused page prints only `refused,number,line`."
 abbrev pub PrintedAs : Option Refusal → Page → List ℕ → Type 0
-PrintedAs (some r) page output = output ≡ printed (refusalFields r ∷ [])
+PrintedAs (some r) page output = output ≡ printed (refusalFields (r .number) (r .line) ∷ [])
 PrintedAs none page output = AnswersPrinted page output
 
 -- The output for a text. Every text has exactly one: `output-exists`, `output-one`.

@@ -5,23 +5,35 @@ use mathlib.Core.Option.{Option, none, some}
 use Prim.Native.Nat.{ℕ, zero, suc, _-_}
 use lib.Dec.{eqb, ltb, leb}
 use lib.ListN.{length, getD, drop}
-use Rattle.semantics.specs.Page.{Line, Page}
-use Rattle.semantics.specs.Area.{every, usedOf, areaOf}
+use Rattle.semantics.specs.Page.{Literal, conditionOf, Line, fact, rule, query, Page}
+use Rattle.semantics.specs.Area.{usedOf, areaOf}
 use Rattle.semantics.specs.Call.{Cause, cause, firstOf}
-use Rattle.semantics.specs.Text.{textLines, fieldsOf, isHead, hasForm, lineIn, headRanges, rangeTests, topIn, conditionsIn, pageIn}
+use Rattle.semantics.specs.Text.{textLines, fieldsOf, isHead, hasForm, lineIn, topIn, conditionsIn, pageIn}
 
--- "A refusal returns its number (and a line where stated)"
+-- "A refusal returns its number (and a line where stated)", and "the field's place in its line, counted from 1": the letter of a line is its
+-- first field. "For every other refusal the place is 0."
 pub record Refusal : Type 0 where
   pub number : ℕ
   pub line : ℕ
+  pub place : ℕ
 
--- the number of the first cause that holds, told with a line
-abbrev pub toldAt : ℕ → Option ℕ → Option Refusal
+-- what is wrong with a line: the number of the refusal, and the place
+pub record Fault : Type 0 where
+  pub number : ℕ
+  pub place : ℕ
+
+-- the number of the first cause that holds, told with a place
+abbrev pub placed : ℕ → Option ℕ → Option Fault
+placed k none = none
+placed k (some n) = some (record { number = n; place = k })
+
+-- what is wrong, told with a line
+abbrev pub toldAt : ℕ → Option Fault → Option Refusal
 toldAt k none = none
-toldAt k (some n) = some (record { number = n; line = k })
+toldAt k (some f) = some (record { number = f .number; line = k; place = f .place })
 
--- the first refusal of two
-abbrev pub orElse : Option Refusal → Option Refusal → Option Refusal
+-- the first of two
+abbrev pub orElse : {A : Type 0} → Option A → Option A → Option A
 orElse (some r) o = some r
 orElse none o = o
 
@@ -32,31 +44,60 @@ textCauses bytes =
     ∷ cause (eqb (length bytes) 0 || not (eqb (getD bytes (length bytes - 1) 0) 10)) 2
     ∷ []
 
--- "3: it has none of the forms above for its place; 4: a number is out of range": the first line
-abbrev pub headCauses : ℕ → ℕ → List (List ℕ) → List Cause
-headCauses top n fs = cause (not (isHead fs)) 3 ∷ cause (not (every (headRanges top n))) 4 ∷ []
+abbrev pub outside : ℕ → ℕ → ℕ → Bool
+outside least most x = ltb x least || ltb most x
 
--- "in a line, 5: it is line 1,026; 3: ..; 4: .. or low > high": line k, after the first
-abbrev pub lineCauses : ℕ → ℕ → ℕ → List (List ℕ) → List Cause
-lineCauses top n k fs =
-    cause (eqb k 1026) 5
-    ∷ cause (not (hasForm fs)) 3
-    ∷ cause (not (every (rangeTests top n (lineIn fs)))) 4
-    ∷ []
+-- The ranges: the fields of a line in their order, each with the causes for which its number is refused. A letter has none.
+-- "4 .. for the G line": top 1 to 200, C 1 to 512
+abbrev pub headRanges : ℕ → ℕ → List (List Cause)
+headRanges top n = [] ∷ (cause (outside 1 200 top) 4 ∷ []) ∷ (cause (outside 1 512 n) 4 ∷ []) ∷ []
+
+-- "4 .. for a condition or literal at or over C"
+abbrev pub conditionRange : ℕ → ℕ → List Cause
+conditionRange n c = cause (leb n c) 4 ∷ []
+
+abbrev pub literalRanges : ℕ → List Literal → List (List Cause)
+literalRanges n [] = []
+literalRanges n (l ∷ ls) = conditionRange n (conditionOf l) ∷ literalRanges n ls
+
+-- "21, a weight outside 1 to top; 22, a low or high over top; 23, low above high", which "is told at the high field"
+abbrev pub lineRanges : ℕ → ℕ → Line → List (List Cause)
+lineRanges top n (fact c l h) = [] ∷ conditionRange n c ∷ (cause (ltb top l) 22 ∷ []) ∷ (cause (ltb top h) 22 ∷ cause (ltb h l) 23 ∷ []) ∷ []
+lineRanges top n (rule c w op lits) = [] ∷ conditionRange n c ∷ (cause (outside 1 top w) 21 ∷ []) ∷ [] ∷ literalRanges n lits
+lineRanges top n (query r c) = [] ∷ [] ∷ conditionRange n c ∷ []
+
+-- "Within a line the leftmost bad field decides": of the fields from place k on
+unfoldable pub leftmost : ℕ → List (List Cause) → Option Fault
+leftmost k [] = none
+leftmost k (causes ∷ fields) = orElse (placed k (firstOf causes)) (leftmost (suc k) fields)
+
+-- "3: it has none of the forms above for its place", then the ranges: the first line
+abbrev pub headCauses : List (List ℕ) → List Cause
+headCauses fs = cause (not (isHead fs)) 3 ∷ []
+
+unfoldable pub headFault : ℕ → ℕ → List (List ℕ) → Option Fault
+headFault top n fs = orElse (placed 0 (firstOf (headCauses fs))) (leftmost 1 (headRanges top n))
+
+-- "in a line, 5: it is line 1,026; 3: ..", then the ranges: line k, after the first
+abbrev pub lineCauses : ℕ → List (List ℕ) → List Cause
+lineCauses k fs = cause (eqb k 1026) 5 ∷ cause (not (hasForm fs)) 3 ∷ []
+
+unfoldable pub lineFault : ℕ → ℕ → ℕ → List (List ℕ) → Option Fault
+lineFault top n k fs = orElse (placed 0 (firstOf (lineCauses k fs))) (leftmost 1 (lineRanges top n (lineIn fs)))
 
 -- "line by line, the first bad line and its number from 1": of the lines from line k on
 unfoldable pub badLine : ℕ → ℕ → ℕ → List (List ℕ) → Option Refusal
 badLine top n k [] = none
-badLine top n k (l ∷ ls) = orElse (toldAt k (firstOf (lineCauses top n k (fieldsOf l)))) (badLine top n (suc k) ls)
+badLine top n k (l ∷ ls) = orElse (toldAt k (lineFault top n k (fieldsOf l))) (badLine top n (suc k) ls)
 
 unfoldable pub badLineOf : List (List ℕ) → Option Refusal
 badLineOf ls =
-    orElse (toldAt 1 (firstOf (headCauses (topIn ls) (conditionsIn ls) (fieldsOf (getD ls 0 [])))))
+    orElse (toldAt 1 (headFault (topIn ls) (conditionsIn ls) (fieldsOf (getD ls 0 []))))
     (badLine (topIn ls) (conditionsIn ls) 2 (drop 1 ls))
 
 -- what is wrong with a text, if anything; "For 1, 2 and 6 the line is 0."
 unfoldable pub textRefusal : List ℕ → Option Refusal
-textRefusal bytes = orElse (toldAt 0 (firstOf (textCauses bytes))) (badLineOf (textLines bytes))
+textRefusal bytes = orElse (toldAt 0 (placed 0 (firstOf (textCauses bytes)))) (badLineOf (textLines bytes))
 
 -- the page that an accepted text holds, and its used length
 abbrev pub pageRead : List ℕ → Page
@@ -70,11 +111,11 @@ abbrev pub areaCauses : List ℕ → List ℕ → List Cause
 areaCauses bytes area = cause (ltb (length area) (usedBy bytes)) 6 ∷ []
 
 unfoldable pub refusalOf : List ℕ → List ℕ → Option Refusal
-refusalOf bytes area = orElse (textRefusal bytes) (toldAt 0 (firstOf (areaCauses bytes area)))
+refusalOf bytes area = orElse (textRefusal bytes) (toldAt 0 (placed 0 (firstOf (areaCauses bytes area))))
 
 -- "A page that is read returns its used length."
 pub data ReadAnswer : Type 0 where
-  refusedPage : (number line : ℕ) → ReadAnswer
+  refusedPage : (number line place : ℕ) → ReadAnswer
   readPage : (used : ℕ) → ReadAnswer
 
 pub record ReadOutcome : Type 0 where
@@ -83,7 +124,7 @@ pub record ReadOutcome : Type 0 where
 
 -- A refusal leaves the area as it is. A page that is read stands at its front, and what lies past the used length stays.
 abbrev pub readAs : Option Refusal → List ℕ → List ℕ → ReadOutcome
-readAs (some r) bytes area = record { answer = refusedPage (r .number) (r .line); area = area }
+readAs (some r) bytes area = record { answer = refusedPage (r .number) (r .line) (r .place); area = area }
 readAs none bytes area = record { answer = readPage (usedBy bytes); area = areaOf (pageRead bytes) ++ drop (usedBy bytes) area }
 
 unfoldable pub readOf : List ℕ → List ℕ → ReadOutcome

@@ -1,12 +1,12 @@
--- Document 01, "The page", its text: lines, fields, numbers, the forms of the lines and the ranges of their numbers. Assumes nothing.
+-- Document 01, "The page", its text: lines, fields, numbers and the forms of the lines. Assumes nothing.
 -- A text is a list of bytes: 10 ends a line, 44 is the comma, 33 is `!`, 48 to 57 are the digits, and a letter is its byte.
 use mathlib.Core.Bool.{Bool, true, false, not, cond, _&&_, _||_}
 use mathlib.Core.List.{List, [], _∷_, map}
 use Prim.Native.Nat.{ℕ, _+_, _*_, _-_}
-use lib.Dec.{eqb, ltb, leb}
+use lib.Dec.{eqb, leb}
 use lib.ListN.{length, getD, drop}
 use Rattle.semantics.specs.Grade.{Op, M, X, L, B, P}
-use Rattle.semantics.specs.Page.{Literal, positive, negative, conditionOf, Reading, K, W, Line, fact, rule, query, Page}
+use Rattle.semantics.specs.Page.{Literal, positive, negative, Reading, K, W, Line, fact, rule, query, Page}
 use Rattle.semantics.specs.Area.{every}
 
 -- a byte and the parts of what follows it: a separator ends an empty part, any other byte stands at the front of the first part
@@ -126,21 +126,6 @@ lineIn fs =
     cond (isFact fs) (fact (numberIn (field fs 1)) (numberIn (field fs 2)) (numberIn (field fs 3)))
     (cond (isRule fs) (rule (numberIn (field fs 1)) (numberIn (field fs 2)) (opIn (field fs 3)) (map literalIn (drop 4 fs)))
     (query (readingIn (field fs 1)) (numberIn (field fs 2))))
-
--- The ranges, in the order of the fields.
--- top 1 to 200, C 1 to 512
-abbrev pub headRanges : ℕ → ℕ → List Bool
-headRanges top n = leb 1 top ∷ leb top 200 ∷ leb 1 n ∷ leb n 512 ∷ []
-
-abbrev pub literalRanges : ℕ → List Literal → List Bool
-literalRanges n [] = []
-literalRanges n (l ∷ ls) = ltb (conditionOf l) n ∷ literalRanges n ls
-
--- conditions 0 to C−1; "low ≤ high ≤ top"; "weight 1 to top"
-abbrev pub rangeTests : ℕ → ℕ → Line → List Bool
-rangeTests top n (fact c l h) = ltb c n ∷ leb l top ∷ leb h top ∷ leb l h ∷ []
-rangeTests top n (rule c w op lits) = ltb c n ∷ leb 1 w ∷ leb w top ∷ literalRanges n lits
-rangeTests top n (query r c) = ltb c n ∷ []
 
 -- The page of a text with these lines: top and C of the first line, and the lines after it.
 abbrev pub topIn : List (List ℕ) → ℕ

@@ -31,7 +31,7 @@ rows!(
     row_09_condition_511_is_read_and_512_refused,
     row_10_top_200_and_eight_literals_are_read_201_and_nine_refused,
     row_11_line_1025_is_read_and_1026_refused_however_it_looks,
-    row_12_leading_zero_is_form_and_low_above_high_is_range,
+    row_12_leading_zero_is_form_and_low_above_high_has_a_number_of_its_own,
     attach_example_figures,
 );
 
@@ -48,12 +48,16 @@ fn load(trial: &mut Trial, text: &str) -> Check<Vec<u16>> {
     }
 }
 
-/// A text must be refused so.
-fn refused(trial: &mut Trial, text: &[u8], number: Refusal, line: u32) -> Check {
+/// A text must be refused so: number, line and place.
+fn refused(trial: &mut Trial, text: &[u8], told: (Refusal, u32, u32)) -> Check {
     trial.pages += 1;
     let mut area = trial.rubbish(PAGE_MAX);
     let got = trial.read(text, &mut area)?;
-    figure("the refusal", got, Err(ReadRefusal { number, line }))
+    figure(
+        "the refusal",
+        got,
+        Err(ReadRefusal::new(told.0, told.1, told.2)),
+    )
 }
 
 /// A text must be read.
@@ -232,17 +236,17 @@ fn row_08_ops_product_lukasiewicz_bounded_and_weight(trial: &mut Trial, _: u64) 
 }
 
 fn row_09_condition_511_is_read_and_512_refused(trial: &mut Trial, _: u64) -> Check {
-    for form in [
-        "F,#,0,0",
-        "R,#,1,M,0",
-        "R,0,1,M,#",
-        "R,0,1,M,!#",
-        "Q,K,#",
-        "Q,W,#",
+    for (form, place) in [
+        ("F,#,0,0", 2),
+        ("R,#,1,M,0", 2),
+        ("R,0,1,M,#", 5),
+        ("R,0,1,M,!#", 5),
+        ("Q,K,#", 3),
+        ("Q,W,#", 3),
     ] {
         let with = |cond: &str| format!("G,200,512\n{}\n", form.replace('#', cond)).into_bytes();
         accepted(trial, &with("511"))?;
-        refused(trial, &with("512"), 4, 2)?;
+        refused(trial, &with("512"), (4, 2, place))?;
     }
     Ok(())
 }
@@ -252,9 +256,9 @@ fn row_10_top_200_and_eight_literals_are_read_201_and_nine_refused(
     _: u64,
 ) -> Check {
     accepted(trial, b"G,200,1\nF,0,200,200\nR,0,200,M,0\n")?;
-    refused(trial, b"G,201,1\n", 4, 1)?;
+    refused(trial, b"G,201,1\n", (4, 1, 2))?;
     accepted(trial, b"G,1,9\nR,0,1,M,1,2,3,4,5,6,7,8\n")?;
-    refused(trial, b"G,1,9\nR,0,1,M,1,2,3,4,5,6,7,8,0\n", 3, 2)
+    refused(trial, b"G,1,9\nR,0,1,M,1,2,3,4,5,6,7,8,0\n", (3, 2, 0))
 }
 
 fn row_11_line_1025_is_read_and_1026_refused_however_it_looks(trial: &mut Trial, _: u64) -> Check {
@@ -275,14 +279,17 @@ fn row_11_line_1025_is_read_and_1026_refused_however_it_looks(trial: &mut Trial,
     ];
     for look in looks {
         let longer = [text.as_slice(), look].concat();
-        refused(trial, &longer, 5, 1026)?;
+        refused(trial, &longer, (5, 1026, 0))?;
     }
     Ok(())
 }
 
-fn row_12_leading_zero_is_form_and_low_above_high_is_range(trial: &mut Trial, _: u64) -> Check {
-    refused(trial, b"G,10,1\nF,0,03,4\n", 3, 2)?;
-    refused(trial, b"G,10,1\nF,0,4,3\n", 4, 2)?;
+fn row_12_leading_zero_is_form_and_low_above_high_has_a_number_of_its_own(
+    trial: &mut Trial,
+    _: u64,
+) -> Check {
+    refused(trial, b"G,10,1\nF,0,03,4\n", (3, 2, 0))?;
+    refused(trial, b"G,10,1\nF,0,4,3\n", (23, 2, 4))?;
     accepted(trial, b"G,10,1\nF,0,3,4\n")
 }
 

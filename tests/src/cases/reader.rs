@@ -31,7 +31,18 @@ pub fn cases() -> Vec<Case> {
             name: "reader_agrees_on_spoilt_pages",
             items: 8_000,
             each: spoilt_pages,
-            must_see: EVERY_READ,
+            must_see: &[
+                ("read", 0),
+                ("read", TEXT_TOO_LONG),
+                ("read", TEXT_UNENDED),
+                ("read", LINE_FORM),
+                ("read", LINE_RANGE),
+                ("read", LINE_COUNT),
+                ("read", AREA_SHORT),
+                ("read", WEIGHT_RANGE),
+                ("read", GRADE_RANGE),
+                ("read", LOW_ABOVE_HIGH),
+            ],
         },
         Case {
             name: "reader_agrees_on_every_one_byte_edit_of_each_line_form",
@@ -76,10 +87,7 @@ fn good_pages(trial: &mut Trial, _: u64) -> Check {
     for length in [used - 1, short, 0] {
         let mut area = trial.rubbish(length);
         let got = trial.read(&text, &mut area)?;
-        let wanted = ReadRefusal {
-            number: AREA_SHORT,
-            line: 0,
-        };
+        let wanted = ReadRefusal::new(AREA_SHORT, 0, 0);
         figure("a short area", got, Err(wanted))?;
     }
     Ok(())
@@ -212,15 +220,21 @@ fn every_number(trial: &mut Trial, item: u64) -> Check {
     Ok(())
 }
 
-/// A text must be refused so, whatever the area's length.
-fn refused(trial: &mut Trial, text: &[u8], number: Refusal, line: u32) -> Check {
+/// A text must be refused so, with a place in the line, whatever the area's length.
+fn refused_at(trial: &mut Trial, text: &[u8], number: Refusal, line: u32, place: u32) -> Check {
     trial.pages += 1;
     for length in [PAGE_MAX, 4, 0] {
         let mut area = trial.rubbish(length);
         let got = trial.read(text, &mut area)?;
-        figure("the refusal", got, Err(ReadRefusal { number, line }))?;
+        let wanted = ReadRefusal::new(number, line, place);
+        figure("the refusal", got, Err(wanted))?;
     }
     Ok(())
+}
+
+/// A text must be refused so, for no single field.
+fn refused(trial: &mut Trial, text: &[u8], number: Refusal, line: u32) -> Check {
+    refused_at(trial, text, number, line, 0)
 }
 
 /// A text must be read, into an area of exactly its used length; one number less is too short.
@@ -229,10 +243,7 @@ fn accepted(trial: &mut Trial, text: &[u8], used: usize) -> Check {
     let mut area = trial.rubbish(used);
     figure("the used length", trial.read(text, &mut area)?, Ok(used))?;
     let mut area = trial.rubbish(used - 1);
-    let wanted = ReadRefusal {
-        number: AREA_SHORT,
-        line: 0,
-    };
+    let wanted = ReadRefusal::new(AREA_SHORT, 0, 0);
     figure(
         "one number short",
         trial.read(text, &mut area)?,
@@ -266,8 +277,15 @@ fn limits(trial: &mut Trial, _: u64) -> Check {
     // The head line.
     accepted(trial, b"G,1,1\n", 4)?;
     accepted(trial, b"G,200,512\n", 4)?;
-    for head in ["G,0,1", "G,1,0", "G,201,1", "G,1,513", "G,999,999", "G,0,0"] {
-        refused(trial, format!("{head}\n").as_bytes(), 4, 1)?;
+    for (head, place) in [
+        ("G,0,1", 2),
+        ("G,1,0", 3),
+        ("G,201,1", 2),
+        ("G,1,513", 3),
+        ("G,999,999", 2),
+        ("G,0,0", 2),
+    ] {
+        refused_at(trial, format!("{head}\n").as_bytes(), 4, 1, place)?;
     }
     // Conditions against 512 and against a lower count.
     accepted(
@@ -275,31 +293,48 @@ fn limits(trial: &mut Trial, _: u64) -> Check {
         b"G,1,512\nF,511,0,1\nR,511,1,M,511,!511\nQ,K,511\nQ,W,511\n",
         22,
     )?;
-    for line in [
-        "F,512,0,1",
-        "R,512,1,M,0",
-        "R,0,1,M,512",
-        "R,0,1,M,0,!512",
-        "Q,K,512",
-        "Q,W,512",
+    for (line, place) in [
+        ("F,512,0,1", 2),
+        ("R,512,1,M,0", 2),
+        ("R,0,1,M,512", 5),
+        ("R,0,1,M,0,!512", 6),
+        ("Q,K,512", 3),
+        ("Q,W,512", 3),
     ] {
-        refused(trial, format!("G,1,512\n{line}\n").as_bytes(), 4, 2)?;
+        let text = format!("G,1,512\n{line}\n");
+        refused_at(trial, text.as_bytes(), 4, 2, place)?;
     }
     accepted(trial, b"G,1,7\nF,6,0,1\n", 8)?;
-    refused(trial, b"G,1,7\nF,7,0,1\n", 4, 2)?;
+    refused_at(trial, b"G,1,7\nF,7,0,1\n", 4, 2, 2)?;
     // Grades and weights against the top.
     accepted(trial, b"G,200,1\nF,0,200,200\nR,0,200,P,0\nR,0,1,P,0\n", 18)?;
-    for line in [
-        "F,0,0,201",
-        "F,0,201,201",
-        "F,0,1,0",
-        "R,0,201,M,0",
-        "R,0,0,M,0",
+    for (line, number, place) in [
+        ("F,0,0,201", 22, 4),
+        ("F,0,201,201", 22, 3),
+        ("F,0,201,0", 22, 3),
+        ("F,0,1,0", 23, 4),
+        ("R,0,201,M,0", 21, 3),
+        ("R,0,0,M,0", 21, 3),
     ] {
-        refused(trial, format!("G,200,1\n{line}\n").as_bytes(), 4, 2)?;
+        let text = format!("G,200,1\n{line}\n");
+        refused_at(trial, text.as_bytes(), number, 2, place)?;
     }
-    refused(trial, b"G,5,1\nF,0,0,6\n", 4, 2)?;
-    refused(trial, b"G,5,1\nR,0,6,M,0\n", 4, 2)?;
+    refused_at(trial, b"G,5,1\nF,0,0,6\n", 22, 2, 4)?;
+    refused_at(trial, b"G,5,1\nR,0,6,M,0\n", 21, 2, 3)?;
+    // The leftmost bad field of a line, wherever the others are.
+    for (line, number, place) in [
+        ("F,1,6,7", 4, 2),
+        ("F,1,5,4", 4, 2),
+        ("F,0,6,7", 22, 3),
+        ("F,0,7,6", 22, 3),
+        ("R,1,6,M,1", 4, 2),
+        ("R,0,6,M,1,!1", 21, 3),
+        ("R,0,5,M,0,!1,0,1,0,0,0,1", 4, 6),
+        ("R,0,5,M,0,0,0,0,0,0,!1,1", 4, 11),
+    ] {
+        let text = format!("G,5,1\n{line}\n");
+        refused_at(trial, text.as_bytes(), number, 2, place)?;
+    }
     // Literals.
     accepted(trial, b"G,1,1\nR,0,1,M,0,0,0,0,0,0,0,0\n", 16)?;
     refused(trial, b"G,1,1\nR,0,1,M,0,0,0,0,0,0,0,0,0\n", 3, 2)?;
@@ -333,12 +368,12 @@ fn limits(trial: &mut Trial, _: u64) -> Check {
         }
     }
     // An earlier bad line decides first.
-    for (bad, number) in [("F,0,1,0", 4), ("F,0,1", 3)] {
+    for (bad, number, place) in [("F,0,1,0", 23, 4), ("F,0,1", 3, 0)] {
         let mut lines: Vec<&str> = vec!["F,0,0,0"; 1026];
         lines[0] = "G,1,1";
         lines[1024] = bad;
         let text = lines.join("\n") + "\n";
-        refused(trial, text.as_bytes(), number, 1025)?;
+        refused_at(trial, text.as_bytes(), number, 1025, place)?;
     }
     // Bytes: 65,535 are looked at, 65,536 are too long.
     let longest = longest_page();
@@ -378,7 +413,7 @@ fn limits(trial: &mut Trial, _: u64) -> Check {
     refused(trial, b"G,999,01\n", 3, 1)?;
     refused(trial, b"G,1,1\nF,9,9,01\n", 3, 2)?;
     refused(trial, b"G,1,1\nR,9,0,M,9,!\n", 3, 2)?;
-    refused(trial, b"G,1,1\nF,9,0,0\nx\n", 4, 2)?;
+    refused_at(trial, b"G,1,1\nF,9,0,0\nx\n", 4, 2, 2)?;
     refused(trial, b"G,1,1\nx\nF,9,0,0\n", 3, 2)
 }
 

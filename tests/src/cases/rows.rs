@@ -27,17 +27,21 @@ pub fn cases() -> Vec<Case> {
     ]
 }
 
-/// The used length of a text that is read, or the number and the line of its refusal.
-type Outcome = Result<usize, (Refusal, u32)>;
+/// The used length of a text that is read, or the number, the line and the place of its refusal.
+type Outcome = Result<usize, (Refusal, u32, u32)>;
 
 const TEXTS: &[(&str, &[u8], Outcome)] = &[
     ("condition 511 of 512", b"G,1,512\nF,511,0,1\n", Ok(8)),
-    ("condition 512 of 512", b"G,1,512\nF,512,0,1\n", Err((4, 2))),
+    (
+        "condition 512 of 512",
+        b"G,1,512\nF,512,0,1\n",
+        Err((4, 2, 2)),
+    ),
     ("literal 511 of 512", b"G,1,512\nR,0,1,M,!511\n", Ok(9)),
     (
         "literal 512 of 512",
         b"G,1,512\nR,0,1,M,0,!512\n",
-        Err((4, 2)),
+        Err((4, 2, 6)),
     ),
     ("top 200", b"G,200,1\nF,0,200,200\n", Ok(8)),
     (
@@ -48,16 +52,16 @@ const TEXTS: &[(&str, &[u8], Outcome)] = &[
     (
         "nine literals",
         b"G,1,1\nR,0,1,M,0,!0,0,!0,0,!0,0,!0,0\n",
-        Err((3, 2)),
+        Err((3, 2, 0)),
     ),
-    ("no final byte 10", b"G,1,1\nQ,K,0", Err((2, 0))),
-    ("an empty line", b"G,1,1\n\nQ,K,0\n", Err((3, 2))),
-    ("CR LF", b"G,1,1\r\nQ,K,0\r\n", Err((3, 1))),
-    ("a space", b"G,1,1\nQ,K, 0\n", Err((3, 2))),
-    ("a NUL", b"G,1,1\nQ,K,0\0\n", Err((3, 2))),
-    ("no G", b"Q,K,0\n", Err((3, 1))),
-    ("G with a third number", b"G,1,1,1\n", Err((3, 1))),
-    ("G with one number", b"G,1\n", Err((3, 1))),
+    ("no final byte 10", b"G,1,1\nQ,K,0", Err((2, 0, 0))),
+    ("an empty line", b"G,1,1\n\nQ,K,0\n", Err((3, 2, 0))),
+    ("CR LF", b"G,1,1\r\nQ,K,0\r\n", Err((3, 1, 0))),
+    ("a space", b"G,1,1\nQ,K, 0\n", Err((3, 2, 0))),
+    ("a NUL", b"G,1,1\nQ,K,0\0\n", Err((3, 2, 0))),
+    ("no G", b"Q,K,0\n", Err((3, 1, 0))),
+    ("G with a third number", b"G,1,1,1\n", Err((3, 1, 0))),
+    ("G with one number", b"G,1\n", Err((3, 1, 0))),
     (
         "the page of attach",
         b"G,10,2\nF,0,2,2\nF,1,3,3\nR,0,10,M,!1\nR,1,10,M,!0\nQ,K,0\nQ,W,1\n",
@@ -68,20 +72,58 @@ const TEXTS: &[(&str, &[u8], Outcome)] = &[
         b"G,9,1\nR,0,1,M,0\nR,0,2,X,0\nR,0,3,L,0\nR,0,4,B,0\nR,0,9,P,0\n",
         Ok(29),
     ),
-    ("another op", b"G,9,1\nR,0,1,A,0\n", Err((3, 2))),
-    ("another reading", b"G,9,1\nQ,X,0\n", Err((3, 2))),
-    ("two letters", b"G,9,1\nFF,0,1,1\n", Err((3, 2))),
-    ("no literal", b"G,9,1\nR,0,1,M\n", Err((3, 2))),
-    ("an empty literal", b"G,9,1\nR,0,1,M,\n", Err((3, 2))),
-    ("a lone !", b"G,9,1\nR,0,1,M,!\n", Err((3, 2))),
-    ("a missing field", b"G,9,1\nF,0,1\n", Err((3, 2))),
-    ("an extra field", b"G,9,1\nF,0,1,1,1\n", Err((3, 2))),
-    ("four digits", b"G,9,1\nF,0,1000,1\n", Err((3, 2))),
-    ("three digits", b"G,9,1\nF,0,0,999\n", Err((4, 2))),
-    ("weight 0", b"G,9,1\nR,0,0,M,0\n", Err((4, 2))),
-    ("weight 10", b"G,9,1\nR,0,10,M,0\n", Err((4, 2))),
-    ("form before range", b"G,9,1\nF,7,9,8,x\n", Err((3, 2))),
-    ("the first bad line", b"G,9,1\nF,7,9,8\nx\n", Err((4, 2))),
+    ("another op", b"G,9,1\nR,0,1,A,0\n", Err((3, 2, 0))),
+    ("another reading", b"G,9,1\nQ,X,0\n", Err((3, 2, 0))),
+    ("two letters", b"G,9,1\nFF,0,1,1\n", Err((3, 2, 0))),
+    ("no literal", b"G,9,1\nR,0,1,M\n", Err((3, 2, 0))),
+    ("an empty literal", b"G,9,1\nR,0,1,M,\n", Err((3, 2, 0))),
+    ("a lone !", b"G,9,1\nR,0,1,M,!\n", Err((3, 2, 0))),
+    ("a missing field", b"G,9,1\nF,0,1\n", Err((3, 2, 0))),
+    ("an extra field", b"G,9,1\nF,0,1,1,1\n", Err((3, 2, 0))),
+    ("four digits", b"G,9,1\nF,0,1000,1\n", Err((3, 2, 0))),
+    ("three digits", b"G,9,1\nF,0,0,999\n", Err((22, 2, 4))),
+    ("weight 0", b"G,9,1\nR,0,0,M,0\n", Err((21, 2, 3))),
+    ("weight 10", b"G,9,1\nR,0,10,M,0\n", Err((21, 2, 3))),
+    ("form before range", b"G,9,1\nF,7,9,8,x\n", Err((3, 2, 0))),
+    ("low over top", b"G,9,1\nF,0,10,10\n", Err((22, 2, 3))),
+    (
+        "low over top and above high",
+        b"G,9,1\nF,0,10,3\n",
+        Err((22, 2, 3)),
+    ),
+    (
+        "high over top and low above it",
+        b"G,9,1\nF,0,12,11\n",
+        Err((22, 2, 3)),
+    ),
+    ("low above high", b"G,9,1\nF,0,9,8\n", Err((23, 2, 4))),
+    ("condition and low", b"G,9,1\nF,1,10,9\n", Err((4, 2, 2))),
+    (
+        "condition, low above high",
+        b"G,9,1\nF,1,9,8\n",
+        Err((4, 2, 2)),
+    ),
+    (
+        "weight and literal",
+        b"G,9,1\nR,0,10,M,1\n",
+        Err((21, 2, 3)),
+    ),
+    (
+        "condition and weight",
+        b"G,9,1\nR,1,0,M,0\n",
+        Err((4, 2, 2)),
+    ),
+    ("two literals", b"G,9,1\nR,0,1,M,0,!1,0,1\n", Err((4, 2, 6))),
+    (
+        "the last literal",
+        b"G,9,1\nR,0,1,M,0,0,0,0,0,0,0,1\n",
+        Err((4, 2, 12)),
+    ),
+    ("a query", b"G,9,1\nQ,W,1\n", Err((4, 2, 3))),
+    ("top 0", b"G,0,1\n", Err((4, 1, 2))),
+    ("no conditions", b"G,1,0\n", Err((4, 1, 3))),
+    ("top and conditions", b"G,201,513\n", Err((4, 1, 2))),
+    ("the first bad line", b"G,9,1\nF,7,9,8\nx\n", Err((4, 2, 2))),
 ];
 
 /// Reads a text into an area of this length.
@@ -89,7 +131,7 @@ fn outcome(trial: &mut Trial, text: &[u8], length: usize) -> Check<Outcome> {
     trial.pages += 1;
     let mut area = trial.rubbish(length);
     let got = trial.read(text, &mut area)?;
-    Ok(got.map_err(|refusal| (refusal.number, refusal.line)))
+    Ok(got.map_err(|refusal| (refusal.number, refusal.line, refusal.place)))
 }
 
 fn texts(trial: &mut Trial, _: u64) -> Check {
@@ -97,7 +139,7 @@ fn texts(trial: &mut Trial, _: u64) -> Check {
         figure(name, outcome(trial, text, 64)?, *wanted)?;
     }
     let text = b"G,9,1\nQ,K,0\n";
-    figure("area of 7", outcome(trial, text, 7)?, Err((6, 0)))?;
+    figure("area of 7", outcome(trial, text, 7)?, Err((6, 0, 0)))?;
     figure("area of 8", outcome(trial, text, 8)?, Ok(8))
 }
 
@@ -107,11 +149,11 @@ fn long_texts(trial: &mut Trial, _: u64) -> Check {
     figure("1,025 lines", outcome(trial, &text, PAGE_MAX)?, Ok(4100))?;
     text.extend(b"x\n");
     let got = outcome(trial, &text, PAGE_MAX)?;
-    figure("a 1,026th line", got, Err((5, 1026)))?;
+    figure("a 1,026th line", got, Err((5, 1026, 0)))?;
     let got = outcome(trial, &[10; 65_535], PAGE_MAX)?;
-    figure("65,535 bytes", got, Err((3, 1)))?;
+    figure("65,535 bytes", got, Err((3, 1, 0)))?;
     let got = outcome(trial, &[10; 65_536], PAGE_MAX)?;
-    figure("65,536 bytes", got, Err((1, 0)))
+    figure("65,536 bytes", got, Err((1, 0, 0)))
 }
 
 fn shown_lines(trial: &mut Trial, _: u64) -> Check {

@@ -186,7 +186,7 @@ impl Bench<'_> {
 
     fn read(&mut self, lent: &Lent) -> Check<i32> {
         self.call(&READ, Call::Read.function(), lent, |lent| {
-            [lent.text(), lent.area(), lent.out(0)].concat()
+            [lent.text(), lent.area(), lent.out(0), lent.out(1)].concat()
         })
     }
 
@@ -283,6 +283,9 @@ impl Bench<'_> {
         for (line, number) in [
             (&b"R,1,1,P,0,0,0,0,0,0,0,0,0\n"[..], LINE_FORM),
             (b"R,1,1,P,0,0,0,0,0,0,0,512\n", LINE_RANGE),
+            (b"R,1,201,P,0,0,0,0,0,0,0,0\n", WEIGHT_RANGE),
+            (b"F,1,0,201\n", GRADE_RANGE),
+            (b"F,1,1,0\n", LOW_ABOVE_HIGH),
         ] {
             lent.text = [&text[..start], line].concat();
             figure("read", self.read(&lent)?, -number)?;

@@ -163,50 +163,54 @@ fn count_and_top(item: u64) -> (u16, u16) {
 fn text_ranges(trial: &mut Trial, item: u64) -> Check {
     let (count, top) = count_and_top(item);
     let last = count - 1;
+    let far = |place| Some((LINE_RANGE, place));
     let lines = [
-        (format!("F,{last},0,{top}"), true),
-        (format!("F,{count},0,{top}"), false),
-        (format!("F,0,{top},{top}"), true),
-        (format!("F,0,0,{}", top + 1), false),
-        (format!("F,0,{},{top}", top + 1), false),
-        (format!("F,0,{top},{}", top - 1), false),
-        (format!("R,{last},{top},M,{last}"), true),
-        (format!("R,{count},1,X,0"), false),
-        (format!("R,0,{},L,0", top + 1), false),
-        ("R,0,0,B,0".to_string(), false),
-        ("R,0,1,P,0".to_string(), true),
-        (format!("R,0,1,P,0,0,0,0,0,0,0,{last}"), true),
-        (format!("R,0,1,P,0,0,0,0,0,0,0,{count}"), false),
-        (format!("R,0,1,M,!{last}"), true),
-        (format!("R,0,1,M,!{count},0"), false),
-        (format!("Q,K,{last}"), true),
-        (format!("Q,W,{last}"), true),
-        (format!("Q,K,{count}"), false),
-        (format!("Q,W,{count}"), false),
+        (format!("F,{last},0,{top}"), None),
+        (format!("F,{count},0,{top}"), far(2)),
+        (format!("F,0,{top},{top}"), None),
+        (format!("F,0,0,{}", top + 1), Some((GRADE_RANGE, 4))),
+        (format!("F,0,{},{top}", top + 1), Some((GRADE_RANGE, 3))),
+        (format!("F,0,{top},{}", top - 1), Some((LOW_ABOVE_HIGH, 4))),
+        (format!("F,{count},{},{top}", top + 1), far(2)),
+        (format!("R,{last},{top},M,{last}"), None),
+        (format!("R,{count},1,X,0"), far(2)),
+        (format!("R,0,{},L,0", top + 1), Some((WEIGHT_RANGE, 3))),
+        ("R,0,0,B,0".to_string(), Some((WEIGHT_RANGE, 3))),
+        (format!("R,0,0,B,{count}"), Some((WEIGHT_RANGE, 3))),
+        ("R,0,1,P,0".to_string(), None),
+        (format!("R,0,1,P,0,0,0,0,0,0,0,{last}"), None),
+        (format!("R,0,1,P,0,0,0,0,0,0,0,{count}"), far(12)),
+        (format!("R,0,1,P,0,0,{count},0,!{count},0,0,0"), far(7)),
+        (format!("R,0,1,M,!{last}"), None),
+        (format!("R,0,1,M,!{count},0"), far(5)),
+        (format!("Q,K,{last}"), None),
+        (format!("Q,W,{last}"), None),
+        (format!("Q,K,{count}"), far(3)),
+        (format!("Q,W,{count}"), far(3)),
     ];
-    for (line, good) in lines {
+    for (line, wanted) in lines {
         trial.pages += 1;
         let mut area = trial.rubbish(40);
         let got = trial.read(format!("G,{top},{count}\n{line}\n").as_bytes(), &mut area)?;
-        let wanted = if good { None } else { Some((LINE_RANGE, 2)) };
-        let got = got.err().map(|refusal| (refusal.number, refusal.line));
+        let wanted = wanted.map(|(number, place)| ReadRefusal::new(number, 2, place));
         figure(
             &format!("{line} with top {top}, {count} conditions"),
-            got,
+            got.err(),
             wanted,
         )?;
     }
-    for (first, good) in [
-        (format!("G,{top},{count}"), true),
-        (format!("G,0,{count}"), false),
-        (format!("G,{top},0"), false),
-        (format!("G,{},{count}", 200 + top), false),
-        (format!("G,{top},{}", 513 + u64::from(last) % 487), false),
+    for (first, place) in [
+        (format!("G,{top},{count}"), None),
+        (format!("G,0,{count}"), Some(2)),
+        (format!("G,{top},0"), Some(3)),
+        (format!("G,{},{count}", 200 + top), Some(2)),
+        (format!("G,{top},{}", 513 + u64::from(last) % 487), Some(3)),
     ] {
         trial.pages += 1;
         let mut area = trial.rubbish(4);
         let got = trial.read(format!("{first}\n").as_bytes(), &mut area)?;
-        figure(&first, got.is_ok(), good)?;
+        let wanted = place.map(|place| ReadRefusal::new(LINE_RANGE, 1, place));
+        figure(&first, got.err(), wanted)?;
     }
     Ok(())
 }

@@ -1,9 +1,17 @@
 -- `read_page` meets its contract, by the laws of `Results`. Assumes nothing.
 use borrow.Author.Needs.{needs}
 use native.Mathlib.Omega.{arith}
+use Rattle.reader.specs.Checks.{Accepted}
 use Rattle.reader.proofs.Results.{refused-text, accepted, too-short, lines-fit, read-whole}
 use Rattle.reader.proofs.read_page.Statement.{statement}
 use Rattle.reader.proofs.read_page.Tie as tie
+
+-- the call, and the text that is accepted
+abbrev start : tie.After-known-told2 → tie.Start
+start c = c .before .before .before .before .before .before
+
+the-page : (c : tie.After-known-told2) → Accepted (start c .args .bytes .now) (c .before .checked2 .given .0 .0) (c .before .checked2 .given .0 .1 .0) (c .before .checked2 .given .0 .1 .1 .0) (c .before .checked2 .given .0 .1 .1 .1 .0)
+the-page c = accepted (start c .args .bytes .now) (start c .args .area .now) (c .before .before .before .check-page .ensures) (c .before .checked2 .given .1)
 
 check-page-requires : tie.Need-check-page-requires
 check-page-requires c κs = search needs
@@ -15,28 +23,46 @@ enum-known-checked-2 : tie.Need-enum-known-checked-2
 enum-known-checked-2 c = search needs
 
 returns : tie.Need-returns
-returns c = let a = c .before .before .before .before .before .before .before .args in too-short (a .bytes .now) (a .area .now) (c .before .before .before .before .check-page .ensures) (c .before .before .checked2 .given .1) (c .if1 .taken)
+returns c =
+    let k = c .before in
+    too-short (start k .args .bytes .now) (start k .args .area .now) (k .before .before .before .check-page .ensures) (k .before .checked2 .given .1) (c .if1 .taken)
+
+next-line-requires : tie.Need-next-line-requires
+next-line-requires c κs = omega arith
 
 cast-put-head : tie.Need-cast-put-head
-cast-put-head c = let a = c .before .before .before .before .before .before .before .before .args in omega (arith, accepted (a .bytes .now) (a .area .now) (c .before .before .before .before .before .check-page .ensures) (c .before .before .before .checked2 .given .1) .all .few)
+cast-put-head c = omega (arith, the-page (c .before .before .before) .all .few)
 
 cast-put-head-2 : tie.Need-cast-put-head-2
-cast-put-head-2 c = let a = c .before .before .before .before .before .before .before .before .args in omega (arith, accepted (a .bytes .now) (a .area .now) (c .before .before .before .before .before .check-page .ensures) (c .before .before .before .checked2 .given .1) .all .short)
+cast-put-head-2 c = omega (arith, the-page (c .before .before .before) .all .short)
 
 put-head-requires : tie.Need-put-head-requires
-put-head-requires c κs = let a = c .before .before .before .before .before .before .before .before .args in omega (arith, c .before .if1 .left, accepted (a .bytes .now) (a .area .now) (c .before .before .before .before .before .check-page .ensures) (c .before .before .before .checked2 .given .1) .all .used)
+put-head-requires c κs = omega (arith, c .before .before .if1 .left, the-page (c .before .before .before) .all .used)
 
 write-lines-requires : tie.Need-write-lines-requires
-write-lines-requires c κs = let a = c .before .before .before .before .before .before .before .before .before .before .before .before .args in rw (c .before .before .before .put-head .ensures .1) (lines-fit (a .bytes .now) (a .area .now) (c .before .before .before .before .before .before .before .before .before .check-page .ensures) (c .before .before .before .before .before .before .before .checked2 .given .1) (c .before .before .before .before .before .if1 .left) (c .before .before .before .put-head .kept .0))
+write-lines-requires c κs =
+    let h = c .before .before .before in
+    let n = h .before .before in
+    let k = n .before .before in
+    rw (h .put-head .ensures .1)
+    (lines-fit (start k .args .bytes .now) (start k .args .area .now) (k .before .before .before .check-page .ensures) (k .before .checked2 .given .1) (n .next-line .ensures) (n .before .if1 .left) (h .put-head .kept .0))
 
 returns-2 : tie.Need-returns-2
-returns-2 c = let a = c .before .before .before .before .before .before .args in refused-text (a .bytes .now) (a .area .now) (c .before .before .before .check-page .ensures) (c .before .checked .given .1)
+returns-2 c =
+    let a = c .before .before .before .before .before .before .args in
+    refused-text (a .bytes .now) (a .area .now) (c .before .before .before .check-page .ensures) (c .before .checked .given .1)
 
 same-length : tie.Need-same-length
 same-length c = search needs
 
 returns-3 : tie.Need-returns-3
-returns-3 c = let a = c .before .before .before .before .before .before .before .before .before .before .before .before .before .before .before .args in read-whole (a .bytes .now) (a .area .now) (c .before .before .before .before .before .before .before .before .before .before .before .before .check-page .ensures) (c .before .before .before .before .before .before .before .before .before .before .checked2 .given .1) (c .before .before .before .before .before .before .before .before .if1 .left) (c .before .before .before .before .before .before .put-head .ensures .0) (rw (c .before .before .before .before .before .before .put-head .ensures .1) at (c .before .before .write-lines .ensures))
+returns-3 c =
+    let w = c .before .before in
+    let h = w .before .before .before .before in
+    let n = h .before .before in
+    let k = n .before .before in
+    read-whole (start k .args .bytes .now) (start k .args .area .now) (k .before .before .before .check-page .ensures) (k .before .checked2 .given .1) (n .next-line .ensures) (n .before .if1 .left) (h .put-head .ensures .0)
+    (rw (h .put-head .ensures .1) at (w .write-lines .ensures))
 
 pub read-page-spec : {M : Type 1} → statement M
 read-page-spec =
@@ -46,6 +72,7 @@ read-page-spec =
     enum-known-checked
     enum-known-checked-2
     returns
+    next-line-requires
     cast-put-head
     cast-put-head-2
     put-head-requires

@@ -12,7 +12,7 @@ use Rattle.answers.proofs.output.put_output.Tie as tie
 put-refusal-requires : tie.Need-put-refusal-requires
 put-refusal-requires c κs =
     let s = read-small _ _ (ap answerOf (sym (c .before .before .read .given .1)) ∙ c .before .before .before .before .before .read-page .ensures .0) in
-    (omega (arith, c .before .before .before .before .before .before .before .before .before .pre), omega (arith, s .0), omega (arith, s .1))
+    (omega (arith, c .before .before .before .before .before .before .before .before .before .pre), omega (arith, s .number-most), omega (arith, s .line-most))
 
 put-page-requires : tie.Need-put-page-requires
 put-page-requires c κs =

@@ -17,7 +17,7 @@ put-field-requires-2 : tie.Need-put-field-requires-2
 put-field-requires-2 c κs = let s = c .before .before .before .before .before .before .before .before .before .before .before in omega (arith, number-short (s .args .number) (s .pre .1), number-four (s .args .line) (s .pre .2), length-append (numberText (s .args .number)) (44 ∷ []), c .before .before .before .before .before .before .before .put-all .ensures .behind, c .before .before .before .before .before .before .before .put-all .kept .0, c .before .before .before .put-field .ensures .behind, c .before .before .before .put-field .kept .0)
 
 returns : tie.Need-returns
-returns c = let s = c .before .before .before .before .before .before .before .before .before .before .before .before .before .before in wrote-as (refusal-text (record { number = s .args .number; line = s .args .line })) (wrote-then (wrote-then (c .before .before .before .before .before .before .before .before .before .before .put-all .ensures) (c .before .before .before .before .before .before .put-field .ensures)) (c .before .before .put-field2 .ensures))
+returns c = let s = c .before .before .before .before .before .before .before .before .before .before .before .before .before .before in wrote-as (refusal-text (s .args .number) (s .args .line)) (wrote-then (wrote-then (c .before .before .before .before .before .before .before .before .before .before .put-all .ensures) (c .before .before .before .before .before .before .put-field .ensures)) (c .before .before .put-field2 .ensures))
 
 pub put-refusal-spec : {M : Type 1} → statement M
 put-refusal-spec =

@@ -1,7 +1,7 @@
 -- `check_line` meets its contract, by the laws of `Ranges`. Assumes nothing.
 use borrow.Author.Needs.{needs}
 use native.Mathlib.Omega.{arith}
-use Rattle.reader.proofs.Ranges.{fact-told, rule-told, query-told, formless, fact-line, rule-few, rule-line, query-line}
+use Rattle.reader.proofs.Ranges.{fact-told, rule-told, query-told, formless, fact-line, rule-few, rule-far, rule-line, query-line}
 use Rattle.reader.proofs.check.check_line.Statement.{statement}
 use Rattle.reader.proofs.check.check_line.Tie as tie
 
@@ -21,7 +21,9 @@ enum-known-parsed-2 : tie.Need-enum-known-parsed-2
 enum-known-parsed-2 c = search needs
 
 rule-fault-requires : tie.Need-rule-fault-requires
-rule-fault-requires c κs = search needs
+rule-fault-requires c κs =
+    let a = c .before .before .before .before .before .args in
+    rule-far (a .bytes .now) (a .at) (a .top) (a .conditions) (rule-told (a .bytes .now) (a .at) (a .conditions) (c .before .before .before .parse-line .ensures) (c .before .parsed2 .given .1))
 
 add-by-fault : tie.Need-add-by-fault
 add-by-fault c = let a = c .before .before .before .before .before .before .args in omega (arith, rule-few (a .bytes .now) (a .at) (a .top) (a .conditions) (rule-told (a .bytes .now) (a .at) (a .conditions) (c .before .before .before .before .parse-line .ensures) (c .before .before .parsed2 .given .1)))

@@ -53,8 +53,8 @@ loop-less c = omega (arith, c .before .before .before .before .before .loop-test
 loop-again : tie.Need-loop-again Inv-loop μ-loop
 loop-again c = let a = c .before .before .before .before .before .before .before .before .before .args in checking-next (a .bytes .now) (a .from) (a .top) (a .conditions) (c .before .before .before .before .before .before .loop .inv) (c .before .before .before .before .before .loop-test .taken) (c .before .before .before .before .if1 .left) (good-here c)
 
-sub-t14 : tie.Need-sub-t14 Inv-loop μ-loop
-sub-t14 c = omega (arith, c .before .loop .inv .least)
+sub-count : tie.Need-sub-count Inv-loop μ-loop
+sub-count c = omega (arith, c .before .loop .inv .least)
 
 returns-3 : tie.Need-returns-3 Inv-loop μ-loop
 returns-3 c = let a = c .before .before .before .before .args in checking-done (a .bytes .now) (a .from) (a .top) (a .conditions) (c .before .loop .inv) (c .loop-test .left)
@@ -76,5 +76,5 @@ check-lines-spec =
     add-line
     loop-less
     loop-again
-    sub-t14
+    sub-count
     returns-3)
