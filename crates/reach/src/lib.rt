@@ -4,6 +4,7 @@ ghost use mathlib.Core.List.{map};
 ghost use Prim.Native.Nat.{_≤_, _+_, _-_, _<_, _*_};
 ghost use lib.Dec.{leb};
 ghost use lib.ListN.{length, getD, take, drop};
+ghost use Rattle.fixpoint.specs.Sum.{count};
 ghost use Rattle.semantics.specs.Area.{sound, lineAt, allUnder, literalOf, pageOf, topOf, conditionsOf, usedOf};
 ghost use Rattle.semantics.specs.Operation.{openOf};
 ghost use Rattle.semantics.specs.Page.{mentions, names};
@@ -13,7 +14,7 @@ ghost use Rattle.page.specs.Graded.{RuleAt, SoundEntry};
 ghost use Rattle.page.specs.Lines.{lineNames};
 ghost use Rattle.reach.specs.Opening.{openingOf, accepted, Written};
 ghost use Rattle.reach.specs.Marks.{Unmarked, ClosureMarks};
-ghost use Rattle.reach.specs.Sets.{Joins, Inserts, Visited, ClosureSet, Followed, Swept, MarksBelow};
+ghost use Rattle.reach.specs.Sets.{Joins, Inserts, namedBy, Passed, ClosureSet, FoundIn, CountedUpTo, Swept, MarksBelow};
 
 // Puts the queries into the set.
 fn insert_queries(queries: &[u16], words: &mut [u64])
@@ -73,46 +74,90 @@ fn insert_named(a: &[u16], c: u16, words: &mut [u64]) -> u32
     new
 }
 
-// The condition c waits no longer. What its R lines name is reached, and waits if it is new; answers how many conditions they name.
-fn visit(a: &[u16], c: u16, reached: &mut [u64], waiting: &mut [u64]) -> u32
-    requires { ⌜ (sound (now a) ≡ true) × (c < conditionsOf (now a)) × (length (now reached) ≡ 8) × (length (now waiting) ≡ 8) ⌝ }
-    ensures { λ r. ⌜ Visited (pageOf (now (a .entry))) c (now (reached .entry)) (now (waiting .entry)) (now (reached .exit)) (now (waiting .exit)) r ⌝ }
+// How many conditions the R lines of c name.
+fn named_by(a: &[u16], c: u16) -> u32
+    requires { ⌜ sound (now a) ≡ true ⌝ }
+    ensures { λ r. ⌜ r ≡ count (conditionsOf (now (a .entry))) (names (pageOf (now (a .entry))) c) ⌝ }
 {
     let mut named = [0u64; 8];
-    let edges = insert_named(a, c, &mut named);
-    bits::remove(waiting, c);
-    bits::absorb(&named, reached, waiting);
-    edges
+    insert_named(a, c, &mut named)
 }
 
-// A set of conditions, with R and E.
-struct Closure {
-    set: [u64; 8],
+// R and E of a set of conditions.
+struct Counts {
     reached: u32,
     edges: u32,
 }
 
-// The closure of the queries: each reached condition is visited once.
-fn follow(a: &[u16], queries: &[u16]) -> Closure
+// Counts the conditions of the set, and what each names: one scan for each.
+fn count_edges(a: &[u16], set: &[u64]) -> Counts
+    requires { ⌜ (sound (now a) ≡ true) × (length (now set) ≡ 8) ⌝ }
+    ensures { λ r. ⌜ CountedUpTo (pageOf (now (a .entry))) (now (set .entry)) (conditionsOf (now (a .entry))) (r .reached) (r .edges) ⌝ }
+{
+    let n = a[1];
+    let mut reached: u32 = 0;
+    let mut edges: u32 = 0;
+    let mut c: u16 = 0;
+    while c < n {
+        if bits::contains(set, c) {
+            edges += named_by(a, c);
+            reached += 1;
+        }
+        c += 1;
+    }
+    Counts { reached, edges }
+}
+
+// Puts what the R lines of the conditions of `from` name into the set `named`, in one scan over the lines.
+fn scan(a: &[u16], from: &[u64], named: &mut [u64])
+    requires { ⌜ (sound (now a) ≡ true) × (length (now from) ≡ 8) × (length (now named) ≡ 8) ⌝ }
+    ensures { λ _. ⌜ Joins (namedBy (pageOf (now (a .entry))) (now (from .entry))) (now (named .entry)) (now (named .exit)) ⌝ }
+{
+    let mut left = a[2];
+    let mut line = page::Cursor::first(a);
+    while 0 < left {
+        let at = line.at;
+        if bits::contains(from, a[at]) {
+            insert_line(a, at, named);
+        }
+        line = line.next(a);
+        left -= 1;
+    }
+}
+
+// A pass. What the conditions of `fresh` name is found; answers which of it is new. Those found earlier were followed by earlier passes.
+fn pass(a: &[u16], fresh: &[u64], found: &mut [u64]) -> [u64; 8]
+    requires { ⌜ (sound (now a) ≡ true) × (length (now fresh) ≡ 8) × (length (now found) ≡ 8) ⌝ }
+    ensures { λ r. ⌜ Passed (pageOf (now (a .entry))) (now (fresh .entry)) (now (found .entry)) (now (found .exit)) r ⌝ }
+{
+    let mut named = [0u64; 8];
+    scan(a, fresh, &mut named);
+    let mut new = [0u64; 8];
+    bits::absorb(&named, found, &mut new);
+    new
+}
+
+// A set of conditions, and the count of passes that found it.
+struct Found {
+    set: [u64; 8],
+    passes: u32,
+}
+
+// The closure of the queries, in passes: the first that adds none is the last.
+fn find(a: &[u16], queries: &[u16]) -> Found
     requires { ⌜ (sound (now a) ≡ true) × (allUnder (conditionsOf (now a)) (now queries) ≡ true) ⌝ }
-    ensures { λ r. ⌜ Followed (pageOf (now (a .entry))) (now (queries .entry)) (r .set) (r .reached) (r .edges) ⌝ }
+    ensures { λ r. ⌜ FoundIn (pageOf (now (a .entry))) (now (queries .entry)) (r .set) (r .passes) ⌝ }
 {
     let mut set = [0u64; 8];
     insert_queries(queries, &mut set);
-    let mut waiting = set;
-    let mut visited: u32 = 0;
-    let mut edges: u32 = 0;
+    let mut fresh = set;
+    let mut passes: u32 = 0;
     loop {
-        let c = bits::lowest_in(&waiting);
-        if 512 <= c {
-            return Closure {
-                set,
-                reached: visited,
-                edges,
-            };
+        fresh = pass(a, &fresh, &mut set);
+        passes += 1;
+        if 512 <= bits::lowest_in(&fresh) {
+            return Found { set, passes };
         }
-        edges += visit(a, c, &mut set, &mut waiting);
-        visited += 1;
     }
 }
 
@@ -231,6 +276,7 @@ pub enum OpenAnswer {
         reached: u32,
         edges: u32,
         bound: u32,
+        passes: u32,
     },
 }
 
@@ -242,10 +288,11 @@ fn open_accepted(page: &[u16], queries: &[u16], run: &mut [u16]) -> OpenAnswer
 {
     let top = page[0];
     let n = page[1];
-    let closure = follow(page, queries);
+    let closure = find(page, queries);
     let set = closure.set;
-    let reached = closure.reached;
-    let edges = closure.edges;
+    let counts = count_edges(page, &set);
+    let reached = counts.reached;
+    let edges = counts.edges;
     let mut marks = [false; 512];
     mark_set(&set, n, &mut marks);
     write_run(run, n, top, &marks);
@@ -253,6 +300,7 @@ fn open_accepted(page: &[u16], queries: &[u16], run: &mut [u16]) -> OpenAnswer
         reached,
         edges,
         bound: bound_of(reached, top, edges),
+        passes: closure.passes,
     }
 }
 
