@@ -96,6 +96,7 @@ extern "C" {
         reached: *mut u32,
         edges: *mut u32,
         bound: *mut u32,
+        passes: *mut u32,
     ) -> i32;
 
     pub fn simjorad_evaluate(
