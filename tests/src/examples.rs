@@ -186,7 +186,7 @@ fn exported_functions(_: &mut Trial, _: u64) -> Check {
 }
 
 /// The version of the header and a fingerprint of what it declares. A change of either asks for the other.
-const VERSION: (usize, u64) = (1, 5_936_916_236_464_936_633);
+const VERSION: (usize, u64) = (6, 3_686_452_465_224_096_729);
 
 /// What a program may depend on: the figures but those of stack, and the declarations.
 fn version(_: &mut Trial, _: u64) -> Check {
