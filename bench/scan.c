@@ -230,56 +230,14 @@ size_t scan_show_line(const uint8_t *text, size_t text_length, size_t number, si
 
 /* ---- The plain reading ---- */
 
-/* Finds the reached conditions in passes; found[c] is the pass after which c is followed, 0 if it is not reached. Returns the count of passes. */
-static unsigned find(const uint16_t *page, const uint16_t *queries, size_t queries_length, uint16_t *found)
-{
-    const uint16_t *p, *literal, *after, *end = page + page[3];
-    unsigned passes = 0, more;
-    size_t i;
-
-    for (i = 0; i < queries_length; i++)
-        found[queries[i]] = 1;
-    do {
-        passes++;
-        more = 0;
-        for (p = page + HEAD; p < end; p = next_line(p)) {
-            if (found[p[0]] != passes || !is_rule(p))
-                continue;
-            for (literal = p + 4, after = literal + p[3]; literal < after; literal++)
-                if (!found[*literal >> 1]) {
-                    found[*literal >> 1] = passes + 1;
-                    more = 1;
-                }
-        }
-    } while (more);
-    return passes;
-}
-
-/* How many conditions the rules of c name. */
-static inline unsigned named_by(const uint16_t *page, unsigned c)
-{
-    uint64_t named[WORDS_MAX] = { 0 }, bit;
-    const uint16_t *p, *end = page + page[3];
-    unsigned e = 0, i, b;
-
-    for (p = page + HEAD; p < end; p = next_line(p)) {
-        if (p[0] != c || !is_rule(p))
-            continue;
-        for (i = 0; i < p[3]; i++) {
-            b = p[4 + i] >> 1;
-            bit = (uint64_t)1 << b % 64;
-            e += !(named[b / 64] & bit);
-            named[b / 64] |= bit;
-        }
-    }
-    return e;
-}
-
 int32_t scan_open(const uint16_t *page, size_t page_length, const uint16_t *queries, size_t queries_length,
                   uint16_t *run, size_t run_length, uint32_t *reached, uint32_t *edges, uint32_t *bound, uint32_t *passes)
 {
-    uint16_t found[CONDITIONS_MAX] = { 0 };
-    unsigned top, count, c, r = 0, e = 0;
+    uint16_t stack[CONDITIONS_MAX];                 /* the reached conditions; those from `next` on are still to do */
+    uint8_t seen[CONDITIONS_MAX] = { 0 };
+    uint64_t named[WORDS_MAX];
+    const uint16_t *p, *end;
+    unsigned top, count, c, next = 0, stop, length = 0, e = 0, k = 0, i, b;
     int fault;
 
     if (!page_sound(page, page_length))
@@ -289,19 +247,41 @@ int32_t scan_open(const uint16_t *page, size_t page_length, const uint16_t *quer
         return -fault;
     if (run_length < 3 * count)
         return -13;
-    *passes = find(page, queries, queries_length, found);
+    for (i = 0; i < queries_length; i++)
+        if (!seen[queries[i]]) {
+            seen[queries[i]] = 1;
+            stack[length++] = queries[i];
+        }
+    end = page + page[3];
+    for (; next < length; k++)                      /* a pass follows what was found before it */
+        for (stop = length; next < stop; next++) {
+            c = stack[next];
+            memset(named, 0, sizeof named);
+            for (p = page + HEAD; p < end; p = next_line(p)) {
+                if (p[0] != c || !is_rule(p))
+                    continue;
+                for (i = 0; i < p[3]; i++) {
+                    b = p[4 + i] >> 1;
+                    if (named[b / 64] >> b % 64 & 1)
+                        continue;
+                    named[b / 64] |= (uint64_t)1 << b % 64;
+                    e++;
+                    if (!seen[b]) {
+                        seen[b] = 1;
+                        stack[length++] = b;
+                    }
+                }
+            }
+        }
     for (c = 0; c < count; c++, run += 3) {
         run[0] = 0;
         run[1] = top;
-        run[2] = found[c] ? 2 : 0;
-        if (found[c]) {
-            r++;
-            e += named_by(page, c);
-        }
+        run[2] = seen[c] ? 2 : 0;
     }
-    *reached = r;
+    *reached = length;
     *edges = e;
-    *bound = r + top * e;
+    *bound = length + top * e;
+    *passes = k;
     return 0;
 }
 

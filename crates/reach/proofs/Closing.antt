@@ -3,16 +3,14 @@ use mathlib.Core.Path.{_≡_, sym, _∙_, ap}
 use mathlib.Core.Logic.{_≢_, inl, inr}
 use mathlib.Core.Bool.{Bool, true, false, _||_, false≢true}
 use mathlib.Core.List.{List, [], _∷_}
-use Prim.Native.Nat.{ℕ, _*_, _≤_, _<_}
-use native.Mathlib.Nat.{mul-le-mul}
+use Prim.Native.Nat.{ℕ, _<_}
 use native.Mathlib.Decide.{decLe}
 use native.Mathlib.Omega.{arith}
 use lib.Dec.{eqb, ltb}
 use lib.ListN.{length, List·getD-eq-default}
 use borrow.Author.Tests.{eqb-true, ltb-true}
 use Rattle.fixpoint.specs.ChaoticIteration.{DependencyClosed}
-use Rattle.fixpoint.specs.Sum.{sum, count}
-use Rattle.fixpoint.proofs.Sum.{sum-le, sum-const}
+use Rattle.fixpoint.specs.Sum.{count}
 use Rattle.semantics.specs.Area.{allUnder}
 use Rattle.semantics.specs.Page.{Page, names}
 use Rattle.semantics.proofs.Proper.{Proper}
@@ -38,10 +36,6 @@ asked-in n (x ∷ xs) e c h =
       | inl q ↦ omega (arith, ltb-true x n (b .0), eqb-true x c q)
       | inr q ↦ asked-in n xs (b .1) c q
     ]
-
--- a sum of at most 512 counts
-pub sum-few : (n : ℕ) (f : ℕ → ℕ) → n ≤ 512 → ((c : ℕ) → f c ≤ n) → sum n f ≤ 512 * 512
-sum-few n f l h = omega (arith, sum-le n f (λ c. n) (λ c k. h c), sum-const n n, mul-le-mul l l)
 
 module _ (page : Page) (qs : List ℕ) where
   abbrev n : ℕ

@@ -2,7 +2,7 @@
 use mathlib.Core.Path.{_≡_, refl, sym, _∙_, ap}
 use mathlib.Core.Bool.{Bool, true, false, cond, _&&_, and-false}
 use mathlib.Core.List.{List}
-use Prim.Native.Nat.{ℕ, suc, _+_, _*_, _≤_, _<_}
+use Prim.Native.Nat.{ℕ, _*_, _≤_, _<_}
 use native.Mathlib.Nat.{mul-le-mul}
 use native.Mathlib.Omega.{arith}
 use Rattle.fixpoint.specs.Sum.{sum, bit, count}
@@ -12,45 +12,31 @@ use Rattle.semantics.specs.Reading.{closure, countR, countE}
 use Rattle.semantics.specs.Table.{member}
 use Rattle.semantics.proofs.Closure.{reached-closed}
 use Rattle.bits.specs.Words.{has}
-use Rattle.reach.specs.Sets.{ClosureSet, CountedUpTo}
+use Rattle.reach.specs.Sets.{ClosureSet, Counted}
 use Rattle.reach.proofs.Inserting.{size-most}
 
--- a sum of at most 512 counts
-sum-few : (n m : ℕ) (f : ℕ → ℕ) → n ≤ 512 → m ≤ 512 → ((c : ℕ) → f c ≤ m) → sum n f ≤ 512 * 512
-sum-few n m f l k h = omega (arith, sum-le n f (λ c. m) (λ c k. h c), sum-const n m, mul-le-mul l k)
+-- of at most 512 conditions, those with p are no more than 512, and name no more than 512 each
+pub set-few : (page : Page) (p : ℕ → Bool) → page .conditions ≤ 512
+    → (count (page .conditions) p ≤ 512) × (sum (page .conditions) (λ c. cond (p c) (count (page .conditions) (names page c)) 0) ≤ 512 * 512)
+set-few page p l = (
+  omega (arith, size-most (page .conditions) p),
+  omega (
+    arith,
+    sum-le (page .conditions) (λ c. cond (p c) (count (page .conditions) (names page c)) 0) (λ c. page .conditions) (λ c m. go c (p c)),
+    sum-const (page .conditions) (page .conditions),
+    mul-le-mul l l,
+  ),
+)
+  where
+    go : (c : ℕ) (t : Bool) → cond t (count (page .conditions) (names page c)) 0 ≤ page .conditions
+    go c true = size-most (page .conditions) (names page c)
+    go c false = omega arith
 
-module _ (page : Page) (words : List ℕ) where
-  abbrev degree : ℕ → ℕ
-  degree c = count (page .conditions) (names page c)
-
-  pub counted-first : CountedUpTo page words 0 0 0
-  unfolding sum
-  counted-first = record { reached-is = refl; edges-is = refl }
-
-  module _ {c r e : ℕ} (h : CountedUpTo page words c r e) where
-    -- c is in the set, or it is not
-    pub counted-next : {d : ℕ} → has words c ≡ true → d ≡ degree c → CountedUpTo page words (c + 1) (r + 1) (e + d)
-    counted-next t q =
-        let s : c + 1 ≡ suc c = omega arith in
-        rw s (unfold sum in record { reached-is = omega (arith, h .reached-is, ap bit t); edges-is = omega (arith, h .edges-is, q, ap (λ (x : Bool). cond x (degree c) 0) t) })
-
-    pub counted-skip : has words c ≡ false → CountedUpTo page words (c + 1) r e
-    counted-skip t =
-        let s : c + 1 ≡ suc c = omega arith in
-        rw s (unfold sum in record { reached-is = omega (arith, h .reached-is, ap bit t); edges-is = omega (arith, h .edges-is, ap (λ (x : Bool). cond x (degree c) 0) t) })
-
-    pub counted-few : c ≤ 512 → page .conditions ≤ 512 → (r ≤ 512) × (e ≤ 512 * 512)
-    counted-few l m = (
-      omega (arith, h .reached-is, size-most c (has words)),
-      omega (arith, h .edges-is, sum-few c (page .conditions) (λ k. cond (has words k) (degree k) 0) l m (λ k. go k (has words k))),
-    )
-      where
-        go : (k : ℕ) (t : Bool) → cond t (degree k) 0 ≤ page .conditions
-        go k true = size-most (page .conditions) (names page k)
-        go k false = omega arith
+pub counted-few : (page : Page) (words : List ℕ) {r e : ℕ} → Counted page words r e → page .conditions ≤ 512 → (r ≤ 512) × (e ≤ 512 * 512)
+counted-few page words h l = let f = set-few page (has words) l in (omega (arith, h .reached-is, f .0), omega (arith, h .edges-is, f .1))
 
 -- of the closure they are R and E
-module _ (page : Page) (qs : List ℕ) {words : List ℕ} {r e : ℕ} (most : page .conditions ≤ 512) (s : ClosureSet page qs words) (h : CountedUpTo page words (page .conditions) r e) where
+module _ (page : Page) (qs : List ℕ) {words : List ℕ} {r e : ℕ} (most : page .conditions ≤ 512) (s : ClosureSet page qs words) (h : Counted page words r e) where
   abbrev n : ℕ
   n = page .conditions
 

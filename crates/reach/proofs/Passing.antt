@@ -1,16 +1,18 @@
--- The passes of an opening: one scan each, until one adds none. Assumes nothing.
+-- The passes of an opening: each follows what the one before it added, with one scan for each condition. Assumes nothing.
 use mathlib.Core.Path.{_≡_, refl, sym, _∙_, ap}
 use mathlib.Core.Logic.{_≢_, inl, inr}
-use mathlib.Core.Bool.{Bool, true, false, not, _&&_, _||_, or-true, and-false, true≢false, false≢true}
+use mathlib.Core.Bool.{Bool, true, false, cond, not, _&&_, _||_, or-true, or-false, and-true, and-false, true≢false, false≢true}
 use mathlib.Core.List.{List}
-use Prim.Native.Nat.{ℕ, zero, suc, _+_, _-_, _≤_, _<_}
-use native.Mathlib.Decide.{decLe}
+use Prim.Native.Nat.{ℕ, zero, suc, _+_, _-_, _*_, _≤_, _<_}
+use native.Mathlib.Decide.{decLe, ℕ-discrete}
 use native.Mathlib.Omega.{arith}
 use lib.Dec.{eqb}
-use lib.ListN.{length, getD, drop, List·getD-eq-default}
-use borrow.Author.Tests.{eqb-true, eq-eqb}
-use Rattle.semantics.specs.Area.{sound, firstLine, pageOf, lineAt, countOf, allUnder}
-use Rattle.semantics.specs.Page.{Page, Line, names, linesName}
+use lib.ListN.{length, List·getD-eq-default}
+use borrow.Author.Tests.{eq-eqb, ne-eqb}
+use Rattle.fixpoint.specs.Sum.{sum, bit, count}
+use Rattle.fixpoint.proofs.Sum.{sum-eq, sum-add, sum-zero}
+use Rattle.semantics.specs.Area.{allUnder}
+use Rattle.semantics.specs.Page.{Page, names}
 use Rattle.semantics.specs.Reading.{adds, passes, pass, closure}
 use Rattle.semantics.specs.Table.{member, listed, anyBelow}
 use Rattle.semantics.proofs.Closure.{at, at-first, at-next, at-length, adds-still, adding-few, found-all}
@@ -18,110 +20,175 @@ use Rattle.semantics.proofs.Proper.{Proper}
 use Rattle.semantics.proofs.Readings.{names-inside}
 use Rattle.semantics.proofs.Soundness.{both-true}
 use Rattle.semantics.proofs.Table.{or-cases, any-true, any-found}
-use Rattle.page.specs.Lines.{Next, lineNames}
-use Rattle.page.proofs.Naming.{lines-name}
-use Rattle.page.proofs.Scanning.{Scanning, linesLeft, scanning-first, lines-first, scanning-moved, lines-moved, lines-none}
 use Rattle.index.specs.Groups.{Cleared}
-use Rattle.bits.specs.Words.{has, Absorbed}
-use Rattle.reach.specs.Sets.{Joins, Inserts, namedBy, Passed, FoundIn}
+use Rattle.bits.specs.Words.{has, Removed}
+use Rattle.reach.specs.Sets.{Joins, Inside, Followed, namedBy, Passed, FoundIn, Counted}
 use Rattle.reach.proofs.Closing.{queries-in, asked-in}
-use Rattle.reach.proofs.Inserting.{Joining, joining-first, joining-next, joining-skip, joining-last}
+use Rattle.reach.proofs.Counting.{set-few}
+use Rattle.reach.proofs.Inserting.{sum-grown, size-most}
 use Rattle.reach.proofs.Naming.{iff-eq}
 use Rattle.reach.proofs.Visiting.{blank-none}
 
--- of the conditions of a set, the one at the head of a line and the others
-any-head : (n : ℕ) (s : ℕ → Bool) (head : ℕ) (t : Bool) (r : ℕ → Bool) → head < n
-    → anyBelow n (λ x. s x && ((eqb head x && t) || r x)) ≡ ((s head && t) || anyBelow n (λ x. s x && r x))
-any-head n s head t r l = iff-eq _ _ there back
+-- one more is followed
+any-more : (n c : ℕ) (p p′ q : ℕ → Bool) → c < n → p c ≡ false → p′ c ≡ true → ((k : ℕ) → k < n → k ≢ c → p′ k ≡ p k)
+    → anyBelow n (λ a. p′ a && q a) ≡ (q c || anyBelow n (λ a. p a && q a))
+any-more n c p p′ q l no-c yes-c other = iff-eq _ _ there back
   where
-    there : anyBelow n (λ x. s x && ((eqb head x && t) || r x)) ≡ true → ((s head && t) || anyBelow n (λ x. s x && r x)) ≡ true
+    there : anyBelow n (λ a. p′ a && q a) ≡ true → (q c || anyBelow n (λ a. p a && q a)) ≡ true
     there e =
-        let f = any-found n (λ x. s x && ((eqb head x && t) || r x)) e in
-        let g = both-true (s (f .0)) ((eqb head (f .0) && t) || r (f .0)) (f .2) in
-        elim (or-cases (eqb head (f .0) && t) (r (f .0)) (g .1)) [
-          | inl h ↦ let b = both-true (eqb head (f .0)) t h in rw (eqb-true head (f .0) (b .0), g .0, b .1)
-          | inr h ↦ rw (any-true n (λ x. s x && r x) (f .0) (f .1) (rw (g .0, h)), or-true)
+        let f = any-found n (λ a. p′ a && q a) e in
+        let b = both-true (p′ (f .0)) (q (f .0)) (f .2) in
+        elim (ℕ-discrete (f .0) c) [
+          | yes i ↦ rw (ap q (sym i) ∙ b .1)
+          | no i ↦ rw (any-true n (λ a. p a && q a) (f .0) (f .1) (rw (sym (other (f .0) (f .1) i) ∙ b .0, b .1)), or-true)
         ]
 
-    back : ((s head && t) || anyBelow n (λ x. s x && r x)) ≡ true → anyBelow n (λ x. s x && ((eqb head x && t) || r x)) ≡ true
+    back : (q c || anyBelow n (λ a. p a && q a)) ≡ true → anyBelow n (λ a. p′ a && q a) ≡ true
     back e =
-        elim (or-cases (s head && t) (anyBelow n (λ x. s x && r x)) e) [
-          | inl h ↦ let b = both-true (s head) t h in any-true n (λ x. s x && ((eqb head x && t) || r x)) head l (rw (b .0, b .1, eq-eqb head head refl))
+        elim (or-cases (q c) (anyBelow n (λ a. p a && q a)) e) [
+          | inl h ↦ any-true n (λ a. p′ a && q a) c l (rw (yes-c, h))
           | inr h ↦
-              let f = any-found n (λ x. s x && r x) h in
-              let b = both-true (s (f .0)) (r (f .0)) (f .2) in
-              any-true n (λ x. s x && ((eqb head x && t) || r x)) (f .0) (f .1) (rw (b .0, b .1, or-true))
+              let f = any-found n (λ a. p a && q a) h in
+              let b = both-true (p (f .0)) (q (f .0)) (f .2) in
+              any-true n (λ a. p′ a && q a) (f .0) (f .1) (rw (other (f .0) (f .1) (λ i. true≢false (sym (b .0) ∙ ap p i ∙ no-c)) ∙ b .0, b .1))
         ]
 
 any-none : (n : ℕ) (p : ℕ → Bool) → ((x : ℕ) → p x ≡ false) → anyBelow n p ≡ false
 any-none n p h = iff-eq _ _ (λ e. let f = any-found n p e in absurd (true≢false (sym (f .2) ∙ h (f .0)))) (λ e. absurd (false≢true e))
 
--- the scan stands at `at`, behind k lines
-module _ (a : List ℕ) (from words₀ : List ℕ) where
-  -- what the lines still to come add
-  abbrev ahead : ℕ → ℕ → ℕ → Bool
-  ahead at k b = anyBelow (pageOf a .conditions) (λ x. has from x && linesName (linesLeft a at k) x b)
+-- with f, n and m for whether a condition was found before the pass, is named by one that was followed, and by the next one
+found-more : (f n m : Bool) → ((f || n) || m) ≡ (f || (m || n))
+found-more true n m = refl
+found-more false true true = refl
+found-more false true false = refl
+found-more false false m = sym (or-false m)
 
-  pub record Passing (words : List ℕ) (at k : ℕ) : Type 0 where
-    pub scan : Scanning a at k
-    pub joining : Joining (namedBy (pageOf a) from) (ahead at k) words₀ words
+new-more : (f n m : Bool) → ((n && not f) || (m && not (f || n))) ≡ ((m || n) && not f)
+new-more true n m = rw (and-false n, and-false m, and-false (m || n))
+new-more false true true = refl
+new-more false true false = refl
+new-more false false true = refl
+new-more false false false = refl
 
-  pub passing-first : sound a ≡ true → length words₀ ≡ 8 → {at k : ℕ} → (at ≡ firstLine a) × (k ≡ 0) → Passing words₀ at k
-  passing-first e s {at} {k} z =
-      rw (z .0, z .1)
-      (record {
-        scan = scanning-first a e;
-        joining = joining-first s (λ b. ap (λ (ls : List Line). anyBelow (pageOf a .conditions) (λ x. has from x && linesName ls x b)) (sym (lines-first a)));
-      })
+-- a condition is done if it was fresh and is so no longer
+abbrev done : List ℕ → List ℕ → ℕ → Bool
+done fresh rest c = has fresh c && not (has rest c)
 
-  module _ {words : List ℕ} {at k at′ k′ : ℕ} (s : Passing words at k) (l : k < countOf a) (e : Next a at k at′ k′) (real : getD a at 0 < pageOf a .conditions) where
-    abbrev head : ℕ
-    head = getD a at 0
+none-done : (t : Bool) → (t && not t) ≡ false
+none-done true = refl
+none-done false = refl
 
-    abbrev line : Line
-    line = lineAt (drop at a)
+-- the loop of a pass: r conditions are done, which name e
+module _ (page : Page) (fresh found₀ : List ℕ) where
+  abbrev degree : ℕ → ℕ
+  degree c = count (page .conditions) (names page c)
 
-    ahead-is : (b : ℕ) → ahead at k b ≡ ((has from head && lineNames line b) || ahead at′ k′ b)
-    ahead-is b =
-        ap (λ (f : ℕ → Bool). anyBelow (pageOf a .conditions) (λ x. has from x && f x))
-        (λ i x. (ap (λ (ls : List Line). linesName ls x b) (lines-moved a (s .scan) l e) ∙ lines-name a at x b (linesLeft a at′ k′)) i)
-        ∙ any-head (pageOf a .conditions) (has from) head (lineNames line b) (λ x. linesName (linesLeft a at′ k′) x b) real
+  -- what those name that are done
+  abbrev reaching : List ℕ → ℕ → Bool
+  reaching rest b = anyBelow (page .conditions) (λ a. done fresh rest a && names page a b)
 
-    pub passing-next : {words′ : List ℕ} {added : ℕ} → has from head ≡ true → Inserts (lineNames line) words words′ added → Passing words′ at′ k′
-    passing-next here h =
-        record {
-          scan = scanning-moved a (s .scan) l e;
-          joining = joining-next (s .joining) (h .joins) (λ b. ahead-is b ∙ ap (λ (t : Bool). (t && lineNames line b) || ahead at′ k′ b) here);
-        }
+  pub record Following (rest found new : List ℕ) (r e : ℕ) : Type 0 where
+    pub rest-size : length rest ≡ 8
+    pub found-size : length found ≡ 8
+    pub new-size : length new ≡ 8
+    pub inside : (c : ℕ) → c < 512 → has rest c ≡ true → has fresh c ≡ true
+    pub found-is : (c : ℕ) → c < 512 → has found c ≡ (has found₀ c || reaching rest c)
+    pub new-is : (c : ℕ) → c < 512 → has new c ≡ (reaching rest c && not (has found₀ c))
+    pub reached-is : r ≡ count (page .conditions) (done fresh rest)
+    pub edges-is : e ≡ sum (page .conditions) (λ c. cond (done fresh rest c) (degree c) 0)
 
-    pub passing-skip : has from head ≡ false → Passing words at′ k′
-    passing-skip away =
-        record {
-          scan = scanning-moved a (s .scan) l e;
-          joining = joining-skip (s .joining) (λ b. ahead-is b ∙ ap (λ (t : Bool). (t && lineNames line b) || ahead at′ k′ b) away);
-        }
-
-  pub passing-last : {words : List ℕ} {at k : ℕ} → Passing words at k → countOf a ≤ k → Joins (namedBy (pageOf a) from) words₀ words
-  unfolding linesName
-  passing-last {at = at} {k = k} s l =
-      joining-last (s .joining) (λ b. any-none (pageOf a .conditions) _ (λ x. ap (λ (ls : List Line). has from x && linesName ls x b) (lines-none a at k l) ∙ and-false (has from x)))
-
--- a pass: what is named is put into an empty set, and that into what is found
-module _ (page : Page) (fresh : List ℕ) {found found′ blank named new blank′ : List ℕ} (empty : Cleared blank) (clear : Cleared blank′) (h : Joins (namedBy page fresh) blank named) (j : Absorbed named found blank′ found′ new) where
-  named-is : (c : ℕ) → c < 512 → has named c ≡ namedBy page fresh c
-  named-is c l = h .is c l ∙ ap (λ (t : Bool). t || namedBy page fresh c) (blank-none blank empty c)
-
-  pub passed : Passed page fresh found found′ new
-  passed =
+  pub following-first : {blank : List ℕ} → length fresh ≡ 8 → length found₀ ≡ 8 → length blank ≡ 8 → Cleared blank → Following fresh found₀ blank 0 0
+  following-first {blank} s t u z =
       record {
-        found-size = j .reached-size;
-        fresh-size = j .waiting-size;
-        found-is = λ c l. j .reached-is c l ∙ ap (λ (t : Bool). has found c || t) (named-is c l);
-        fresh-is = λ c l.
-            j .waiting-is c l
-            ∙ ap (λ (t : Bool). t || (has named c && not (has found c))) (blank-none blank′ clear c)
-            ∙ ap (λ (t : Bool). t && not (has found c)) (named-is c l);
+        rest-size = s;
+        found-size = t;
+        new-size = u;
+        inside = λ c l e. e;
+        found-is = λ c l. rw (nobody c, or-false (has found₀ c));
+        new-is = λ c l. rw (blank-none blank z c, nobody c);
+        reached-is = sym (sum-eq (page .conditions) _ (λ c. 0) (λ c l. ap bit (none-done (has fresh c))) ∙ sum-zero (page .conditions));
+        edges-is = sym (sum-eq (page .conditions) _ (λ c. 0) (λ c l. ap (λ (t : Bool). cond t (degree c) 0) (none-done (has fresh c))) ∙ sum-zero (page .conditions));
       }
+    where
+      nobody : (b : ℕ) → reaching fresh b ≡ false
+      nobody b = any-none (page .conditions) _ (λ x. rw (none-done (has fresh x)))
+
+  module _ (most : page .conditions ≤ 512) {rest found new : List ℕ} {r e : ℕ} (f : Following rest found new r e) where
+    pub following-few : (r ≤ page .conditions) × (e ≤ 512 * 512)
+    following-few = (omega (arith, f .reached-is, size-most (page .conditions) (done fresh rest)), omega (arith, f .edges-is, set-few page (done fresh rest) most .1))
+
+    -- one of the fresh ones is followed
+    module _ (c d : ℕ) (rest′ found′ new′ : List ℕ) (l : c < page .conditions) (h : has rest c ≡ true) (x : Removed c rest rest′) (v : Followed page c found new found′ new′ d) where
+      few : {k : ℕ} → k < page .conditions → k < 512
+      few m = omega arith
+
+      not-done : done fresh rest c ≡ false
+      not-done = rw (h, and-false)
+
+      now-done : done fresh rest′ c ≡ true
+      now-done = rw (x .1 c (few l), eq-eqb c c refl, f .inside c (few l) h, and-false (has rest c))
+
+      as-before : (k : ℕ) → k < page .conditions → k ≢ c → done fresh rest′ k ≡ done fresh rest k
+      as-before k m i = rw (x .1 k (few m), ne-eqb k c i, and-true (has rest k))
+
+      reaching-more : (b : ℕ) → reaching rest′ b ≡ (names page c b || reaching rest b)
+      reaching-more b = any-more (page .conditions) c (done fresh rest) (done fresh rest′) (λ a. names page a b) l not-done now-done as-before
+
+      pub following-next : Following rest′ found′ new′ (r + 1) (e + d)
+      following-next =
+          record {
+            rest-size = x .0;
+            found-size = v .found-size;
+            new-size = v .new-size;
+            inside = λ k m q. f .inside k m (both-true (has rest k) (not (eqb k c)) (sym (x .1 k m) ∙ q) .0);
+            found-is = λ k m. rw (v .found-is k m, f .found-is k m, reaching-more k) (found-more (has found₀ k) (reaching rest k) (names page c k));
+            new-is = λ k m. rw (v .new-is k m, f .new-is k m, f .found-is k m, reaching-more k) (new-more (has found₀ k) (reaching rest k) (names page c k));
+            reached-is = omega (arith, f .reached-is, sum-grown (page .conditions) (λ k. bit (done fresh rest k)) (λ k. bit (done fresh rest′ k)) c 1 l (rw (now-done, not-done)) (λ k m i. ap bit (as-before k m i)));
+            edges-is = omega (
+              arith,
+              f .edges-is,
+              sum-grown (page .conditions) (λ k. cond (done fresh rest k) (degree k) 0) (λ k. cond (done fresh rest′ k) (degree k) 0) c d l
+                  (rw (now-done, not-done) (omega (arith, v .edges-is))) (λ k m i. ap (λ (t : Bool). cond t (degree k) 0) (as-before k m i)),
+            );
+          }
+
+    -- none is left
+    module _ (none : (c : ℕ) → c < 512 → has rest c ≡ false) where
+      all-done : (c : ℕ) → c < page .conditions → done fresh rest c ≡ has fresh c
+      all-done c l = let m : c < 512 = omega arith in rw (none c m, and-true (has fresh c))
+
+      all-reaching : (b : ℕ) → reaching rest b ≡ namedBy page fresh b
+      all-reaching b = iff-eq _ _ (λ q. moved (done fresh rest) (has fresh) (λ k m. all-done k m) q) (λ q. moved (has fresh) (done fresh rest) (λ k m. sym (all-done k m)) q)
+        where
+          moved : (p q : ℕ → Bool) → ((k : ℕ) → k < page .conditions → p k ≡ q k) → anyBelow (page .conditions) (λ a. p a && names page a b) ≡ true → anyBelow (page .conditions) (λ a. q a && names page a b) ≡ true
+          moved p q same i =
+              let g = any-found (page .conditions) (λ a. p a && names page a b) i in
+              any-true (page .conditions) (λ a. q a && names page a b) (g .0) (g .1) (ap (λ (t : Bool). t && names page (g .0) b) (sym (same (g .0) (g .1))) ∙ g .2)
+
+      pub following-last : Passed page fresh found₀ found new × Counted page fresh r e
+      following-last = (
+        record {
+          found-size = f .found-size;
+          fresh-size = f .new-size;
+          found-is = λ c l. f .found-is c l ∙ ap (λ (t : Bool). has found₀ c || t) (all-reaching c);
+          fresh-is = λ c l. f .new-is c l ∙ ap (λ (t : Bool). t && not (has found₀ c)) (all-reaching c);
+        },
+        record {
+          reached-is = f .reached-is ∙ sum-eq (page .conditions) _ _ (λ c l. ap bit (all-done c l));
+          edges-is = f .edges-is ∙ sum-eq (page .conditions) _ _ (λ c l. ap (λ (t : Bool). cond t (degree c) 0) (all-done c l));
+        },
+      )
+
+-- of those with p, those with q and the others
+sum-split : (n : ℕ) (h : ℕ → Bool → ℕ) (p q s : ℕ → Bool) → ((c : ℕ) → h c false ≡ 0) → ((c : ℕ) → c < n → s c ≡ (p c && not (q c))) → ((c : ℕ) → c < n → q c ≡ true → p c ≡ true)
+    → sum n (λ c. h c (p c)) ≡ sum n (λ c. h c (q c)) + sum n (λ c. h c (s c))
+sum-split n h p q s zeros is sub = sum-eq n _ _ (λ c l. rw (is c l) (go c (p c) (q c) (sub c l))) ∙ sum-add n (λ c. h c (q c)) (λ c. h c (s c))
+  where
+    go : (c : ℕ) (x y : Bool) → (y ≡ true → x ≡ true) → h c x ≡ h c y + h c (x && not y)
+    go c true true k = omega (arith, zeros c)
+    go c true false k = omega (arith, zeros c)
+    go c false true k = absurd (false≢true (k refl))
+    go c false false k = omega (arith, zeros c)
 
 -- what is found after k passes, and what the last of them added
 module _ (page : Page) (qs : List ℕ) where
@@ -133,12 +200,15 @@ module _ (page : Page) (qs : List ℕ) where
   earlier zero c = false
   earlier (suc k) c = member (at page qs k) c
 
-  pub record Finding (found fresh : List ℕ) (k : ℕ) : Type 0 where
+  -- r and e are R and E of those that were followed
+  pub record Finding (found fresh : List ℕ) (k r e : ℕ) : Type 0 where
     pub found-size : length found ≡ 8
     pub fresh-size : length fresh ≡ 8
     pub found-is : (c : ℕ) → c < 512 → has found c ≡ member (at page qs k) c
     pub fresh-is : (c : ℕ) → c < 512 → has fresh c ≡ (member (at page qs k) c && not (earlier k c))
     pub adding : (i : ℕ) → i < k → adds page (at page qs i) ≡ true
+    pub reached-is : r ≡ count n (earlier k)
+    pub edges-is : e ≡ sum n (λ c. cond (earlier k c) (count n (names page c)) 0)
 
   module _ (w : Proper page) (asked : allUnder (page .conditions) qs ≡ true) where
     small : {c : ℕ} → c < n → c < 512
@@ -148,7 +218,7 @@ module _ (page : Page) (qs : List ℕ) where
     beyond : (k c : ℕ) → n ≤ c → member (at page qs k) c ≡ false
     beyond k c l = List·getD-eq-default (at page qs k) false (omega (arith, at-length page qs k))
 
-    pub finding-first : {blank found : List ℕ} → Cleared blank → Joins (λ c. listed c qs) blank found → Finding found found 0
+    pub finding-first : {blank found : List ℕ} → Cleared blank → Joins (λ c. listed c qs) blank found → Finding found found 0 0 0
     finding-first {found = found} z h =
         record {
           found-size = h .size;
@@ -156,6 +226,8 @@ module _ (page : Page) (qs : List ℕ) where
           found-is = is;
           fresh-is = λ c l. is c l ∙ sym (and-not-false (member (at page qs 0) c));
           adding = λ i l. absurd (omega arith);
+          reached-is = sym (sum-zero n);
+          edges-is = sym (sum-zero n);
         }
       where
         and-not-false : (t : Bool) → (t && not false) ≡ t
@@ -173,7 +245,7 @@ module _ (page : Page) (qs : List ℕ) where
             none c m true e = absurd (omega (arith, asked-in n qs asked c e))
             none c m false e = refl
 
-    module _ {found fresh found′ fresh′ : List ℕ} {k : ℕ} (f : Finding found fresh k) (p : Passed page fresh found found′ fresh′) where
+    module _ {found fresh found′ fresh′ : List ℕ} {k r e r′ e′ : ℕ} (f : Finding found fresh k r e) (p : Passed page fresh found found′ fresh′) (h : Counted page fresh r′ e′) where
       -- what was found before pass k named only what is found now
       followed : (k : ℕ) (a b : ℕ) → a < n → b < n → earlier k a ≡ true → names page a b ≡ true → member (at page qs k) b ≡ true
       followed zero a b l m e q = absurd (false≢true e)
@@ -248,8 +320,20 @@ module _ (page : Page) (qs : List ℕ) where
                 | no m ↦ omega arith
               ]
 
-      pub finding-next : (c : ℕ) → c < 512 → has fresh′ c ≡ true → Finding found′ fresh′ (k + 1)
-      finding-next c l e =
+      -- who was followed earlier is found
+      earlier-found : (k c : ℕ) → c < n → earlier k c ≡ true → member (at page qs k) c ≡ true
+      earlier-found zero c l q = absurd (false≢true q)
+      earlier-found (suc k) c l q = at-next page qs k c l ∙ rw q
+
+      -- this pass followed the others of those found before it
+      reached-now : r + r′ ≡ count n (member (at page qs k))
+      reached-now = omega (arith, f .reached-is, h .reached-is, sum-split n (λ c t. bit t) (member (at page qs k)) (earlier k) (has fresh) (λ c. refl) (λ c l. f .fresh-is c (small l)) (earlier-found k))
+
+      edges-now : e + e′ ≡ sum n (λ c. cond (member (at page qs k) c) (count n (names page c)) 0)
+      edges-now = omega (arith, f .edges-is, h .edges-is, sum-split n (λ c t. cond t (count n (names page c)) 0) (member (at page qs k)) (earlier k) (has fresh) (λ c. refl) (λ c l. f .fresh-is c (small l)) (earlier-found k))
+
+      pub finding-next : (c : ℕ) → c < 512 → has fresh′ c ≡ true → Finding found′ fresh′ (k + 1) (r + r′) (e + e′)
+      finding-next c l q =
           let s : k + 1 ≡ suc k = omega arith in
           rw s
           (record {
@@ -257,22 +341,50 @@ module _ (page : Page) (qs : List ℕ) where
             fresh-size = p .fresh-size;
             found-is = found-next;
             fresh-is = fresh-next;
-            adding = λ i m. elim (decLe k i) [ yes q ↦ ap (λ (j : ℕ). adds page (at page qs j)) (omega arith) ∙ adds-next c l e | no q ↦ f .adding i (omega arith) ];
+            adding = λ i m. elim (decLe k i) [ yes j ↦ ap (λ (j : ℕ). adds page (at page qs j)) (omega arith) ∙ adds-next c l q | no j ↦ f .adding i (omega arith) ];
+            reached-is = reached-now;
+            edges-is = edges-now;
           })
 
-      pub finding-last : ((c : ℕ) → c < 512 → has fresh′ c ≡ false) → FoundIn page qs found′ (k + 1)
+      pub finding-last : ((c : ℕ) → c < 512 → has fresh′ c ≡ false) → FoundIn page qs found′ (k + 1) × Counted page found′ (r + r′) (e + e′)
       finding-last none =
-          let s : k + 1 - 1 ≡ k = omega arith in
-          record {
-            set = record { size = p .found-size; same = λ c l. found-next c l ∙ ap (λ (m : List Bool). member m c) settled };
-            counted = record { some-pass = omega arith; last = ap (λ (j : ℕ). adds page (at page qs j)) s ∙ no-more; before = λ i l. f .adding i (omega arith) };
-          }
+          let s : k + 1 - 1 ≡ k = omega arith in (
+            record {
+              set = record { size = p .found-size; same = λ c l. found-next c l ∙ ap (λ (m : List Bool). member m c) settled };
+              counted = record { some-pass = omega arith; last = ap (λ (j : ℕ). adds page (at page qs j)) s ∙ no-more; before = λ i l. f .adding i (omega arith) };
+            },
+            record {
+              reached-is = reached-now ∙ sum-eq n _ _ (λ c l. ap bit (sym (same c l)));
+              edges-is = edges-now ∙ sum-eq n _ _ (λ c l. ap (λ (t : Bool). cond t (count n (names page c)) 0) (sym (same c l)));
+            },
+          )
         where
           no-more : adds page (at page qs k) ≡ false
           no-more = unfold adds passes in iff-eq _ _ (λ e. let g = any-found n (λ b. member (at page qs (suc k)) b && not (member (at page qs k) b)) e in absurd (true≢false (sym (fresh-next (g .0) (small (g .1)) ∙ g .2) ∙ none (g .0) (small (g .1))))) (λ e. absurd (false≢true e))
 
+          -- nothing was added
+          same : (c : ℕ) → c < n → has found′ c ≡ member (at page qs k) c
+          same c l = found-next c (small l) ∙ go (member (at page qs (suc k)) c) (member (at page qs k) c) (sym (fresh-next c (small l)) ∙ none c (small l)) (earlier-found (suc k) c l)
+            where
+              go : (x y : Bool) → (x && not y) ≡ false → (y ≡ true → x ≡ true) → x ≡ y
+              go true true q i = refl
+              go true false q i = absurd (true≢false q)
+              go false true q i = i refl
+              go false false q i = refl
+
           settled : at page qs (suc k) ≡ closure page qs
           settled = found-all page qs (suc k) (adds-still page qs k no-more)
 
-    pub finding-few : {found fresh : List ℕ} {k : ℕ} → Finding found fresh k → k ≤ n
-    finding-few {k = k} f = adding-few page qs k (f .adding)
+    module _ {found fresh : List ℕ} {k r e : ℕ} (f : Finding found fresh k r e) where
+      pub finding-few : k ≤ n
+      finding-few = adding-few page qs k (f .adding)
+
+      pub finding-counts : (r ≤ 512) × (e ≤ 512 * 512)
+      finding-counts = let g = set-few page (earlier k) (w .conditions-most) in (omega (arith, f .reached-is, g .0), omega (arith, f .edges-is, g .1))
+
+      -- the fresh ones are conditions
+      pub fresh-inside : Inside n fresh
+      fresh-inside = (f .fresh-size, λ c l q. real c (both-true (member (at page qs k) c) (not (earlier k c)) (sym (f .fresh-is c l) ∙ q) .0))
+        where
+          real : (c : ℕ) → member (at page qs k) c ≡ true → c < n
+          real c q = elim (decLe n c) [ yes m ↦ absurd (false≢true (sym (beyond k c m) ∙ q)) | no m ↦ omega arith ]

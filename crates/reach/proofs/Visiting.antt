@@ -1,4 +1,4 @@
--- A scan over the lines of one condition, and how many it names. Assumes nothing.
+-- A condition is followed: a scan over its lines, and how many conditions they name. Assumes nothing.
 use mathlib.Core.Path.{_≡_, refl, sym, _∙_, ap}
 use mathlib.Core.Logic.{_≢_}
 use mathlib.Core.Bool.{Bool, true, false, not, _&&_, _||_}
@@ -21,9 +21,9 @@ use Rattle.page.proofs.Naming.{lines-name}
 use Rattle.page.proofs.Scan.{entry-four, entry-head}
 use Rattle.page.proofs.Scanning.{Scanning, linesLeft, scanning-first, lines-first, scanning-moved, lines-moved, lines-none, entry-ok}
 use Rattle.index.specs.Groups.{Cleared}
-use Rattle.bits.specs.Words.{has}
+use Rattle.bits.specs.Words.{has, Absorbed}
 use Rattle.bits.proofs.Sets.{word-none}
-use Rattle.reach.specs.Sets.{Inserts}
+use Rattle.reach.specs.Sets.{Inserts, Followed}
 use Rattle.reach.proofs.Inserting.{Inserting, inserting-first, inserting-next, inserting-skip, inserting-last}
 
 -- the entry where a scan stands
@@ -97,7 +97,7 @@ module _ (a : List ℕ) (ok : sound a ≡ true) (c : ℕ) {blank named : List �
   named-is : (k : ℕ) → k < 512 → has named k ≡ names (pageOf a) c k
   named-is k l = h .joins .is k l ∙ ap (λ (t : Bool). t || names (pageOf a) c k) (blank-none blank empty k)
 
-  pub named-count : edges ≡ count (pageOf a .conditions) (names (pageOf a) c)
+  named-count : edges ≡ count (pageOf a .conditions) (names (pageOf a) c)
   named-count =
       let p = sound-proper a ok in
       let none : count 512 (has blank) ≡ 0 = sum-eq 512 _ (λ b. 0) (λ b k. ap bit (blank-none blank empty b)) ∙ sum-zero 512 in
@@ -106,3 +106,14 @@ module _ (a : List ℕ) (ok : sound a ≡ true) (c : ℕ) {blank named : List �
       = count-past (pageOf a .conditions) 512 (names (pageOf a) c) (p .conditions-most)
       (λ b k. not-so (names (pageOf a) c b) (λ q. let i = names-inside (pageOf a) p c b q in omega arith)) in
       omega (arith, h .counted)
+
+  -- and that set is put into what is found and what is new
+  pub followed : {found new found′ new′ : List ℕ} → Absorbed named found new found′ new′ → Followed (pageOf a) c found new found′ new′ edges
+  followed {found} {new} j =
+      record {
+        found-size = j .reached-size;
+        new-size = j .waiting-size;
+        found-is = λ k l. j .reached-is k l ∙ ap (λ (t : Bool). has found k || t) (named-is k l);
+        new-is = λ k l. j .waiting-is k l ∙ ap (λ (t : Bool). has new k || (t && not (has found k))) (named-is k l);
+        edges-is = named-count;
+      }

@@ -21,7 +21,7 @@ use Rattle.semantics.proofs.Closure.{pass-count-is, pass-count-one}
 use Rattle.semantics.proofs.Table.{getD-table}
 use Rattle.reach.specs.Marks.{Marks, ClosureMarks}
 use Rattle.reach.specs.Opening.{accepted, Written}
-use Rattle.reach.specs.Sets.{FoundIn, CountedUpTo}
+use Rattle.reach.specs.Sets.{FoundIn, Counted}
 use Rattle.reach.proofs.Counting.{counted-r, counted-e}
 use Rattle.worklist.specs.Evaluation.{stored}
 
@@ -103,7 +103,7 @@ opened-run page {s} {marks} {run} {run′} h l w =
 
 -- an accepted opening
 module _ (a qs run : List ℕ) where
-  pub accepted-answer : {words : List ℕ} {r e b k : ℕ} → conditionsOf a ≤ 512 → FoundIn (pageOf a) qs words k → CountedUpTo (pageOf a) words (conditionsOf a) r e → b ≡ r + topOf a * e
+  pub accepted-answer : {words : List ℕ} {r e b k : ℕ} → conditionsOf a ≤ 512 → FoundIn (pageOf a) qs words k → Counted (pageOf a) words r e → b ≡ r + topOf a * e
       → openedWith r e b k ≡ accepted a qs run .answer
   unfolding bound pageOf
   accepted-answer {b = b} l f h s =

@@ -22,6 +22,18 @@ pub record Inserts (f : ℕ → Bool) (before after : List ℕ) (added : ℕ) : 
   pub joins : Joins f before after
   pub counted : count 512 (has after) ≡ count 512 (has before) + added
 
+-- eight words whose conditions are below n
+abbrev pub Inside : ℕ → List ℕ → Type 0
+Inside n words = (length words ≡ 8) × ((c : ℕ) → c < 512 → has words c ≡ true → c < n)
+
+-- c is followed: what it names is found, and new if it was not found before; it names so many
+pub record Followed (page : Page) (c : ℕ) (found new found′ new′ : List ℕ) (edges : ℕ) : Type 0 where
+  pub found-size : length found′ ≡ 8
+  pub new-size : length new′ ≡ 8
+  pub found-is : (k : ℕ) → k < 512 → has found′ k ≡ (has found k || names page c k)
+  pub new-is : (k : ℕ) → k < 512 → has new′ k ≡ (has new k || (names page c k && not (has found k)))
+  pub edges-is : edges ≡ count (page .conditions) (names page c)
+
 -- what the R lines of the conditions of a set name
 abbrev pub namedBy : Page → List ℕ → ℕ → Bool
 namedBy page words b = anyBelow (page .conditions) (λ a. has words a && names page a b)
@@ -43,10 +55,10 @@ pub record FoundIn (page : Page) (qs words : List ℕ) (passes : ℕ) : Type 0 w
   pub set : ClosureSet page qs words
   pub counted : IsPassCount page qs passes
 
--- how many conditions below n are in the set, and how many each of them names, in all
-pub record CountedUpTo (page : Page) (words : List ℕ) (n reached edges : ℕ) : Type 0 where
-  pub reached-is : reached ≡ count n (has words)
-  pub edges-is : edges ≡ sum n (λ c. cond (has words c) (count (page .conditions) (names page c)) 0)
+-- how many conditions are in the set, and how many each of them names, in all
+pub record Counted (page : Page) (words : List ℕ) (reached edges : ℕ) : Type 0 where
+  pub reached-is : reached ≡ count (page .conditions) (has words)
+  pub edges-is : edges ≡ sum (page .conditions) (λ c. cond (has words c) (count (page .conditions) (names page c)) 0)
 
 -- the set grows by `new` conditions that its own name, directly or not; with none new it names only itself
 pub record Swept (page : Page) (before after : List ℕ) (new : ℕ) : Type 0 where

@@ -4,17 +4,17 @@ ghost use mathlib.Core.List.{map};
 ghost use Prim.Native.Nat.{_≤_, _+_, _-_, _<_, _*_};
 ghost use lib.Dec.{leb};
 ghost use lib.ListN.{length, getD, take, drop};
-ghost use Rattle.fixpoint.specs.Sum.{count};
 ghost use Rattle.semantics.specs.Area.{sound, lineAt, allUnder, literalOf, pageOf, topOf, conditionsOf, usedOf};
 ghost use Rattle.semantics.specs.Operation.{openOf};
 ghost use Rattle.semantics.specs.Page.{mentions, names};
 ghost use Rattle.semantics.specs.RunArea.{markOf};
 ghost use Rattle.semantics.specs.Table.{listed};
+ghost use Rattle.index.specs.Groups.{Cleared};
 ghost use Rattle.page.specs.Graded.{RuleAt, SoundEntry};
 ghost use Rattle.page.specs.Lines.{lineNames};
 ghost use Rattle.reach.specs.Opening.{openingOf, accepted, Written};
 ghost use Rattle.reach.specs.Marks.{Unmarked, ClosureMarks};
-ghost use Rattle.reach.specs.Sets.{Joins, Inserts, namedBy, Passed, ClosureSet, FoundIn, CountedUpTo, Swept, MarksBelow};
+ghost use Rattle.reach.specs.Sets.{Joins, Inserts, Inside, Followed, Passed, ClosureSet, FoundIn, Counted, Swept, MarksBelow};
 
 // Puts the queries into the set.
 fn insert_queries(queries: &[u16], words: &mut [u64])
@@ -74,89 +74,76 @@ fn insert_named(a: &[u16], c: u16, words: &mut [u64]) -> u32
     new
 }
 
-// How many conditions the R lines of c name.
-fn named_by(a: &[u16], c: u16) -> u32
-    requires { ⌜ sound (now a) ≡ true ⌝ }
-    ensures { λ r. ⌜ r ≡ count (conditionsOf (now (a .entry))) (names (pageOf (now (a .entry))) c) ⌝ }
+// Follows the condition c, in one scan. What its R lines name is found, and new if it was not found before; answers how many they name.
+fn follow(a: &[u16], c: u16, found: &mut [u64], new: &mut [u64]) -> u32
+    requires { ⌜ (sound (now a) ≡ true) × (length (now found) ≡ 8) × (length (now new) ≡ 8) ⌝ }
+    ensures { λ r. ⌜ Followed (pageOf (now (a .entry))) c (now (found .entry)) (now (new .entry)) (now (found .exit)) (now (new .exit)) r ⌝ }
 {
     let mut named = [0u64; 8];
-    insert_named(a, c, &mut named)
+    let edges = insert_named(a, c, &mut named);
+    bits::absorb(&named, found, new);
+    edges
 }
 
-// R and E of a set of conditions.
+// How many conditions a pass followed, and how many those name.
 struct Counts {
     reached: u32,
     edges: u32,
 }
 
-// Counts the conditions of the set, and what each names: one scan for each.
-fn count_edges(a: &[u16], set: &[u64]) -> Counts
-    requires { ⌜ (sound (now a) ≡ true) × (length (now set) ≡ 8) ⌝ }
-    ensures { λ r. ⌜ CountedUpTo (pageOf (now (a .entry))) (now (set .entry)) (conditionsOf (now (a .entry))) (r .reached) (r .edges) ⌝ }
+// A pass: it follows the conditions of `fresh`, takes them from that set, and puts what it adds into the empty set `new`.
+fn pass(a: &[u16], fresh: &mut [u64], found: &mut [u64], new: &mut [u64]) -> Counts
+    requires { ⌜ (sound (now a) ≡ true) × Inside (conditionsOf (now a)) (now fresh) × (length (now found) ≡ 8) × (length (now new) ≡ 8) × Cleared (now new) ⌝ }
+    ensures passed { λ _. ⌜ Passed (pageOf (now (a .entry))) (now (fresh .entry)) (now (found .entry)) (now (found .exit)) (now (new .exit)) ⌝ }
+    ensures counted { λ r. ⌜ Counted (pageOf (now (a .entry))) (now (fresh .entry)) (r .reached) (r .edges) ⌝ }
 {
-    let n = a[1];
     let mut reached: u32 = 0;
     let mut edges: u32 = 0;
-    let mut c: u16 = 0;
-    while c < n {
-        if bits::contains(set, c) {
-            edges += named_by(a, c);
-            reached += 1;
+    loop {
+        let c = bits::lowest_in(fresh);
+        if 512 <= c {
+            return Counts { reached, edges };
         }
-        c += 1;
-    }
-    Counts { reached, edges }
-}
-
-// Puts what the R lines of the conditions of `from` name into the set `named`, in one scan over the lines.
-fn scan(a: &[u16], from: &[u64], named: &mut [u64])
-    requires { ⌜ (sound (now a) ≡ true) × (length (now from) ≡ 8) × (length (now named) ≡ 8) ⌝ }
-    ensures { λ _. ⌜ Joins (namedBy (pageOf (now (a .entry))) (now (from .entry))) (now (named .entry)) (now (named .exit)) ⌝ }
-{
-    let mut left = a[2];
-    let mut line = page::Cursor::first(a);
-    while 0 < left {
-        let at = line.at;
-        if bits::contains(from, a[at]) {
-            insert_line(a, at, named);
-        }
-        line = line.next(a);
-        left -= 1;
+        bits::remove(fresh, c);
+        edges += follow(a, c, found, new);
+        reached += 1;
     }
 }
 
-// A pass. What the conditions of `fresh` name is found; answers which of it is new. Those found earlier were followed by earlier passes.
-fn pass(a: &[u16], fresh: &[u64], found: &mut [u64]) -> [u64; 8]
-    requires { ⌜ (sound (now a) ≡ true) × (length (now fresh) ≡ 8) × (length (now found) ≡ 8) ⌝ }
-    ensures { λ r. ⌜ Passed (pageOf (now (a .entry))) (now (fresh .entry)) (now (found .entry)) (now (found .exit)) r ⌝ }
-{
-    let mut named = [0u64; 8];
-    scan(a, fresh, &mut named);
-    let mut new = [0u64; 8];
-    bits::absorb(&named, found, &mut new);
-    new
-}
-
-// A set of conditions, and the count of passes that found it.
+// A set of conditions, the count of passes that found it, and its R and E.
 struct Found {
     set: [u64; 8],
     passes: u32,
+    reached: u32,
+    edges: u32,
 }
 
 // The closure of the queries, in passes: the first that adds none is the last.
 fn find(a: &[u16], queries: &[u16]) -> Found
     requires { ⌜ (sound (now a) ≡ true) × (allUnder (conditionsOf (now a)) (now queries) ≡ true) ⌝ }
-    ensures { λ r. ⌜ FoundIn (pageOf (now (a .entry))) (now (queries .entry)) (r .set) (r .passes) ⌝ }
+    ensures found { λ r. ⌜ FoundIn (pageOf (now (a .entry))) (now (queries .entry)) (r .set) (r .passes) ⌝ }
+    ensures counted { λ r. ⌜ Counted (pageOf (now (a .entry))) (r .set) (r .reached) (r .edges) ⌝ }
 {
     let mut set = [0u64; 8];
     insert_queries(queries, &mut set);
     let mut fresh = set;
     let mut passes: u32 = 0;
+    let mut reached: u32 = 0;
+    let mut edges: u32 = 0;
     loop {
-        fresh = pass(a, &fresh, &mut set);
+        let mut new = [0u64; 8];
+        let counts = pass(a, &mut fresh, &mut set, &mut new);
         passes += 1;
+        reached += counts.reached;
+        edges += counts.edges;
+        fresh = new;
         if 512 <= bits::lowest_in(&fresh) {
-            return Found { set, passes };
+            return Found {
+                set,
+                passes,
+                reached,
+                edges,
+            };
         }
     }
 }
@@ -192,7 +179,7 @@ fn sweep(a: &[u16], set: &mut [u64]) -> u32
     new
 }
 
-// The closure of the queries, by passes until one adds nothing: fewer scans than visits, where E is not asked for.
+// The closure of the queries, by passes over all lines until one adds nothing: fewer scans, where E is not asked for.
 fn spread(a: &[u16], queries: &[u16]) -> [u64; 8]
     requires { ⌜ (sound (now a) ≡ true) × (allUnder (conditionsOf (now a)) (now queries) ≡ true) ⌝ }
     ensures { λ r. ⌜ ClosureSet (pageOf (now (a .entry))) (now (queries .entry)) r ⌝ }
@@ -290,9 +277,8 @@ fn open_accepted(page: &[u16], queries: &[u16], run: &mut [u16]) -> OpenAnswer
     let n = page[1];
     let closure = find(page, queries);
     let set = closure.set;
-    let counts = count_edges(page, &set);
-    let reached = counts.reached;
-    let edges = counts.edges;
+    let reached = closure.reached;
+    let edges = closure.edges;
     let mut marks = [false; 512];
     mark_set(&set, n, &mut marks);
     write_run(run, n, top, &marks);

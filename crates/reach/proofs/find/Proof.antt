@@ -5,16 +5,17 @@ use native.Mathlib.Omega.{arith}
 use Rattle.semantics.specs.Area.{pageOf, conditionsOf}
 use Rattle.semantics.proofs.Soundness.{sound-proper}
 use Rattle.index.proofs.Parts.{cleared-zeros}
+use Rattle.reach.proofs.Counting.{counted-few}
 use Rattle.reach.proofs.Naming.{queries-few}
-use Rattle.reach.proofs.Passing.{Finding, finding-first, finding-next, finding-last, finding-few}
+use Rattle.reach.proofs.Passing.{Finding, finding-first, finding-next, finding-last, finding-few, finding-counts, fresh-inside}
 use Rattle.reach.proofs.find.Statement.{statement}
 use Rattle.reach.proofs.find.Tie as tie
 
 abbrev Inv-loop : tie.InvT-loop
-Inv-loop a queries set₀ fresh₀ passes₀ set fresh passes = Finding (pageOf a) queries set fresh passes
+Inv-loop a queries set₀ fresh₀ passes₀ reached₀ edges₀ set fresh passes reached edges = Finding (pageOf a) queries set fresh passes reached edges
 
 abbrev μ-loop : tie.MeasureT-loop
-μ-loop a queries set₀ fresh₀ passes₀ set fresh passes = conditionsOf a - passes
+μ-loop a queries set₀ fresh₀ passes₀ reached₀ edges₀ set fresh passes reached edges = conditionsOf a - passes
 
 slice-aggregate-insert-queries : tie.Need-slice-aggregate-insert-queries Inv-loop μ-loop
 slice-aggregate-insert-queries c = refl
@@ -32,43 +33,63 @@ slice-aggregate-pass c = sym (c .before .loop .inv .fresh-size)
 slice-aggregate-pass-2 : tie.Need-slice-aggregate-pass-2 Inv-loop μ-loop
 slice-aggregate-pass-2 c = sym (c .before .before .loop .inv .found-size)
 
+slice-aggregate-pass-3 : tie.Need-slice-aggregate-pass-3 Inv-loop μ-loop
+slice-aggregate-pass-3 c = refl
+
 pass-requires : tie.Need-pass-requires Inv-loop μ-loop
-pass-requires c κs = let h = c .before .before .loop .inv in (c .before .before .before .before .before .before .before .before .pre .0, h .fresh-size, h .found-size)
+unfolding pageOf
+pass-requires c κs =
+    let z = c .before .before .before .before .before .before .before .before .before in
+    let h = c .before .before .before .loop .inv in
+    (z .pre .0, fresh-inside (pageOf (z .args .a .now)) (z .args .queries .now) (sound-proper (z .args .a .now) (z .pre .0)) (z .pre .1) h, h .found-size, refl, cleared-zeros 8)
 
 add-passes : tie.Need-add-passes Inv-loop μ-loop
 unfolding pageOf
 add-passes c =
-    let z = c .before .before .before .before .before .before .before .before .before .before in
+    let z = c .before .before .before .before .before .before .before .before .before .before .before .before .before in
     let w = sound-proper (z .args .a .now) (z .pre .0) in
-    omega (arith, w .conditions-most, finding-few (pageOf (z .args .a .now)) (z .args .queries .now) w (z .pre .1) (c .before .before .before .before .loop .inv))
+    omega (arith, w .conditions-most, finding-few (pageOf (z .args .a .now)) (z .args .queries .now) w (z .pre .1) (c .before .before .before .before .before .before .before .loop .inv))
+
+add-reached : tie.Need-add-reached Inv-loop μ-loop
+unfolding pageOf
+add-reached c =
+    let z = c .before .before .before .before .before .before .before .before .before .before .before .before .before .before in
+    let w = sound-proper (z .args .a .now) (z .pre .0) in
+    omega (arith, finding-counts (pageOf (z .args .a .now)) (z .args .queries .now) w (z .pre .1) (c .before .before .before .before .before .before .before .before .loop .inv) .0, counted-few _ _ (c .before .before .before .before .pass .ensures .1) (w .conditions-most) .0)
+
+add-edges : tie.Need-add-edges Inv-loop μ-loop
+unfolding pageOf
+add-edges c =
+    let z = c .before .before .before .before .before .before .before .before .before .before .before .before .before .before .before in
+    let w = sound-proper (z .args .a .now) (z .pre .0) in
+    omega (arith, finding-counts (pageOf (z .args .a .now)) (z .args .queries .now) w (z .pre .1) (c .before .before .before .before .before .before .before .before .before .loop .inv) .1, counted-few _ _ (c .before .before .before .before .before .pass .ensures .1) (w .conditions-most) .1)
 
 slice-aggregate-lowest-in : tie.Need-slice-aggregate-lowest-in Inv-loop μ-loop
-slice-aggregate-lowest-in c = sym (c .before .before .pass .ensures .fresh-size)
+slice-aggregate-lowest-in c = sym (c .before .before .before .before .before .before .pass .ensures .0 .fresh-size)
 
 lowest-in-requires : tie.Need-lowest-in-requires Inv-loop μ-loop
-lowest-in-requires c κs = c .before .before .pass .ensures .fresh-size
+lowest-in-requires c κs = c .before .before .before .before .before .before .pass .ensures .0 .fresh-size
 
 returns : tie.Need-returns Inv-loop μ-loop
 unfolding pageOf
 returns c =
-    let z = c .before .before .before .before .before .before .before .before .before .before .before .before .before in
-    finding-last (pageOf (z .args .a .now)) (z .args .queries .now) (sound-proper (z .args .a .now) (z .pre .0)) (z .pre .1) (c .before .before .before .before .before .before .before .loop .inv) (c .before .before .before .before .pass .ensures) (λ k l. c .before .lowest-in .ensures .below k (omega arith))
+    let z = c .before .before .before .before .before .before .before .before .before .before .before .before .before .before .before .before .before .before in
+    finding-last (pageOf (z .args .a .now)) (z .args .queries .now) (sound-proper (z .args .a .now) (z .pre .0)) (z .pre .1) (c .before .before .before .before .before .before .before .before .before .before .before .before .loop .inv) (c .before .before .before .before .before .before .before .before .pass .ensures .0) (c .before .before .before .before .before .before .before .before .pass .ensures .1) (λ k l. c .before .lowest-in .ensures .below k (omega arith))
 
 loop-less : tie.Need-loop-less Inv-loop μ-loop
 unfolding pageOf
 loop-less c =
-    let z = c .before .before .before .before .before .before .before .before .before .before .before .before .before in
-    let w = sound-proper (z .args .a .now) (z .pre .0) in
+    let z = c .before .before .before .before .before .before .before .before .before .before .before .before .before .before .before .before .before .before in
     let m = c .before .lowest-in in
-    let f = finding-next (pageOf (z .args .a .now)) (z .args .queries .now) w (z .pre .1) (c .before .before .before .before .before .before .before .loop .inv) (c .before .before .before .before .pass .ensures) (m .result) (omega arith) (m .ensures .found (omega arith)) in
-    omega (arith, finding-few (pageOf (z .args .a .now)) (z .args .queries .now) w (z .pre .1) f)
+    let f = finding-next (pageOf (z .args .a .now)) (z .args .queries .now) (sound-proper (z .args .a .now) (z .pre .0)) (z .pre .1) (c .before .before .before .before .before .before .before .before .before .before .before .before .loop .inv) (c .before .before .before .before .before .before .before .before .pass .ensures .0) (c .before .before .before .before .before .before .before .before .pass .ensures .1) (m .result) (omega arith) (m .ensures .found (omega arith)) in
+    omega (arith, finding-few (pageOf (z .args .a .now)) (z .args .queries .now) (sound-proper (z .args .a .now) (z .pre .0)) (z .pre .1) f)
 
 loop-again : tie.Need-loop-again Inv-loop μ-loop
 unfolding pageOf
 loop-again c =
-    let z = c .before .before .before .before .before .before .before .before .before .before .before .before .before in
+    let z = c .before .before .before .before .before .before .before .before .before .before .before .before .before .before .before .before .before .before in
     let m = c .before .lowest-in in
-    finding-next (pageOf (z .args .a .now)) (z .args .queries .now) (sound-proper (z .args .a .now) (z .pre .0)) (z .pre .1) (c .before .before .before .before .before .before .before .loop .inv) (c .before .before .before .before .pass .ensures) (m .result) (omega arith) (m .ensures .found (omega arith))
+    finding-next (pageOf (z .args .a .now)) (z .args .queries .now) (sound-proper (z .args .a .now) (z .pre .0)) (z .pre .1) (c .before .before .before .before .before .before .before .before .before .before .before .before .loop .inv) (c .before .before .before .before .before .before .before .before .pass .ensures .0) (c .before .before .before .before .before .before .before .before .pass .ensures .1) (m .result) (omega arith) (m .ensures .found (omega arith))
 
 pub find-spec : {M : Type 1} → statement M
 find-spec =
@@ -81,8 +102,11 @@ find-spec =
     loop-holds
     slice-aggregate-pass
     slice-aggregate-pass-2
+    slice-aggregate-pass-3
     pass-requires
     add-passes
+    add-reached
+    add-edges
     slice-aggregate-lowest-in
     lowest-in-requires
     returns

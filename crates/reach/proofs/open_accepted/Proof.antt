@@ -19,12 +19,6 @@ shared-slice-read-n c = let z = c .before .before .before .before .before in ome
 find-requires : tie.Need-find-requires
 find-requires c κs = search needs
 
-slice-aggregate-count-edges : tie.Need-slice-aggregate-count-edges
-slice-aggregate-count-edges c = search needs
-
-count-edges-requires : tie.Need-count-edges-requires
-count-edges-requires c κs = (c .before .before .before .before .before .before .before .before .pre .0, c .before .before .find .ensures .set .size)
-
 slice-aggregate-mark-set : tie.Need-slice-aggregate-mark-set
 slice-aggregate-mark-set c = search needs
 
@@ -32,20 +26,20 @@ slice-aggregate-mark-set-2 : tie.Need-slice-aggregate-mark-set-2
 slice-aggregate-mark-set-2 c = search needs
 
 mark-set-requires : tie.Need-mark-set-requires
-mark-set-requires c κs = let z = c .before .before .before .before .before .before .before .before .before .before .before in (c .before .before .before .before .before .find .ensures .set .size, head-of (z .args .page .now) (z .pre .0) .few, unmarked)
+mark-set-requires c κs = let z = c .before .before .before .before .before .before .before .before .before in (c .before .before .before .find .ensures .0 .set .size, head-of (z .args .page .now) (z .pre .0) .few, unmarked)
 
 slice-aggregate-write-run : tie.Need-slice-aggregate-write-run
 slice-aggregate-write-run c = search needs
 
 write-run-requires : tie.Need-write-run-requires
-write-run-requires c κs = let z = c .before .before .before .before .before .before .before .before .before .before .before .before .before .before .before in (z .pre .2, omega (arith, head-of (z .args .page .now) (z .pre .0) .few, c .before .before .before .mark-set .ensures .size))
+write-run-requires c κs = let z = c .before .before .before .before .before .before .before .before .before .before .before .before .before in (z .pre .2, omega (arith, head-of (z .args .page .now) (z .pre .0) .few, c .before .before .before .mark-set .ensures .size))
 
 bound-of-requires : tie.Need-bound-of-requires
 unfolding pageOf
 bound-of-requires c κs =
-    let z = c .before .before .before .before .before .before .before .before .before .before .before .before .before .before .before .before .before .before in
+    let z = c .before .before .before .before .before .before .before .before .before .before .before .before .before .before .before .before in
     let h = head-of (z .args .page .now) (z .pre .0) in
-    let f = counted-few _ _ (c .before .before .before .before .before .before .before .before .before .count-edges .ensures) (h .few) (h .few) in
+    let f = counted-few _ _ (c .before .before .before .before .before .before .before .before .before .before .find .ensures .1) (h .few) in
     (f .0, h .top-most, f .1)
 
 same-length : tie.Need-same-length
@@ -54,12 +48,12 @@ same-length c = search needs
 returns : tie.Need-returns
 unfolding pageOf
 returns c =
-    let z = c .before .before .before .before .before .before .before .before .before .before .before .before .before .before .before .before .before .before .before in
+    let z = c .before .before .before .before .before .before .before .before .before .before .before .before .before .before .before .before .before in
     let a = z .args .page .now in
     let few = head-of a (z .pre .0) .few in
-    let f = c .before .before .before .before .before .before .before .before .before .before .before .before .before .find .ensures in (
-      accepted-answer a (z .args .queries .now) (z .args .run .now) few f (c .before .before .before .before .before .before .before .before .before .before .count-edges .ensures) (c .bound-of .ensures),
-      accepted-run a (z .args .queries .now) (z .args .run .now) (closure-marks (pageOf a) (z .args .queries .now) few (f .set) (c .before .before .before .before .before .before .before .mark-set .ensures)) (z .pre .2) (c .before .before .before .write-run .ensures),
+    let f = c .before .before .before .before .before .before .before .before .before .before .before .find .ensures in (
+      accepted-answer a (z .args .queries .now) (z .args .run .now) few (f .0) (f .1) (c .bound-of .ensures),
+      accepted-run a (z .args .queries .now) (z .args .run .now) (closure-marks (pageOf a) (z .args .queries .now) few (f .0 .set) (c .before .before .before .before .before .before .before .mark-set .ensures)) (z .pre .2) (c .before .before .before .write-run .ensures),
     )
 
 pub open-accepted-spec : {M : Type 1} → statement M
@@ -69,8 +63,6 @@ open-accepted-spec =
     shared-slice-read-top
     shared-slice-read-n
     find-requires
-    slice-aggregate-count-edges
-    count-edges-requires
     slice-aggregate-mark-set
     slice-aggregate-mark-set-2
     mark-set-requires
