@@ -27,7 +27,7 @@
  * Cost. Every call that is lent a page area first scans it, and a run area too, to see that they are sound. Then:
  *   read             two passes over the text
  *   show_line        one pass over the text, up to the line
- *   open             one scan of the page for each pass, and one for each reached condition, which counts E
+ *   open             one scan of the page for each reached condition, whatever the count of passes
  *   evaluate         a scan of the page for the lines of the condition, and one for its dependants if it changed
  *   drive            as evaluate, for each evaluation; the areas are checked once
  *   drive_indexed    an index is built by a few scans; then each evaluation looks at the lines of the condition and at its dependants only
