@@ -45,13 +45,13 @@ static void put(const uint8_t *line, uint8_t *end)
 
 static void answer(unsigned reading, uint16_t condition, uint16_t ends[2])
 {
-    uint32_t a, b, c;
+    uint32_t a, b, c, d;
 
     if (reading == 1) {
         CLOSED(page, page[3], &condition, 1, scratch, 6 * page[1], ends, 2);
         return;
     }
-    OPEN(page, page[3], &condition, 1, run, 3 * page[1], &a, &b, &c);
+    OPEN(page, page[3], &condition, 1, run, 3 * page[1], &a, &b, &c, &d);
     DRIVE(page, page[3], run, 3 * page[1], UINT32_MAX, &a, &b);
     scan_value(page, page[3], run, 3 * page[1], condition, &ends[0], &ends[1]);
 }

@@ -20,7 +20,7 @@ static const char *const op_names[OPS] = { "read", "show", "sound", "open", "eva
                                            "line", "closed" };
 
 /* Every area is followed by a few numbers that no call may touch. */
-enum { AFTER = 16, FILL = 0xa5a5, OUTS = 5 };
+enum { AFTER = 16, FILL = 0xa5a5, OUTS = 6 };
 
 /* What an operation is given. */
 static struct {
@@ -50,7 +50,7 @@ static void load(const char *name)
 {
     uint16_t run[sizeof given.run / sizeof *given.run];
     const uint16_t *p;
-    uint32_t r, e, b, line, place, c;
+    uint32_t r, e, b, k, line, place, c;
     int32_t used;
 
     given.text_length = page_text(name, given.text);
@@ -74,7 +74,7 @@ static void load(const char *name)
     for (c = 1; c < SIMJORAD_QUERIES_MAX; c++)
         given.spread[c] = c * (given.count - 1) / (SIMJORAD_QUERIES_MAX - 1);
     if (scan_open(given.page, given.page_length, given.queries, given.queries_length, given.run, 3 * given.count, &r, &e,
-                  &b) != 0)
+                  &b, &k) != 0)
         exit(2);
     given.condition = given.queries[0];
     for (c = 0; c < given.count; c++) {
@@ -136,7 +136,7 @@ __attribute__((noinline, noclone)) void measured(const struct impl *impl, int op
         break;
     case OPEN:
         result.code = impl->open(given.page, given.page_length, given.queries, given.queries_length, result.area,
-                                 result.length, &out[0], &out[1], &out[2]);
+                                 result.length, &out[0], &out[1], &out[2], &out[3]);
         break;
     case EVALUATE:
         result.code = impl->evaluate(given.page, given.page_length, result.area, result.length, given.condition);
@@ -159,8 +159,8 @@ __attribute__((noinline, noclone)) void measured(const struct impl *impl, int op
                                    result.length, result.answers, 2 * SIMJORAD_QUERIES_MAX);
         break;
     }
-    out[3] = low;
-    out[4] = high;
+    out[4] = low;
+    out[5] = high;
 }
 
 static uint64_t mix(uint64_t sum, uint64_t number)

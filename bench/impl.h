@@ -10,7 +10,7 @@ struct impl {
     int32_t (*read)(const uint8_t *, size_t, uint16_t *, size_t, uint32_t *, uint32_t *);
     size_t (*show_line)(const uint8_t *, size_t, size_t, size_t *);
     int32_t (*open)(const uint16_t *, size_t, const uint16_t *, size_t, uint16_t *, size_t, uint32_t *, uint32_t *,
-                    uint32_t *);
+                    uint32_t *, uint32_t *);
     int32_t (*evaluate)(const uint16_t *, size_t, uint16_t *, size_t, uint32_t);
     int32_t (*drive)(const uint16_t *, size_t, uint16_t *, size_t, uint32_t, uint32_t *, uint32_t *);
     int32_t (*value)(const uint16_t *, size_t, const uint16_t *, size_t, uint32_t, uint16_t *, uint16_t *);

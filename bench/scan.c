@@ -259,13 +259,13 @@ size_t scan_show_line(const uint8_t *text, size_t text_length, size_t number, si
 /* ---- The plain reading ---- */
 
 int32_t scan_open(const uint16_t *page, size_t page_length, const uint16_t *queries, size_t queries_length,
-                  uint16_t *run, size_t run_length, uint32_t *reached, uint32_t *edges, uint32_t *bound)
+                  uint16_t *run, size_t run_length, uint32_t *reached, uint32_t *edges, uint32_t *bound, uint32_t *passes)
 {
     uint16_t stack[CONDITIONS_MAX];                 /* the reached conditions; those from `next` on are still to do */
     uint8_t seen[CONDITIONS_MAX] = { 0 };
     uint64_t named[WORDS_MAX];
     const uint16_t *p, *end;
-    unsigned top, count, c, next = 0, length = 0, e = 0, i, b;
+    unsigned top, count, c, next = 0, stop, length = 0, e = 0, k = 0, i, b;
     int fault;
 
     if (!page_sound(page, page_length))
@@ -281,25 +281,26 @@ int32_t scan_open(const uint16_t *page, size_t page_length, const uint16_t *quer
             stack[length++] = queries[i];
         }
     end = page + page[3];
-    while (next < length) {
-        c = stack[next++];
-        memset(named, 0, sizeof named);
-        for (p = page + HEAD; p < end; p = next_line(p)) {
-            if (p[0] != c || !is_rule(p))
-                continue;
-            for (i = 0; i < p[3]; i++) {
-                b = p[4 + i] >> 1;
-                if (named[b / 64] >> b % 64 & 1)
+    for (; next < length; k++)                      /* a pass follows what was found before it */
+        for (stop = length; next < stop; next++) {
+            c = stack[next];
+            memset(named, 0, sizeof named);
+            for (p = page + HEAD; p < end; p = next_line(p)) {
+                if (p[0] != c || !is_rule(p))
                     continue;
-                named[b / 64] |= (uint64_t)1 << b % 64;
-                e++;
-                if (!seen[b]) {
-                    seen[b] = 1;
-                    stack[length++] = b;
+                for (i = 0; i < p[3]; i++) {
+                    b = p[4 + i] >> 1;
+                    if (named[b / 64] >> b % 64 & 1)
+                        continue;
+                    named[b / 64] |= (uint64_t)1 << b % 64;
+                    e++;
+                    if (!seen[b]) {
+                        seen[b] = 1;
+                        stack[length++] = b;
+                    }
                 }
             }
         }
-    }
     for (c = 0; c < count; c++, run += 3) {
         run[0] = 0;
         run[1] = top;
@@ -308,6 +309,7 @@ int32_t scan_open(const uint16_t *page, size_t page_length, const uint16_t *quer
     *reached = length;
     *edges = e;
     *bound = length + top * e;
+    *passes = k;
     return 0;
 }
 

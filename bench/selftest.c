@@ -363,8 +363,9 @@ static int names(const uint16_t *page, int a, int b)
     return 0;
 }
 
-/* The run area of an opening, and R and E. */
-static void ref_open(const uint16_t *page, const uint16_t *queries, size_t n, uint16_t *run, unsigned *r, unsigned *e)
+/* The run area of an opening, R, E and the passes, each of which follows what was found before it (mark 2, found in it: 3). */
+static void ref_open(const uint16_t *page, const uint16_t *queries, size_t n, uint16_t *run, unsigned *r, unsigned *e,
+                     unsigned *passes)
 {
     int a, b, more, count = page[1];
     size_t i;
@@ -373,12 +374,17 @@ static void ref_open(const uint16_t *page, const uint16_t *queries, size_t n, ui
         run[3 * a] = 0, run[3 * a + 1] = page[0], run[3 * a + 2] = 0;
     for (i = 0; i < n; i++)
         run[3 * queries[i] + 2] = 2;
+    *passes = 0;
     do {
         more = 0;
+        ++*passes;
         for (a = 0; a < count; a++)
             for (b = 0; b < count; b++)
-                if (run[3 * a + 2] && !run[3 * b + 2] && names(page, a, b))
-                    run[3 * b + 2] = 2, more = 1;
+                if (run[3 * a + 2] == 2 && !run[3 * b + 2] && names(page, a, b))
+                    run[3 * b + 2] = 3, more = 1;
+        for (a = 0; a < count; a++)
+            if (run[3 * a + 2] == 3)
+                run[3 * a + 2] = 2;
     } while (more);
     *r = *e = 0;
     for (a = 0; a < count; a++) {
@@ -470,14 +476,15 @@ static int take(const char *text)
     return used;
 }
 
-static void open_one(int used, uint16_t query, unsigned r, unsigned e, unsigned bound)
+static void open_one(int used, uint16_t query, unsigned r, unsigned e, unsigned bound, unsigned passes)
 {
-    uint32_t got_r = 0, got_e = 0, got_bound = 0;
+    uint32_t got_r = 0, got_e = 0, got_bound = 0, got_passes = 0;
 
-    same("open", at->open(page, used, &query, 1, run, RUN, &got_r, &got_e, &got_bound), 0);
+    same("open", at->open(page, used, &query, 1, run, RUN, &got_r, &got_e, &got_bound, &got_passes), 0);
     same("R", got_r, r);
     same("E", got_e, e);
     same("bound", got_bound, bound);
+    same("passes", got_passes, passes);
 }
 
 static void held(int used, uint32_t condition, int rest, int low, int high)
@@ -514,7 +521,7 @@ static const char example[] = "G,10,2\nF,0,2,2\nF,1,3,3\nR,0,10,M,!1\nR,1,10,M,!
 /* What the program attach prints. */
 static void attach(const char *text, char *out)
 {
-    uint32_t line = 0, place, r, e, bound, taken;
+    uint32_t line = 0, place, r, e, bound, passes, taken;
     int used = at->read((const uint8_t *)text, strlen(text), page, SIMJORAD_PAGE_MAX, &line, &place), queries = 0;
     const uint16_t *p;
     uint16_t low, high;
@@ -529,7 +536,7 @@ static void attach(const char *text, char *out)
             continue;
         queries++;
         if (p[2] == 0) {
-            at->open(page, used, p, 1, run, RUN, &r, &e, &bound);
+            at->open(page, used, p, 1, run, RUN, &r, &e, &bound, &passes);
             at->drive(page, used, run, RUN, bound, &taken, &line);
             same("attach at rest", at->value(page, used, run, RUN, p[0], &low, &high), 1);
             out += sprintf(out, "K,%u,%u,%u\n", p[0], low, high);
@@ -551,22 +558,22 @@ static void figures(void)
 
     /* 1 and 2 */
     used = take(example);
-    open_one(used, 0, 2, 2, 22);
+    open_one(used, 0, 2, 2, 22, 2);
     driven(used, 3, 0, 3);
     same("mark of 0", run[2], 1);
     same("mark of 1", run[5], 2);
-    open_one(used, 0, 2, 2, 22);
+    open_one(used, 0, 2, 2, 22, 2);
     driven(used, 4, 1, 4);
     held(used, 0, 1, 2, 7);
     held(used, 1, 1, 3, 8);
-    open_one(used, 0, 2, 2, 22);
+    open_one(used, 0, 2, 2, 22, 2);
     driven(used, UINT32_MAX, 1, 4);
     closed_one(used, 0, 2, 7);
     closed_one(used, 1, 3, 8);
 
     /* 3 */
     used = take("G,10,3\nF,0,3,3\nF,2,6,6\nR,0,10,M,1,2\nR,1,10,M,1\n");
-    open_one(used, 0, 3, 3, 33);
+    open_one(used, 0, 3, 3, 33, 2);
     driven(used, 33, 1, 4);
     held(used, 0, 1, 3, 6);
     held(used, 1, 1, 0, 10);
@@ -575,28 +582,28 @@ static void figures(void)
 
     /* 4 */
     used = take("G,1,1\n");
-    open_one(used, 0, 1, 0, 1);
+    open_one(used, 0, 1, 0, 1, 1);
     driven(used, 1, 1, 1);
     held(used, 0, 1, 0, 0);
     closed_one(used, 0, 0, 0);
 
     /* 5 */
     used = take("G,1,1\nR,0,1,M,!0\n");
-    open_one(used, 0, 1, 1, 2);
+    open_one(used, 0, 1, 1, 2, 1);
     driven(used, 2, 1, 1);
     held(used, 0, 1, 0, 1);
     closed_one(used, 0, 0, 1);
 
     /* 6 */
     used = take("G,1,1\nR,0,1,M,0\n");
-    open_one(used, 0, 1, 1, 2);
+    open_one(used, 0, 1, 1, 2, 1);
     driven(used, 2, 1, 1);
     held(used, 0, 1, 0, 1);
     closed_one(used, 0, 0, 0);
 
     /* 7 */
     used = take("G,10,1\nR,0,9,M,0\n");
-    open_one(used, 0, 1, 1, 11);
+    open_one(used, 0, 1, 1, 11, 1);
     driven(used, 11, 1, 2);
     held(used, 0, 1, 0, 9);
     closed_one(used, 0, 0, 0);
@@ -605,7 +612,7 @@ static void figures(void)
     for (i = 0; i < 6; i++) {
         sprintf(text, "G,10,3\nF,0,7,7\nF,1,5,5\nR,2,%d,%c,0,1\n", row8[i].weight, row8[i].op);
         used = take(text);
-        open_one(used, 2, 3, 2, 23);
+        open_one(used, 2, 3, 2, 23, 2);
         driven(used, 23, 1, 3);
         held(used, 2, 1, row8[i].low, row8[i].high);
         closed_one(used, 2, row8[i].low, row8[i].high);
@@ -711,7 +718,7 @@ static void falling(void)
     uint32_t line, place;
     int used = at->read((const uint8_t *)text, length, page, SIMJORAD_PAGE_MAX, &line, &place);
 
-    open_one(used, 0, 512, 4054, 811312);
+    open_one(used, 0, 512, 4054, 811312, 65);
     driven(used, 811112, 0, 811112);
     driven(used, UINT32_MAX, 1, 1);
     held(used, 0, 1, 0, 0);
@@ -772,8 +779,8 @@ static void random_page(void)
     static uint16_t first[RUN], want[RUN], unsound[AREA];
     struct pair plain[512], closed[512];
     uint16_t queries[16], low, high;
-    uint32_t line, place, r, e, bound, taken, want_taken, want_line, allowance;
-    unsigned want_r, want_e, used, c, i, n, count, order, state, length = random_text(text);
+    uint32_t line, place, r, e, bound, passes, taken, want_taken, want_line, allowance;
+    unsigned want_r, want_e, want_passes, used, c, i, n, count, order, state, length = random_text(text);
     int32_t code;
     int fault, fault_line, k;
 
@@ -789,7 +796,7 @@ static void random_page(void)
     ref_closed(page, closed);
     for (i = 0; i < RUN; i++)
         first[i] = FILL;
-    ref_open(page, queries, n, first, &want_r, &want_e);
+    ref_open(page, queries, n, first, &want_r, &want_e, &want_passes);
     order = seed;
 
     for (k = 0; k < IMPLS; k++) {
@@ -807,11 +814,12 @@ static void random_page(void)
         /* opening */
         for (i = 0; i < RUN; i++)
             run[i] = FILL;
-        r = e = bound = 0;
-        same("open", at->open(page, used, queries, n, run, 3 * count, &r, &e, &bound), 0);
+        r = e = bound = passes = 0;
+        same("open", at->open(page, used, queries, n, run, 3 * count, &r, &e, &bound, &passes), 0);
         same("open, R", r, want_r);
         same("open, E", e, want_e);
         same("open, bound", bound, want_r + page[0] * want_e);
+        same("open, passes", passes, want_passes);
         same("open, area", memcmp(run, first, sizeof run), 0);
 
         /* driving by random allowances to rest */
@@ -896,18 +904,18 @@ static void random_page(void)
         low = queries[0];
         queries[0] = count;
         same("closed, query range", at->closed(page, used, queries, n, scratch, 0, answers, 0), -12);
-        same("open, query range", at->open(page, used, queries, n, run, 0, &r, &e, &bound), -12);
+        same("open, query range", at->open(page, used, queries, n, run, 0, &r, &e, &bound, &passes), -12);
         queries[0] = low;
         same("closed, no query", at->closed(page, used, queries, 0, scratch, 0, answers, 0), -11);
-        same("open, 17 queries", at->open(page, used, scratch, 17, run, 0, &r, &e, &bound), -11);
-        same("open, run short", at->open(page, used, queries, n, run, 3 * count - 1, &r, &e, &bound), -13);
+        same("open, 17 queries", at->open(page, used, scratch, 17, run, 0, &r, &e, &bound, &passes), -11);
+        same("open, run short", at->open(page, used, queries, n, run, 3 * count - 1, &r, &e, &bound, &passes), -13);
 
         /* a page area that may be unsound */
         memcpy(unsound, page, used * sizeof *page);
         unsound[draw(3) ? draw(used) : draw(4)] = draw(3) ? draw(20) : draw(2) ? draw(65536) : draw(1100);
         i = draw(4) ? used : draw(used + 1);
         fault = ref_page_sound(unsound, i) ? -11 : -10;
-        same("open, any page", at->open(unsound, i, NULL, 0, run, 0, &r, &e, &bound), fault);
+        same("open, any page", at->open(unsound, i, NULL, 0, run, 0, &r, &e, &bound, &passes), fault);
         same("closed, any page", at->closed(unsound, i, NULL, 0, NULL, 0, NULL, 0), fault);
         fault = fault == -11 ? -14 : -10;
         same("drive, any page", at->drive(unsound, i, NULL, 0, 1, &taken, &line), fault);

@@ -13,7 +13,7 @@
 #include "simjorad.h"
 
 enum { READ, SHOW_LINE, OPEN, EVALUATE, DRIVE, DRIVE_INDEXED, VALUE, LINE, CLOSED, CLOSED_INDEXED, LAYERS, FUNCTIONS };
-enum { SLICES = 5, OUTS = 3 };
+enum { SLICES = 5, OUTS = 4 };
 
 /* What a call is lent and answers. A slice that is not lent has no place here: its size is 0. */
 struct slice {
@@ -33,7 +33,7 @@ struct call {
 #define NAME(f) engine_##f
 int32_t engine_read(const uint8_t *, size_t, uint16_t *, size_t, uint32_t *);
 size_t engine_show_line(const uint8_t *, size_t, size_t, size_t *);
-int32_t engine_open(const uint16_t *, size_t, const uint16_t *, size_t, uint16_t *, size_t, uint32_t *, uint32_t *, uint32_t *);
+int32_t engine_open(const uint16_t *, size_t, const uint16_t *, size_t, uint16_t *, size_t, uint32_t *, uint32_t *, uint32_t *, uint32_t *);
 int32_t engine_evaluate(const uint16_t *, size_t, uint16_t *, size_t, uint32_t);
 int32_t engine_drive(const uint16_t *, size_t, uint16_t *, size_t, uint32_t, uint32_t *, uint32_t *);
 int32_t engine_drive_indexed(const uint16_t *, size_t, uint16_t *, size_t, uint16_t *, size_t, uint32_t, uint32_t *, uint32_t *);
@@ -63,7 +63,7 @@ static void make(struct call *c)
         break;
     case OPEN:
         c->answer = (uint32_t)NAME(open)(s[0].at, s[0].length, s[1].at, s[1].length, s[2].at, s[2].length, &c->outs[0], &c->outs[1],
-                                         &c->outs[2]);
+                                         &c->outs[2], &c->outs[3]);
         break;
     case EVALUATE:
         c->answer = (uint32_t)NAME(evaluate)(s[0].at, s[0].length, s[1].at, s[1].length, c->number);
@@ -206,13 +206,15 @@ size_t simjorad_show_line(const uint8_t *text, size_t text_length, size_t number
 }
 
 int32_t simjorad_open(const uint16_t *page, size_t page_length, const uint16_t *queries, size_t queries_length, uint16_t *run,
-                      size_t run_length, uint32_t *reached, uint32_t *edges, uint32_t *bound)
+                      size_t run_length, uint32_t *reached, uint32_t *edges, uint32_t *bound, uint32_t *passes)
 {
-    struct call c = {.function = OPEN, NUMBERS(0, page), NUMBERS(1, queries), NUMBERS(2, run), .outs = {*reached, *edges, *bound}};
+    struct call c = {.function = OPEN, NUMBERS(0, page), NUMBERS(1, queries), NUMBERS(2, run),
+                     .outs = {*reached, *edges, *bound, *passes}};
     hand_on(&c);
     *reached = c.outs[0];
     *edges = c.outs[1];
     *bound = c.outs[2];
+    *passes = c.outs[3];
     return (int32_t)c.answer;
 }
 

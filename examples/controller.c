@@ -143,8 +143,8 @@ int main(int argc, char **argv)
         return status;
 
     const uint16_t queries[] = {ATTACH, PULSATOR};
-    uint32_t reached, edges;
-    int32_t code = simjorad_open(page, page_length, queries, 2, run, RUN_NUMBERS, &reached, &edges, &bound);
+    uint32_t reached, edges, passes;
+    int32_t code = simjorad_open(page, page_length, queries, 2, run, RUN_NUMBERS, &reached, &edges, &bound, &passes);
     if (code < 0)
         return stop("open", code);
     printf("opened: %u conditions, at most %u evaluations, %d for each movement\n", (unsigned)reached, (unsigned)bound, BUDGET);

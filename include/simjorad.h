@@ -31,7 +31,7 @@
  * Cost. Every call that is lent a page area first scans it, and a run area too, to see that they are sound. Then:
  *   read             two passes over the text
  *   show_line        one pass over the text, up to the line
- *   open             one scan of the page for each reached condition
+ *   open             one scan of the page for each reached condition, whatever the count of passes
  *   evaluate         a scan of the page for the lines of the condition, and one for its dependants if it changed
  *   drive            as evaluate, for each evaluation; the areas are checked once, and the line is found by one scan at the end
  *   drive_indexed    an index is built by a few scans; then each evaluation looks at the lines of the condition and at its dependants only
@@ -63,7 +63,7 @@ extern "C" {
  * measurements and do not count). SIMJORAD_LAYOUT is raised whenever the layout of a page area or a run area changes: an area that was
  * kept under another layout must be read or opened again.
  */
-#define SIMJORAD_VERSION 5
+#define SIMJORAD_VERSION 6
 #define SIMJORAD_LAYOUT 1
 
 /*
@@ -157,10 +157,13 @@ size_t simjorad_show_line(const uint8_t *text, size_t text_length, size_t number
 
 /*
  * Open a run. Returns 0, or minus 10, 11, 12 or 13. Sets *reached to R, *edges to E and *bound to R + top * E, which no run on this
- * opening ever takes more evaluations than. Writes the first 3 * C numbers of run. Repeated queries are allowed.
+ * opening ever takes more evaluations than; and *passes to the count of passes in which the reached conditions were found, 1 to R: each adds
+ * what those found before it name, and the last one, which adds none, is counted. Writes the first 3 * C numbers of run. Repeated queries are
+ * allowed.
  */
 int32_t simjorad_open(const uint16_t *page, size_t page_length, const uint16_t *queries, size_t queries_length,
-                      uint16_t *run, size_t run_length, uint32_t *reached, uint32_t *edges, uint32_t *bound);
+                      uint16_t *run, size_t run_length, uint32_t *reached, uint32_t *edges, uint32_t *bound,
+                      uint32_t *passes);
 
 /*
  * Evaluate a condition that waits. Returns 1 if its interval changed, 0 if not, or minus 10, 14, 15 or 16. That it does not wait (16)

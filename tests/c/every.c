@@ -76,20 +76,20 @@ static void long_texts(void)
     CHECK(simjorad_read(bytes, at + 2, page, SIMJORAD_PAGE_MAX, &line, &place) == -SIMJORAD_LINE_COUNT && line == SIMJORAD_LINES_MAX + 2 && place == 0);
 }
 
-/* A run of the page above: R 2, E 2, bound 22; spent after 3 evaluations, at rest after 4 (docs/RULES.md, row 2). */
+/* A run of the page above: R 2, E 2, bound 22, 2 passes; spent after 3 evaluations, at rest after 4 (docs/RULES.md, row 2). */
 static void runs(void)
 {
     static const uint16_t queries[] = {0}, opened[] = {0, 10, 2, 0, 10, 2}, spent[] = {2, 7, 1, 3, 8, 2}, rest[] = {2, 7, 1, 3, 8, 1};
     uint16_t run[SIMJORAD_RUN_LENGTH(2)] = {0}, workspace[INDEX] = {0}, low = 77, high = 78;
-    uint32_t reached = 77, edges = 78, bound = 79, taken = 77, line = 76;
+    uint32_t reached = 77, edges = 78, bound = 79, passes = 80, taken = 77, line = 76;
 
-    CHECK(simjorad_open(area, USED - 1, queries, 1, run, 6, &reached, &edges, &bound) == -SIMJORAD_PAGE_UNSOUND);
-    CHECK(simjorad_open(area, USED, NULL, 0, run, 6, &reached, &edges, &bound) == -SIMJORAD_QUERY_COUNT);
-    CHECK(simjorad_open(area, USED, area + 1, 1, run, 6, &reached, &edges, &bound) == -SIMJORAD_QUERY_RANGE);
-    CHECK(simjorad_open(area, USED, queries, 1, run, 5, &reached, &edges, &bound) == -SIMJORAD_RUN_SHORT);
-    CHECK(reached == 77 && edges == 78 && bound == 79);
-    CHECK(simjorad_open(area, USED, queries, 1, run, 6, &reached, &edges, &bound) == 0);
-    CHECK(reached == 2 && edges == 2 && bound == 22 && same(run, opened, 6));
+    CHECK(simjorad_open(area, USED - 1, queries, 1, run, 6, &reached, &edges, &bound, &passes) == -SIMJORAD_PAGE_UNSOUND);
+    CHECK(simjorad_open(area, USED, NULL, 0, run, 6, &reached, &edges, &bound, &passes) == -SIMJORAD_QUERY_COUNT);
+    CHECK(simjorad_open(area, USED, area + 1, 1, run, 6, &reached, &edges, &bound, &passes) == -SIMJORAD_QUERY_RANGE);
+    CHECK(simjorad_open(area, USED, queries, 1, run, 5, &reached, &edges, &bound, &passes) == -SIMJORAD_RUN_SHORT);
+    CHECK(reached == 77 && edges == 78 && bound == 79 && passes == 80);
+    CHECK(simjorad_open(area, USED, queries, 1, run, 6, &reached, &edges, &bound, &passes) == 0);
+    CHECK(reached == 2 && edges == 2 && bound == 22 && passes == 2 && same(run, opened, 6));
 
     CHECK(simjorad_drive(area, USED, run, 5, 3, &taken, &line) == -SIMJORAD_RUN_UNSOUND && taken == 77 && line == 76);
     CHECK(simjorad_drive(area, USED, run, 6, 0, &taken, &line) == 0 && taken == 0 && line == 0 && same(run, opened, 6));

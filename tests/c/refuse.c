@@ -8,9 +8,9 @@
 #include "simjorad.h"
 
 int32_t __real_simjorad_open(const uint16_t *, size_t, const uint16_t *, size_t, uint16_t *, size_t, uint32_t *, uint32_t *,
-                             uint32_t *);
+                             uint32_t *, uint32_t *);
 int32_t __wrap_simjorad_open(const uint16_t *, size_t, const uint16_t *, size_t, uint16_t *, size_t, uint32_t *, uint32_t *,
-                             uint32_t *);
+                             uint32_t *, uint32_t *);
 int32_t __real_simjorad_evaluate(const uint16_t *, size_t, uint16_t *, size_t, uint32_t);
 int32_t __wrap_simjorad_evaluate(const uint16_t *, size_t, uint16_t *, size_t, uint32_t);
 int32_t __real_simjorad_drive(const uint16_t *, size_t, uint16_t *, size_t, uint32_t, uint32_t *, uint32_t *);
@@ -34,11 +34,12 @@ static int32_t refusal(const char *call)
 }
 
 int32_t __wrap_simjorad_open(const uint16_t *page, size_t page_length, const uint16_t *queries, size_t queries_length, uint16_t *run,
-                             size_t run_length, uint32_t *reached, uint32_t *edges, uint32_t *bound)
+                             size_t run_length, uint32_t *reached, uint32_t *edges, uint32_t *bound, uint32_t *passes)
 {
     int32_t code = refusal("open");
     return code ? code
-                : __real_simjorad_open(page, page_length, queries, queries_length, run, run_length, reached, edges, bound);
+                : __real_simjorad_open(page, page_length, queries, queries_length, run, run_length, reached, edges, bound,
+                                       passes);
 }
 
 int32_t __wrap_simjorad_evaluate(const uint16_t *page, size_t page_length, uint16_t *run, size_t run_length, uint32_t condition)

@@ -50,12 +50,13 @@ pub struct LayersRefusal {
     pub condition: u32,
 }
 
-/// What an opening returns: R, E and R + top * E.
+/// What an opening returns: R, E, R + top * E and the count of passes.
 #[derive(Clone, Copy, Debug, PartialEq, Eq)]
 pub struct Opened {
     pub reached: u32,
     pub edges: u32,
     pub bound: u32,
+    pub passes: u32,
 }
 
 /// What a drive returns; `rest` is false for `spent`. The line is that of its last evaluation, 0 if it took none.

@@ -252,6 +252,7 @@ impl Engine {
         let mut reached = self.out(|number| number as u32);
         let mut edges = self.out(|number| number as u32);
         let mut bound = self.out(|number| number as u32);
+        let mut passes = self.out(|number| number as u32);
         let slices = [
             Self::note(page, page_loan.ptr() as usize),
             Self::note(queries, queries_start),
@@ -267,6 +268,7 @@ impl Engine {
             reached.ptr() as usize,
             edges.ptr() as usize,
             bound.ptr() as usize,
+            passes.ptr() as usize,
         ];
         let code = self.call(Call::Open, 0, &slices, &arguments)? as i32;
         page_loan.end_const("page", page)?;
@@ -277,11 +279,13 @@ impl Engine {
                 reached: reached.set("reached")?,
                 edges: edges.set("edges")?,
                 bound: bound.set("bound")?,
+                passes: passes.set("passes")?,
             })),
             -13..=-10 => {
                 reached.kept("reached")?;
                 edges.kept("edges")?;
                 bound.kept("bound")?;
+                passes.kept("passes")?;
                 Ok(Err(-code))
             }
             _ => Err(format!("returned {code}")),

@@ -1,6 +1,8 @@
 //! A second reference for large pages: the same rules as `book` and `closed`, by worklists over indexes. It is itself compared with
 //! them on small pages.
 
+use std::collections::VecDeque;
+
 use crate::answer::Driven;
 use crate::area::{NOT_REACHED_MARK, REACHED_MARK, WAITING_MARK};
 use crate::body::{combine, divided, End, Pair};
@@ -172,6 +174,25 @@ impl Index {
                 }
             }
         }
+    }
+
+    /// The passes of an opening: the steps to the condition that is furthest from the queries, and the last pass.
+    pub fn passes(&self, queries: &[u16]) -> u32 {
+        let mut seen = vec![false; self.count()];
+        let mut queue: VecDeque<(usize, u32)> = queries
+            .iter()
+            .map(|query| (usize::from(*query), 0))
+            .collect();
+        let mut furthest = 0;
+        while let Some((cond, steps)) = queue.pop_front() {
+            if !seen[cond] {
+                seen[cond] = true;
+                furthest = steps;
+                let literals = self.rules[cond].iter().flat_map(|rule| &rule.literals);
+                queue.extend(literals.map(|literal| (literal / 2, steps + 1)));
+            }
+        }
+        furthest + 1
     }
 
     /// The closed reading. The least high ends over the low ends held are the support's; the least low ends over those high

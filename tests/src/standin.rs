@@ -225,6 +225,31 @@ pub const FAULTS: &[(&str, &str, &str)] = &[
         "quick only CASE",
         "row_01_two_rivals_plain_and_closed",
     ),
+    (
+        "a_pass_follows_what_it_has_just_added",
+        "quick only CASE",
+        "openings_count_their_passes_as_stated",
+    ),
+    (
+        "a_pass_follows_what_it_has_just_added",
+        "quick only CASE",
+        "open_agrees_on_random_pages",
+    ),
+    (
+        "last_pass_not_counted",
+        "quick only CASE",
+        "openings_count_their_passes_as_stated",
+    ),
+    (
+        "passes_told_as_reached",
+        "quick only CASE",
+        "openings_count_their_passes_as_stated",
+    ),
+    (
+        "passes_told_as_reached",
+        "quick only CASE",
+        "open_agrees_on_random_pages",
+    ),
     // Evaluate.
     (
         "wake_only_when_low_rises",
@@ -1407,6 +1432,42 @@ pub unsafe extern "C" fn simjorad_show_line(
     length
 }
 
+/// The count of passes, with the planted fault.
+fn passes(page: &Page, queries: &[u16], opened: Opened) -> u32 {
+    if fault("a_pass_follows_what_it_has_just_added") {
+        return passes_in_place(page, queries);
+    }
+    if fault("last_pass_not_counted") {
+        return opened.passes - 1;
+    }
+    if fault("passes_told_as_reached") {
+        return opened.reached;
+    }
+    opened.passes
+}
+
+/// How many passes over the lines find the reached conditions if a pass also follows what it has just added.
+fn passes_in_place(page: &Page, queries: &[u16]) -> u32 {
+    let mut reached: Vec<u16> = queries.to_vec();
+    let mut passes = 0;
+    loop {
+        passes += 1;
+        let before = reached.len();
+        for line in &page.lines {
+            if let Line::Rule { head, body, .. } = line {
+                for literal in body {
+                    if reached.contains(head) && !reached.contains(&literal.cond) {
+                        reached.push(literal.cond);
+                    }
+                }
+            }
+        }
+        if reached.len() == before {
+            return passes;
+        }
+    }
+}
+
 fn open(page_area: &[u16], queries: &[u16], run: &mut [u16]) -> Result<Opened, Refusal> {
     let page = sound_page(page_area).ok_or(PAGE_UNSOUND)?;
     let length = 3 * usize::from(page.count);
@@ -1453,6 +1514,7 @@ fn open(page_area: &[u16], queries: &[u16], run: &mut [u16]) -> Result<Opened, R
         }
         opened.bound = opened.reached + u32::from(page.top) * opened.edges;
     }
+    opened.passes = passes(&page, queries, opened);
     for (cond, entry) in (0..page.count).zip(run[..length].chunks_exact_mut(3)) {
         let mark = if reached.contains(&cond) {
             WAITING_MARK
@@ -1484,6 +1546,7 @@ pub unsafe extern "C" fn simjorad_open(
     reached: *mut u32,
     edges: *mut u32,
     bound: *mut u32,
+    passes: *mut u32,
 ) -> i32 {
     let result = open(
         lent(page, page_length),
@@ -1495,6 +1558,7 @@ pub unsafe extern "C" fn simjorad_open(
             *reached = opened.reached;
             *edges = opened.edges;
             *bound = opened.bound;
+            *passes = opened.passes;
             0
         }
         Err(number) => -number,

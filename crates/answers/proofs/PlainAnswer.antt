@@ -43,7 +43,7 @@ module _ (a : List ℕ) (ok : sound a ≡ true) (c : ℕ) (l : c < conditionsOf 
       let z : _≡_ {A = ℕ} 0 1 = cc in
       omega arith
 
-  module _ {R E B : ℕ} (opened : openedWith R E B ≡ openOf a (c ∷ []) r .answer) where
+  module _ {R E B K : ℕ} (opened : openedWith R E B K ≡ openOf a (c ∷ []) r .answer) where
     abbrev page : Page
     page = pageOf a
 
@@ -53,8 +53,8 @@ module _ (a : List ℕ) (ok : sound a ≡ true) (c : ℕ) (l : c < conditionsOf 
     abbrev end : Driven
     end = driven page m B (start page m)
 
-    keeps : RunKeeps a (c ∷ []) r R E B (drive B ∷ value c ∷ [])
-    keeps = demand3 a (c ∷ []) r R E B (sym opened) (drive B ∷ value c ∷ [])
+    keeps : RunKeeps a (c ∷ []) r R E B K (drive B ∷ value c ∷ [])
+    keeps = demand3 a (c ∷ []) r R E B K (sym opened) (drive B ∷ value c ∷ [])
 
     own : listed c (c ∷ []) ≡ true
     unfolding listed

@@ -30,6 +30,7 @@ fn plain_answer(page: &[u16], c: u16, workspace: &mut [u16]) -> Ends
         reached: _,
         edges: _,
         bound,
+        passes: _,
     } = reach::open_run(page, &queries, &mut run)
     else {
         return no_ends();

@@ -58,17 +58,18 @@ intervalOr old (heldBy line) = old
 -- open: minus the refusal number, or 0
 abbrev pub openCode : Opening → ℤ
 openCode (refusedOpening k) = minus k
-openCode (openedWith R E bound) = pos 0
+openCode (openedWith R E bound passes) = pos 0
 
--- "Returns R, E and R + top × E"; a refusal leaves what was there
+-- "Returns R, E and R + top × E", and the count of passes; a refusal leaves what was there
 pub record Counts : Type 0 where
   pub reached : ℕ
   pub edges : ℕ
   pub bound : ℕ
+  pub passes : ℕ
 
 abbrev pub countsOr : Counts → Opening → Counts
 countsOr old (refusedOpening k) = old
-countsOr old (openedWith R E bound) = record { reached = R; edges = E; bound = bound }
+countsOr old (openedWith R E bound passes) = record { reached = R; edges = E; bound = bound; passes = passes }
 
 -- read: minus the refusal number, or the used length
 abbrev pub readCode : ReadAnswer → ℤ

@@ -79,10 +79,11 @@ pub extern "C" fn simjorad_open(
     reached: &mut u32,
     edges: &mut u32,
     bound: &mut u32,
+    passes: &mut u32,
 ) -> i32
     ensures code { λ r. ⌜ r ≡ openCode (openOf (now (page .entry)) (now (queries .entry)) (now (run .entry)) .answer) ⌝ }
     ensures area { λ _. ⌜ now (run .exit) ≡ openOf (now (page .entry)) (now (queries .entry)) (now (run .entry)) .run ⌝ }
-    ensures counts { λ _. ⌜ record { reached = now (reached .exit); edges = now (edges .exit); bound = now (bound .exit) } ≡ countsOr (record { reached = now (reached .entry); edges = now (edges .entry); bound = now (bound .entry) }) (openOf (now (page .entry)) (now (queries .entry)) (now (run .entry)) .answer) ⌝ }
+    ensures counts { λ _. ⌜ record { reached = now (reached .exit); edges = now (edges .exit); bound = now (bound .exit); passes = now (passes .exit) } ≡ countsOr (record { reached = now (reached .entry); edges = now (edges .entry); bound = now (bound .entry); passes = now (passes .entry) }) (openOf (now (page .entry)) (now (queries .entry)) (now (run .entry)) .answer) ⌝ }
 {
     let answer = reach::open_run(page, queries, run);
     match answer {
@@ -91,10 +92,12 @@ pub extern "C" fn simjorad_open(
             reached: r,
             edges: e,
             bound: b,
+            passes: k,
         } => {
             *reached = r;
             *edges = e;
             *bound = b;
+            *passes = k;
             0
         }
     }

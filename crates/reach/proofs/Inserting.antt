@@ -95,6 +95,10 @@ joining-next {rest′ = rest′} {g = g} {words = words} s a h =
 pub joining-last : {f rest : ℕ → Bool} {words₀ words : List ℕ} → Joining f rest words₀ words → ((c : ℕ) → rest c ≡ false) → Joins f words₀ words
 joining-last {words = words} s h = record { size = s .size; is = λ c l. sym (s .is c l ∙ ap (λ (t : Bool). has words c || t) (h c) ∙ or-false (has words c)) }
 
+-- nothing is put in
+pub joining-skip : {f rest rest′ : ℕ → Bool} {words₀ words : List ℕ} → Joining f rest words₀ words → ((c : ℕ) → rest c ≡ rest′ c) → Joining f rest′ words₀ words
+joining-skip {words = words} s h = record { size = s .size; is = λ c l. s .is c l ∙ ap (λ (t : Bool). has words c || t) (h c) }
+
 -- the same with a count of the new ones
 pub record Inserting (f rest : ℕ → Bool) (words₀ words : List ℕ) (new : ℕ) : Type 0 where
   pub joining : Joining f rest words₀ words
@@ -107,10 +111,8 @@ pub inserting-next : {f rest rest′ g : ℕ → Bool} {words₀ words words′ 
     → Inserting f rest′ words₀ words′ (k + l)
 inserting-next s a h = record { joining = joining-next (s .joining) (a .joins) h; counted = omega (arith, s .counted, a .counted) }
 
--- nothing is put in
 pub inserting-skip : {f rest rest′ : ℕ → Bool} {words₀ words : List ℕ} {k : ℕ} → Inserting f rest words₀ words k → ((c : ℕ) → rest c ≡ rest′ c) → Inserting f rest′ words₀ words k
-inserting-skip {words = words} s h =
-    record { joining = record { size = s .joining .size; is = λ c l. s .joining .is c l ∙ ap (λ (t : Bool). has words c || t) (h c) }; counted = s .counted }
+inserting-skip s h = record { joining = joining-skip (s .joining) h; counted = s .counted }
 
 pub inserting-last : {f rest : ℕ → Bool} {words₀ words : List ℕ} {k : ℕ} → Inserting f rest words₀ words k → ((c : ℕ) → rest c ≡ false) → Inserts f words₀ words k
 inserting-last s h = record { joins = joining-last (s .joining) h; counted = s .counted }

@@ -2,12 +2,16 @@
 pub mod Inserting
 -- what queries and literals name
 pub mod Naming
--- a visit to one condition
+-- what one condition names
 pub mod Visiting
 -- a pass over the lines
 pub mod Sweeping
--- the visits and the passes, until the set is the closure
+-- the passes that use what they have just found, until the set is the closure
 pub mod Closing
+-- the passes of an opening, and their count
+pub mod Passing
+-- R and E
+pub mod Counting
 -- the set as marks
 pub mod Marking
 -- the run area that an opening writes

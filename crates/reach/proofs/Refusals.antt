@@ -10,7 +10,7 @@ use borrow.Author.Tests.{le-leb, lt-leb}
 use Rattle.semantics.specs.Area.{sound, pageOf, conditionsOf, allUnder}
 use Rattle.semantics.specs.Call.{Cause, cause, firstOf}
 use Rattle.semantics.specs.Operation.{Opened, refusedOpening, queryCauses, openCauses, openAs, openOf}
-use Rattle.semantics.specs.Reading.{closure}
+use Rattle.semantics.specs.Reading.{closure, passCount}
 use Rattle.reach.specs.Opening.{accepted}
 
 -- 10, 11 and 12, whatever causes come behind them
@@ -37,7 +37,7 @@ module _ (a qs : List ℕ) (rest : List Cause) where
 module _ (a qs r : List ℕ) where
   -- what the answer and the run area must be, where the first cause is o
   abbrev outcome : Option ℕ → Opened
-  outcome o = openAs o (pageOf a) (closure (pageOf a) qs) r
+  outcome o = openAs o (pageOf a) (closure (pageOf a) qs) (passCount (pageOf a) qs) r
 
   abbrev behind : List Cause
   behind = cause (not (leb (3 * pageOf a .conditions) (length r))) 13 ∷ []

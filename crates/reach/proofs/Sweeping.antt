@@ -11,18 +11,18 @@ use borrow.Author.Tests.{eqb-true, eq-eqb}
 use Rattle.fixpoint.specs.ChaoticIteration.{DependencyClosed}
 use Rattle.fixpoint.specs.Sum.{bit, count}
 use Rattle.fixpoint.proofs.Sum.{sum-tight}
-use Rattle.semantics.specs.Area.{sound, firstLine, pageOf, lineAt, topOf, conditionsOf, countOf}
+use Rattle.semantics.specs.Area.{sound, firstLine, pageOf, lineAt, countOf}
 use Rattle.semantics.specs.Page.{Line, names, linesName}
 use Rattle.semantics.proofs.Readings.{names-inside}
 use Rattle.semantics.proofs.Soundness.{both-true, sound-proper}
 use Rattle.semantics.proofs.Table.{or-cases}
 use Rattle.page.specs.Lines.{Next, lineNames}
 use Rattle.page.proofs.Naming.{lines-name}
-use Rattle.page.proofs.Scan.{entry-head}
-use Rattle.page.proofs.Scanning.{Scanning, linesLeft, scanning-first, lines-first, scanning-moved, lines-moved, lines-none, entry-ok}
+use Rattle.page.proofs.Scanning.{Scanning, linesLeft, scanning-first, lines-first, scanning-moved, lines-moved, lines-none}
 use Rattle.bits.specs.Words.{has}
 use Rattle.reach.specs.Sets.{Inserts, Swept}
 use Rattle.reach.proofs.Inserting.{size-most}
+use Rattle.reach.proofs.Visiting.{scanned-head}
 
 bit-eq : (a b : Bool) → bit a ≡ bit b → a ≡ b
 bit-eq true true e = refl
@@ -78,11 +78,6 @@ module _ (a : List ℕ) (words₀ : List ℕ) where
           settled = λ e x b l m p q. inr (ap (λ (ls : List Line). linesName ls x b) (lines-first a) ∙ q);
         })
 
-    -- the head of the next line is a condition
-    pub head-in : {words : List ℕ} {at k new : ℕ} → Sweeping words at k new → k < countOf a → getD a at 0 < pageOf a .conditions
-    unfolding pageOf
-    head-in {at = at} s l = entry-head (topOf a) (conditionsOf a) _ a at (entry-ok a (s .scan) l)
-
     module _ {words : List ℕ} {at k at′ k′ new : ℕ} (s : Sweeping words at k new) (l : k < countOf a) (e : Next a at k at′ k′) where
       abbrev head : ℕ
       head = getD a at 0
@@ -106,7 +101,7 @@ module _ (a : List ℕ) (words₀ : List ℕ) where
             grows = λ c m q. inserts-grows h c m (s .grows c m q);
             inside = λ t d g c m q.
                 ⊎-elim (λ z. s .inside t d g c m z)
-                (λ z. let n = named c z in d head c (head-in s l) (names-inside (pageOf a) (sound-proper a ok) head c n) (s .inside t d g head (small (head-in s l)) here) n)
+                (λ z. let n = named c z in d head c (scanned-head a (s .scan) l) (names-inside (pageOf a) (sound-proper a ok) head c n) (s .inside t d g head (small (scanned-head a (s .scan) l)) here) n)
                 (or-cases (has words c) (lineNames line c) (sym (h .joins .is c m) ∙ q));
             counted = omega (arith, s .counted, h .counted);
             settled = λ z x b m o p q.

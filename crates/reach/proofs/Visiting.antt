@@ -1,4 +1,4 @@
--- A scan over the lines of one condition, and a visit to it. Assumes nothing.
+-- A condition is followed: a scan over its lines, and how many conditions they name. Assumes nothing.
 use mathlib.Core.Path.{_≡_, refl, sym, _∙_, ap}
 use mathlib.Core.Logic.{_≢_}
 use mathlib.Core.Bool.{Bool, true, false, not, _&&_, _||_}
@@ -18,12 +18,12 @@ use Rattle.semantics.proofs.Soundness.{sound-proper}
 use Rattle.page.specs.Graded.{SoundEntry}
 use Rattle.page.specs.Lines.{Next, lineNames}
 use Rattle.page.proofs.Naming.{lines-name}
-use Rattle.page.proofs.Scan.{entry-four}
+use Rattle.page.proofs.Scan.{entry-four, entry-head}
 use Rattle.page.proofs.Scanning.{Scanning, linesLeft, scanning-first, lines-first, scanning-moved, lines-moved, lines-none, entry-ok}
 use Rattle.index.specs.Groups.{Cleared}
-use Rattle.bits.specs.Words.{has, Removed, Absorbed}
+use Rattle.bits.specs.Words.{has, Absorbed}
 use Rattle.bits.proofs.Sets.{word-none}
-use Rattle.reach.specs.Sets.{Inserts, Visited}
+use Rattle.reach.specs.Sets.{Inserts, Followed}
 use Rattle.reach.proofs.Inserting.{Inserting, inserting-first, inserting-next, inserting-skip, inserting-last}
 
 -- the entry where a scan stands
@@ -31,6 +31,11 @@ pub scanned-entry : (a : List ℕ) {at k : ℕ} → Scanning a at k → k < coun
 scanned-entry a {at} s l =
     let e = entry-ok a s l in
     record { fits = omega (arith, s .in-used, s .in-area); four = entry-four (topOf a) (conditionsOf a) (usedOf a - at) a at e; tests = e }
+
+-- and its head is a condition
+pub scanned-head : (a : List ℕ) {at k : ℕ} → Scanning a at k → k < countOf a → getD a at 0 < pageOf a .conditions
+unfolding pageOf
+scanned-head a {at} s l = entry-head (topOf a) (conditionsOf a) _ a at (entry-ok a s l)
 
 -- the scan stands at `at`, behind k lines, and `new` conditions are new
 module _ (a : List ℕ) (c : ℕ) (words₀ : List ℕ) where
@@ -87,13 +92,13 @@ count-past n (suc k) s l h =
       | no m ↦ let e : suc k ≡ n = omega arith in ap (λ (i : ℕ). count i s) e
     ]
 
--- the visit: the conditions named are gathered in an empty set, c is taken from those that wait, and the set is put into both others
+-- the conditions named are gathered in an empty set: how many they are
 module _ (a : List ℕ) (ok : sound a ≡ true) (c : ℕ) {blank named : List ℕ} {edges : ℕ} (empty : Cleared blank) (h : Inserts (names (pageOf a) c) blank named edges) where
   named-is : (k : ℕ) → k < 512 → has named k ≡ names (pageOf a) c k
   named-is k l = h .joins .is k l ∙ ap (λ (t : Bool). t || names (pageOf a) c k) (blank-none blank empty k)
 
-  edges-is : edges ≡ count (pageOf a .conditions) (names (pageOf a) c)
-  edges-is =
+  named-count : edges ≡ count (pageOf a .conditions) (names (pageOf a) c)
+  named-count =
       let p = sound-proper a ok in
       let none : count 512 (has blank) ≡ 0 = sum-eq 512 _ (λ b. 0) (λ b k. ap bit (blank-none blank empty b)) ∙ sum-zero 512 in
       let all : count 512 (has named) ≡ count 512 (names (pageOf a) c) = sum-eq 512 _ _ (λ b k. ap bit (named-is b k)) in
@@ -102,14 +107,13 @@ module _ (a : List ℕ) (ok : sound a ≡ true) (c : ℕ) {blank named : List �
       (λ b k. not-so (names (pageOf a) c b) (λ q. let i = names-inside (pageOf a) p c b q in omega arith)) in
       omega (arith, h .counted)
 
-  pub visited : (waiting between : List ℕ) {reached reached′ waiting′ : List ℕ} → Removed c waiting between → Absorbed named reached between reached′ waiting′ → Visited (pageOf a) c reached waiting reached′ waiting′ edges
-  visited waiting between {reached} r j =
+  -- and that set is put into what is found and what is new
+  pub followed : {found new found′ new′ : List ℕ} → Absorbed named found new found′ new′ → Followed (pageOf a) c found new found′ new′ edges
+  followed {found} {new} j =
       record {
-        reached-size = j .reached-size;
-        waiting-size = j .waiting-size;
-        reached-is = λ k l. j .reached-is k l ∙ ap (λ (t : Bool). has reached k || t) (named-is k l);
-        waiting-is = λ k l.
-            j .waiting-is k l ∙ ap (λ (t : Bool). t || (has named k && not (has reached k))) (r .1 k l)
-            ∙ ap (λ (t : Bool). (has waiting k && not (eqb k c)) || (t && not (has reached k))) (named-is k l);
-        edges-is = edges-is;
+        found-size = j .reached-size;
+        new-size = j .waiting-size;
+        found-is = λ k l. j .reached-is k l ∙ ap (λ (t : Bool). has found k || t) (named-is k l);
+        new-is = λ k l. j .waiting-is k l ∙ ap (λ (t : Bool). has new k || (t && not (has found k))) (named-is k l);
+        edges-is = named-count;
       }

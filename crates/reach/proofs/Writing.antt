@@ -17,10 +17,12 @@ use Rattle.semantics.specs.RunArea.{intervalAt, markAt, markOf, runOf}
 use Rattle.semantics.specs.Table.{member, allUnknown}
 use Rattle.semantics.specs.Worklist.{start}
 use Rattle.semantics.proofs.Areas.{from-cells}
+use Rattle.semantics.proofs.Closure.{pass-count-is, pass-count-one}
 use Rattle.semantics.proofs.Table.{getD-table}
 use Rattle.reach.specs.Marks.{Marks, ClosureMarks}
 use Rattle.reach.specs.Opening.{accepted, Written}
-use Rattle.reach.specs.Sets.{Followed}
+use Rattle.reach.specs.Sets.{FoundIn, Counted}
+use Rattle.reach.proofs.Counting.{counted-r, counted-e}
 use Rattle.worklist.specs.Evaluation.{stored}
 
 -- one cell
@@ -101,11 +103,15 @@ opened-run page {s} {marks} {run} {run′} h l w =
 
 -- an accepted opening
 module _ (a qs run : List ℕ) where
-  pub accepted-answer : {words : List ℕ} {r e b : ℕ} → Followed (pageOf a) qs words r e → b ≡ r + topOf a * e → openedWith r e b ≡ accepted a qs run .answer
+  pub accepted-answer : {words : List ℕ} {r e b k : ℕ} → conditionsOf a ≤ 512 → FoundIn (pageOf a) qs words k → Counted (pageOf a) words r e → b ≡ r + topOf a * e
+      → openedWith r e b k ≡ accepted a qs run .answer
   unfolding bound pageOf
-  accepted-answer {b = b} f s =
-      let bs : b ≡ bound (pageOf a) (closure (pageOf a) qs) = s ∙ ap₂ (λ (x y : ℕ). x + topOf a * y) (f .reached-is) (f .edges-is) in
-      λ i. openedWith (f .reached-is i) (f .edges-is i) (bs i)
+  accepted-answer {b = b} l f h s =
+      let rs = counted-r (pageOf a) qs l (f .set) h in
+      let es = counted-e (pageOf a) qs l (f .set) h in
+      let bs : b ≡ bound (pageOf a) (closure (pageOf a) qs) = s ∙ ap₂ (λ (x y : ℕ). x + topOf a * y) rs es in
+      let ks = pass-count-one (pageOf a) qs _ _ (f .counted) (pass-count-is (pageOf a) qs) in
+      λ i. openedWith (rs i) (es i) (bs i) (ks i)
 
   pub accepted-run : {marks : List Bool} {run′ : List ℕ} → ClosureMarks (pageOf a) qs marks → 3 * conditionsOf a ≤ length run → Written (conditionsOf a) (topOf a) marks run run′ → run′ ≡ accepted a qs run .run
   unfolding pageOf

@@ -8,20 +8,20 @@ use Rattle.fixpoint.specs.KnowledgeOrder.{unknown}
 use mathlib.Core.Option.{none}
 use Rattle.semantics.specs.Area.{pageOf}
 use Rattle.semantics.specs.Operation.{Opening, refusedOpening, openedWith, Opened as Outcome, openAs}
-use Rattle.semantics.specs.Reading.{closure}
+use Rattle.semantics.specs.Reading.{closure, passCount}
 use Rattle.semantics.specs.RunArea.{intervalAt, markAt, markOf}
 use Rattle.semantics.specs.Table.{member}
 use Rattle.reach.specs.declared.OpenAnswer.{OpenAnswer}
 use Rattle.reach.specs.declared.OpenAnswer.the-variants.{Refused, Opened}
 
--- a refusal's number; or R, E and R + top × E
+-- a refusal's number; or R, E, R + top × E and the count of passes
 abbrev pub openingOf : OpenAnswer → Opening
 openingOf (Refused k) = refusedOpening k
-openingOf (Opened reached edges bound) = openedWith reached edges bound
+openingOf (Opened reached edges bound passes) = openedWith reached edges bound passes
 
 -- the outcome where no cause holds
 abbrev pub accepted : List ℕ → List ℕ → List ℕ → Outcome
-accepted a qs r = openAs none (pageOf a) (closure (pageOf a) qs) r
+accepted a qs r = openAs none (pageOf a) (closure (pageOf a) qs) (passCount (pageOf a) qs) r
 
 -- n conditions hold [0;top], marked 2 if they are reached and 0 if not; what stands behind them stays
 pub record Written (n top : ℕ) (marks : List Bool) (before after : List ℕ) : Type 0 where

@@ -9,11 +9,12 @@ ghost use Rattle.semantics.specs.Operation.{openOf};
 ghost use Rattle.semantics.specs.Page.{mentions, names};
 ghost use Rattle.semantics.specs.RunArea.{markOf};
 ghost use Rattle.semantics.specs.Table.{listed};
+ghost use Rattle.index.specs.Groups.{Cleared};
 ghost use Rattle.page.specs.Graded.{RuleAt, SoundEntry};
 ghost use Rattle.page.specs.Lines.{lineNames};
 ghost use Rattle.reach.specs.Opening.{openingOf, accepted, Written};
 ghost use Rattle.reach.specs.Marks.{Unmarked, ClosureMarks};
-ghost use Rattle.reach.specs.Sets.{Joins, Inserts, Visited, ClosureSet, Followed, Swept, MarksBelow};
+ghost use Rattle.reach.specs.Sets.{Joins, Inserts, Inside, Followed, Passed, ClosureSet, FoundIn, Counted, Swept, MarksBelow};
 
 // Puts the queries into the set.
 fn insert_queries(queries: &[u16], words: &mut [u64])
@@ -73,46 +74,77 @@ fn insert_named(a: &[u16], c: u16, words: &mut [u64]) -> u32
     new
 }
 
-// The condition c waits no longer. What its R lines name is reached, and waits if it is new; answers how many conditions they name.
-fn visit(a: &[u16], c: u16, reached: &mut [u64], waiting: &mut [u64]) -> u32
-    requires { ⌜ (sound (now a) ≡ true) × (c < conditionsOf (now a)) × (length (now reached) ≡ 8) × (length (now waiting) ≡ 8) ⌝ }
-    ensures { λ r. ⌜ Visited (pageOf (now (a .entry))) c (now (reached .entry)) (now (waiting .entry)) (now (reached .exit)) (now (waiting .exit)) r ⌝ }
+// Follows the condition c, in one scan. What its R lines name is found, and new if it was not found before; answers how many they name.
+fn follow(a: &[u16], c: u16, found: &mut [u64], new: &mut [u64]) -> u32
+    requires { ⌜ (sound (now a) ≡ true) × (length (now found) ≡ 8) × (length (now new) ≡ 8) ⌝ }
+    ensures { λ r. ⌜ Followed (pageOf (now (a .entry))) c (now (found .entry)) (now (new .entry)) (now (found .exit)) (now (new .exit)) r ⌝ }
 {
     let mut named = [0u64; 8];
     let edges = insert_named(a, c, &mut named);
-    bits::remove(waiting, c);
-    bits::absorb(&named, reached, waiting);
+    bits::absorb(&named, found, new);
     edges
 }
 
-// A set of conditions, with R and E.
-struct Closure {
-    set: [u64; 8],
+// How many conditions a pass followed, and how many those name.
+struct Counts {
     reached: u32,
     edges: u32,
 }
 
-// The closure of the queries: each reached condition is visited once.
-fn follow(a: &[u16], queries: &[u16]) -> Closure
+// A pass: it follows the conditions of `fresh`, takes them from that set, and puts what it adds into the empty set `new`.
+fn pass(a: &[u16], fresh: &mut [u64], found: &mut [u64], new: &mut [u64]) -> Counts
+    requires { ⌜ (sound (now a) ≡ true) × Inside (conditionsOf (now a)) (now fresh) × (length (now found) ≡ 8) × (length (now new) ≡ 8) × Cleared (now new) ⌝ }
+    ensures passed { λ _. ⌜ Passed (pageOf (now (a .entry))) (now (fresh .entry)) (now (found .entry)) (now (found .exit)) (now (new .exit)) ⌝ }
+    ensures counted { λ r. ⌜ Counted (pageOf (now (a .entry))) (now (fresh .entry)) (r .reached) (r .edges) ⌝ }
+{
+    let mut reached: u32 = 0;
+    let mut edges: u32 = 0;
+    loop {
+        let c = bits::lowest_in(fresh);
+        if 512 <= c {
+            return Counts { reached, edges };
+        }
+        bits::remove(fresh, c);
+        edges += follow(a, c, found, new);
+        reached += 1;
+    }
+}
+
+// A set of conditions, the count of passes that found it, and its R and E.
+struct Found {
+    set: [u64; 8],
+    passes: u32,
+    reached: u32,
+    edges: u32,
+}
+
+// The closure of the queries, in passes: the first that adds none is the last.
+fn find(a: &[u16], queries: &[u16]) -> Found
     requires { ⌜ (sound (now a) ≡ true) × (allUnder (conditionsOf (now a)) (now queries) ≡ true) ⌝ }
-    ensures { λ r. ⌜ Followed (pageOf (now (a .entry))) (now (queries .entry)) (r .set) (r .reached) (r .edges) ⌝ }
+    ensures found { λ r. ⌜ FoundIn (pageOf (now (a .entry))) (now (queries .entry)) (r .set) (r .passes) ⌝ }
+    ensures counted { λ r. ⌜ Counted (pageOf (now (a .entry))) (r .set) (r .reached) (r .edges) ⌝ }
 {
     let mut set = [0u64; 8];
     insert_queries(queries, &mut set);
-    let mut waiting = set;
-    let mut visited: u32 = 0;
+    let mut fresh = set;
+    let mut passes: u32 = 0;
+    let mut reached: u32 = 0;
     let mut edges: u32 = 0;
     loop {
-        let c = bits::lowest_in(&waiting);
-        if 512 <= c {
-            return Closure {
+        let mut new = [0u64; 8];
+        let counts = pass(a, &mut fresh, &mut set, &mut new);
+        passes += 1;
+        reached += counts.reached;
+        edges += counts.edges;
+        fresh = new;
+        if 512 <= bits::lowest_in(&fresh) {
+            return Found {
                 set,
-                reached: visited,
+                passes,
+                reached,
                 edges,
             };
         }
-        edges += visit(a, c, &mut set, &mut waiting);
-        visited += 1;
     }
 }
 
@@ -147,7 +179,7 @@ fn sweep(a: &[u16], set: &mut [u64]) -> u32
     new
 }
 
-// The closure of the queries, by passes until one adds nothing: fewer scans than visits, where E is not asked for.
+// The closure of the queries, by passes over all lines until one adds nothing: fewer scans, where E is not asked for.
 fn spread(a: &[u16], queries: &[u16]) -> [u64; 8]
     requires { ⌜ (sound (now a) ≡ true) × (allUnder (conditionsOf (now a)) (now queries) ≡ true) ⌝ }
     ensures { λ r. ⌜ ClosureSet (pageOf (now (a .entry))) (now (queries .entry)) r ⌝ }
@@ -231,6 +263,7 @@ pub enum OpenAnswer {
         reached: u32,
         edges: u32,
         bound: u32,
+        passes: u32,
     },
 }
 
@@ -242,7 +275,7 @@ fn open_accepted(page: &[u16], queries: &[u16], run: &mut [u16]) -> OpenAnswer
 {
     let top = page[0];
     let n = page[1];
-    let closure = follow(page, queries);
+    let closure = find(page, queries);
     let set = closure.set;
     let reached = closure.reached;
     let edges = closure.edges;
@@ -253,6 +286,7 @@ fn open_accepted(page: &[u16], queries: &[u16], run: &mut [u16]) -> OpenAnswer
         reached,
         edges,
         bound: bound_of(reached, top, edges),
+        passes: closure.passes,
     }
 }
 

@@ -60,6 +60,10 @@ areaHalf = 10 ∷ 2 ∷ 2 ∷ 13 ∷ 1 ∷ 0 ∷ 5 ∷ 5 ∷ 0 ∷ 1 ∷ 5 ∷ 1
 unfoldable pub areaNine : List ℕ
 areaNine = 10 ∷ 1 ∷ 1 ∷ 9 ∷ 0 ∷ 1 ∷ 9 ∷ 1 ∷ 0 ∷ []
 
+-- `G,10,3 / R,0,10,M,1 / R,1,10,M,2`
+unfoldable pub chain : List ℕ
+chain = 10 ∷ 3 ∷ 2 ∷ 14 ∷ 0 ∷ 1 ∷ 10 ∷ 1 ∷ 2 ∷ 1 ∷ 1 ∷ 10 ∷ 1 ∷ 4 ∷ []
+
 -- seven numbers: the last lies past 3 × C
 unfoldable pub opened1 : List ℕ
 opened1 = 0 ∷ 10 ∷ 2 ∷ 0 ∷ 10 ∷ 2 ∷ 9 ∷ []
@@ -79,13 +83,21 @@ many = 0 ∷ 0 ∷ 0 ∷ 0 ∷ 0 ∷ 0 ∷ 0 ∷ 0 ∷ 0 ∷ 0 ∷ 0 ∷ 0 ∷ 0
 unfoldable pub nines : List ℕ
 nines = 9 ∷ 9 ∷ 9 ∷ 9 ∷ 9 ∷ 9 ∷ 9 ∷ []
 
+unfoldable pub ten9s : List ℕ
+ten9s = 9 ∷ 9 ∷ 9 ∷ 9 ∷ 9 ∷ 9 ∷ 9 ∷ 9 ∷ 9 ∷ 9 ∷ []
+
 unfoldable pub scratch1 : List ℕ
 scratch1 = 9 ∷ 9 ∷ 9 ∷ 9 ∷ 9 ∷ 9 ∷ 9 ∷ 9 ∷ 9 ∷ 9 ∷ 9 ∷ 9 ∷ 9 ∷ []
 
 unfoldable pub areaRows : List AreaRow
 areaRows =
-    opensOn area1 (0 ∷ []) nines (openedWith 2 2 22) opened1
-    ∷ opensOn area1 many nines (openedWith 2 2 22) opened1
+    opensOn area1 (0 ∷ []) nines (openedWith 2 2 22 2) opened1
+    ∷ opensOn area1 many nines (openedWith 2 2 22 2) opened1
+    -- the count of passes: 1 where the queries are all that is reached, R on a chain, also where its lines stand in its order
+    ∷ opensOn area1 (0 ∷ 1 ∷ []) nines (openedWith 2 2 22 1) opened1
+    ∷ opensOn chain (0 ∷ []) ten9s (openedWith 3 2 23 3) (0 ∷ 10 ∷ 2 ∷ 0 ∷ 10 ∷ 2 ∷ 0 ∷ 10 ∷ 2 ∷ 9 ∷ [])
+    ∷ opensOn chain (1 ∷ []) ten9s (openedWith 2 1 12 2) (0 ∷ 10 ∷ 0 ∷ 0 ∷ 10 ∷ 2 ∷ 0 ∷ 10 ∷ 2 ∷ 9 ∷ [])
+    ∷ opensOn chain (2 ∷ []) ten9s (openedWith 1 0 1 1) (0 ∷ 10 ∷ 0 ∷ 0 ∷ 10 ∷ 0 ∷ 0 ∷ 10 ∷ 2 ∷ 9 ∷ [])
     ∷ opensOn area7 (0 ∷ []) nines (refusedOpening 10) nines
     ∷ opensOn area1 [] nines (refusedOpening 11) nines
     ∷ opensOn area1 (0 ∷ many) nines (refusedOpening 11) nines

@@ -1,22 +1,22 @@
 -- The closure marks exactly the reached conditions. Assumes nothing.
-use mathlib.Core.Path.{_≡_, refl, sym, _∙_, ap, subst}
+use mathlib.Core.Path.{_≡_, refl, sym, _∙_, ap}
 use mathlib.Core.Logic.{_⊎_, inl, inr, _↔_}
-use mathlib.Core.Bool.{Bool, true, false, _&&_, _||_, false≢true, true≢false, or-true}
+use mathlib.Core.Bool.{Bool, true, false, not, _&&_, _||_, false≢true, true≢false, or-true}
 use mathlib.Core.List.{List, [], _∷_}
-use Prim.Native.Nat.{ℕ, zero, suc, _+_, _*_, _≤_, _<_}
+use Prim.Native.Nat.{ℕ, zero, suc, _+_, _-_, _*_, _≤_, _<_}
 use native.Mathlib.Nat.{mul-comm}
 use native.Mathlib.Decide.{decLe}
 use native.Mathlib.Omega.{arith}
-use lib.Dec.{eqb}
-use lib.ListN.{length, getD, List·getD-eq-default}
+use lib.ListN.{length, List·getD-eq-default}
 use lib.Seq.{ext-getD}
+use borrow.Author.Tests.{eq-eqb}
 use Rattle.fixpoint.specs.ChaoticIteration.{DependencyClosed, budget, edges}
 use Rattle.fixpoint.specs.Sum.{sum, bit, count}
 use Rattle.semantics.specs.Page.{Page, names}
-use Rattle.semantics.specs.Reading.{Reached, queried, named, pass, passes, closure, countR, countE, bound, reached}
-use Rattle.semantics.specs.Table.{tableFrom, table, member, anyBelow, listed}
+use Rattle.semantics.specs.Reading.{Reached, queried, named, pass, passes, queriedSet, closure, adds, IsPassCount, passCount, countR, countE, bound, reached}
+use Rattle.semantics.specs.Table.{member, anyBelow, listed}
 use Rattle.fixpoint.proofs.ChaoticIteration.{edges-pairs}
-use Rattle.fixpoint.proofs.Sum.{sum-le, sum-eq, sum-const, sum-tight}
+use Rattle.fixpoint.proofs.Sum.{sum-le, sum-eq, sum-const, sum-tight, sum-entry}
 use Rattle.semantics.proofs.Soundness.{both-true}
 use Rattle.semantics.proofs.Table.{length-from, getD-table, or-cases, any-true, any-found}
 
@@ -34,23 +34,69 @@ bit-eq true false e = absurd (omega arith)
 bit-eq false true e = absurd (omega arith)
 bit-eq false false e = refl
 
+-- a list that is not empty has an entry
+first-asked : (qs : List ℕ) → 1 ≤ length qs → (c : ℕ) × (listed c qs ≡ true)
+unfolding listed
+first-asked [] l = absurd (omega arith)
+first-asked (q ∷ qs) l = (q, rw (eq-eqb q q refl))
+
+-- where p does not come back once it fails: the count of those where it holds is the first where it fails
+module _ (p : ℕ → Bool) (on : (i : ℕ) → p i ≡ false → p (suc i) ≡ false) where
+  record First (n k : ℕ) : Type 0 where
+    few : k ≤ n
+    holds : (i : ℕ) → i < k → p i ≡ true
+    fails : k < n → p k ≡ false
+
+  -- once p fails, it fails later too
+  past : (i d : ℕ) → p i ≡ false → p (i + d) ≡ false
+  past i zero e = ap p (omega arith) ∙ e
+  past i (suc d) e = ap p (omega arith) ∙ on (i + d) (past i d e)
+
+  first-one : (n : ℕ) → First n (count n p)
+  unfolding sum
+  first-one zero = record { few = omega arith; holds = λ i l. absurd (omega arith); fails = λ l. absurd (omega arith) }
+  first-one (suc n) = go (first-one n) (p n) refl
+    where
+      go : First n (count n p) → (t : Bool) → p n ≡ t → First (suc n) (count n p + bit t)
+      go f true e =
+          elim (decLe n (count n p)) [
+            | yes l ↦
+                record {
+                  few = omega (arith, f .few);
+                  holds = λ i m. elim (decLe n i) [ yes q ↦ ap p (omega (arith, f .few)) ∙ e | no q ↦ f .holds i (omega arith) ];
+                  fails = λ m. absurd (omega arith);
+                }
+            | no l ↦ absurd (true≢false (sym e ∙ ap p (omega arith) ∙ past (count n p) (n - count n p) (f .fails (omega arith))))
+          ]
+      go f false e =
+          record {
+            few = omega (arith, f .few);
+            holds = λ i m. f .holds i (omega arith);
+            fails = λ m.
+                elim (decLe n (count n p)) [
+                  | yes l ↦ ap p (omega (arith, f .few)) ∙ e
+                  | no l ↦ ap p (omega arith) ∙ f .fails (omega arith)
+                ];
+          }
+
 module _ (page : Page) (qs : List ℕ) where
   abbrev n : ℕ
   n = page .conditions
 
-  at : ℕ → List Bool
-  at k = passes page k (table n (λ c. listed c qs))
+  -- what is found after k passes
+  abbrev pub at : ℕ → List Bool
+  at k = passes page k (queriedSet page qs)
 
-  at-first : (c : ℕ) → c < n → member (at 0) c ≡ listed c qs
-  unfolding at passes
+  pub at-first : (c : ℕ) → c < n → member (at 0) c ≡ listed c qs
+  unfolding passes
   at-first c l = getD-table n (λ c. listed c qs) c false l
 
-  at-next : (k b : ℕ) → b < n → member (at (suc k)) b ≡ (member (at k) b || anyBelow n (λ a. member (at k) a && names page a b))
-  unfolding at passes pass
+  pub at-next : (k b : ℕ) → b < n → member (at (suc k)) b ≡ (member (at k) b || anyBelow n (λ a. member (at k) a && names page a b))
+  unfolding passes pass
   at-next k b l = getD-table n (λ b. member (at k) b || anyBelow n (λ a. member (at k) a && names page a b)) b false l
 
-  at-length : (k : ℕ) → length (at k) ≡ n
-  unfolding at passes pass
+  pub at-length : (k : ℕ) → length (at k) ≡ n
+  unfolding passes pass
   at-length zero = length-from n 0 (λ c. listed c qs)
   at-length (suc k) = length-from n 0 (λ b. member (at k) b || anyBelow n (λ a. member (at k) a && names page a b))
 
@@ -80,7 +126,7 @@ module _ (page : Page) (qs : List ℕ) where
       ]
 
   stays : (k : ℕ) → at (suc k) ≡ at k → at (suc (suc k)) ≡ at (suc k)
-  unfolding at passes
+  unfolding passes
   stays k e = ap (pass page) e
 
   rounds : (k : ℕ) → (at (suc k) ≡ at k) ⊎ (suc k ≤ size (suc k))
@@ -97,8 +143,89 @@ module _ (page : Page) (qs : List ℕ) where
   settles : at (suc n) ≡ at n
   settles = elim (rounds n) [ inl e ↦ e | inr h ↦ absurd (omega (arith, full (suc n))) ]
 
+  -- the count of passes
+  more : ℕ → Bool
+  more k = adds page (at k)
+
+  none-more : (k : ℕ) → at (suc k) ≡ at k → more k ≡ false
+  unfolding more adds passes
+  none-more k e = go (more k) refl
+    where
+      go : (t : Bool) → more k ≡ t → t ≡ false
+      go false h = refl
+      go true h =
+          let f = any-found n (λ b. member (at (suc k)) b && not (member (at k) b)) h in
+          let g = both-true (member (at (suc k)) (f .0)) (not (member (at k) (f .0))) (f .2) in
+          absurd (true≢false (sym (g .1) ∙ ap not (ap (λ (m : List Bool). member m (f .0)) (sym e) ∙ g .0)))
+
+  some-more : (k : ℕ) → more k ≡ true → size k < size (suc k)
+  some-more k e = elim (progress k) [ inl h ↦ absurd (true≢false (sym e ∙ none-more k h)) | inr h ↦ h ]
+
+  all-found : (k : ℕ) → more k ≡ false → at (suc k) ≡ at k
+  unfolding more adds passes
+  all-found k e =
+      ext-getD false (at (suc k)) (at k) (at-length (suc k) ∙ sym (at-length k))
+      (λ b l. go b (omega (arith, at-length (suc k))) (member (at (suc k)) b) refl (member (at k) b) refl)
+    where
+      go : (b : ℕ) → b < n → (s : Bool) → member (at (suc k)) b ≡ s → (t : Bool) → member (at k) b ≡ t → s ≡ t
+      go b l true p true q = refl
+      go b l true p false q = absurd (true≢false (sym (any-true n (λ b. member (at (suc k)) b && not (member (at k) b)) b l (rw (p, q))) ∙ e))
+      go b l false p true q = absurd (false≢true (sym p ∙ grows k b l q))
+      go b l false p false q = refl
+
+  pub adds-still : (k : ℕ) → adds page (at k) ≡ false → adds page (at (suc k)) ≡ false
+  unfolding more
+  adds-still k e = none-more (suc k) (stays k (all-found k e))
+
+  pub pass-count-is : IsPassCount page qs (passCount page qs)
+  unfolding passCount more
+  pass-count-is =
+      let f = first-one more adds-still n in
+      let e : suc (count n more) - 1 ≡ count n more = omega arith in
+      let last : more (count n more) ≡ false = elim (decLe n (count n more)) [ yes l ↦ ap more (omega (arith, f .few)) ∙ none-more n settles | no l ↦ f .fails (omega arith) ] in
+      record {
+        some-pass = omega arith;
+        last = ap more e ∙ last;
+        before = λ i l. f .holds i (omega arith);
+      }
+
+  -- each pass that adds some leaves one condition more
+  grown : (k : ℕ) → ((i : ℕ) → i < k → more i ≡ true) → k + size 0 ≤ size k
+  grown zero h = omega arith
+  grown (suc k) h = omega (arith, grown k (λ i m. h i (omega arith)), some-more k (h k (omega arith)))
+
+  -- so no more than C passes add some
+  pub adding-few : (k : ℕ) → ((i : ℕ) → i < k → adds page (at i) ≡ true) → k ≤ n
+  unfolding more
+  adding-few k h = omega (arith, grown k h, full k)
+
+  -- a pass that adds none has found the closure
+  pub found-all : (k : ℕ) → adds page (at k) ≡ false → at k ≡ closure page qs
+  unfolding closure more
+  found-all k e = elim (decLe k n) [ yes l ↦ sym (same-later k (n - k) e) ∙ ap at (omega arith) | no l ↦ ap at (omega arith) ∙ same-later n (k - n) (none-more n settles) ]
+    where
+      same-later : (k d : ℕ) → more k ≡ false → at (k + d) ≡ at k
+      same-later k zero e = ap at (omega arith)
+      same-later k (suc d) e = ap at (omega arith) ∙ all-found (k + d) (past more adds-still k d e) ∙ same-later k d e
+
+  no-fewer : (k d : ℕ) → size k ≤ size (k + d)
+  no-fewer k zero = let e : k + 0 ≡ k = omega arith in omega (arith, ap size e)
+  no-fewer k (suc d) =
+      let e : k + suc d ≡ suc (k + d) = omega arith in
+      omega (arith, ap size e, no-fewer k d, sum-le n (λ c. bit (member (at (k + d)) c)) (λ c. bit (member (at (suc (k + d))) c)) (λ c l. bit-le _ _ (grows (k + d) c l)))
+
+  pub pass-count-one : (j k : ℕ) → IsPassCount page qs j → IsPassCount page qs k → j ≡ k
+  pass-count-one j k a b =
+      elim (decLe j k) [
+        | yes l ↦ elim (decLe k j) [ yes m ↦ omega arith | no m ↦ absurd (differ j k a b (omega arith)) ]
+        | no l ↦ absurd (differ k j b a (omega arith))
+      ]
+    where
+      differ : (j k : ℕ) → IsPassCount page qs j → IsPassCount page qs k → j < k → ⊥
+      differ j k a b l = true≢false (sym (b .before (j - 1) (omega (arith, a .some-pass))) ∙ a .last)
+
   pub closure-length : length (closure page qs) ≡ n
-  unfolding closure at
+  unfolding closure
   closure-length = at-length n
 
   -- past C the closure holds nothing
@@ -110,11 +237,11 @@ module _ (page : Page) (qs : List ℕ) where
       ]
 
   pub reached-sound : (c : ℕ) → c < n → reached page qs c ≡ true → Reached page qs c
-  unfolding closure at
+  unfolding closure
   reached-sound = at-sound n
 
   pub reached-closed : DependencyClosed n (names page) (reached page qs)
-  unfolding closure at
+  unfolding closure
   reached-closed a b l m r e =
       ap (λ (w : List Bool). member w b) (sym settles) ∙ at-next n b m
       ∙ rw (any-true n (λ a. member (at n) a && names page a b) a l (rw (r, e)), or-true)
@@ -130,9 +257,21 @@ module _ (page : Page) (qs : List ℕ) where
     reached-real {c} (named {a = a} r e) = inside a c e
 
     pub reached-complete : {c : ℕ} → Reached page qs c → reached page qs c ≡ true
-    unfolding closure at
+    unfolding closure
     reached-complete {c} (queried m) = later n c (asked c m) m
     reached-complete {c} (named {a = a} r e) = reached-closed a c (reached-real r) (inside a c e) (reached-complete r) e
+
+    -- with a query there are at most R passes
+    pub passes-few : 1 ≤ length qs → passCount page qs ≤ countR page (closure page qs)
+    unfolding countR closure more
+    passes-few l =
+        let f = pass-count-is in
+        let k = passCount page qs in
+        let q = first-asked qs l in
+        let some : 1 ≤ size 0 = omega (arith, ap bit (at-first (q .0) (asked (q .0) (q .1)) ∙ q .1), sum-entry n (λ c. bit (member (at 0) c)) (q .0) (asked (q .0) (q .1))) in
+        let g = grown (k - 1) (λ i m. f .before i (omega arith)) in
+        let e : k - 1 + (n - (k - 1)) ≡ n = omega (arith, f .some-pass, full (k - 1)) in
+        omega (arith, f .some-pass, no-fewer (k - 1) (n - (k - 1)), ap size e)
 
     -- the computed closure is exactly what is reached
     pub closure-is : (c : ℕ) → (reached page qs c ≡ true) ↔ Reached page qs c

@@ -1,5 +1,5 @@
 -- Demand 3: after an accepted opening, any list of calls on areas follows the book, and the book keeps what is asked. Assumes nothing.
-use mathlib.Core.Path.{_≡_, refl, sym, _∙_, ap, ap₂}
+use mathlib.Core.Path.{_≡_, refl, sym, _∙_, ap, ap₂, subst}
 use mathlib.Core.Logic.{_≢_, _↔_, inl, inr}
 use mathlib.Core.Bool.{Bool, true, false, not, cond, _&&_, _||_, true≢false, false≢true}
 use mathlib.Core.List.{List, [], _∷_, _++_}
@@ -11,7 +11,7 @@ use native.Mathlib.Omega.{arith}
 use lib.Dec.{eqb, leb, ltb}
 use lib.ListN.{length, getD, set, length-set, List·getD-eq-default, drop}
 use lib.Seq.{getD-set-same, getD-set-other}
-use borrow.Author.Tests.{eq-eqb, ne-eqb, leb-false, lt-leb, not-false, ltb-true, eqb-true}
+use borrow.Author.Tests.{eq-eqb, ne-eqb, leb-true, leb-false, lt-leb, not-false, ltb-true, eqb-true}
 use Rattle.fixpoint.specs.ChaoticIteration.{put, woken, DependencyClosed, Step, Kept, budget}
 use Rattle.fixpoint.specs.Interval.{same, Interval, Assign}
 use Rattle.fixpoint.specs.KnowledgeOrder.{Under, bottom}
@@ -24,14 +24,14 @@ use Rattle.semantics.specs.Demand.{perform, performFrom, performBook, Pe
 use Rattle.semantics.specs.Operation.{openCauses, openOf, openAs, Opened, operation, Left, leftAs, openedWith}
 use Rattle.semantics.specs.Page.{Page, names}
 use Rattle.semantics.proofs.Proper.{Proper}
-use Rattle.semantics.specs.Reading.{IsPlain, Reached, closure, bound, reached, countR, countE}
+use Rattle.semantics.specs.Reading.{IsPlain, Reached, closure, IsPassCount, passCount, bound, reached, countR, countE}
 use Rattle.semantics.specs.RunArea.{runOf, reachedOf, worklistOf, runSound}
 use Rattle.semantics.specs.Table.{listed, intervalOf, member, table, allUnknown}
 use Rattle.semantics.specs.Worklist.{Worklist, start, changes, waitingAfter, evaluated, holder, lowestFrom, lowest, Status, rest, spent, statusAs, status, Driven, driveFrom, driven}
 use Rattle.fixpoint.proofs.ChaoticIteration.{kept-first, in-time, none-waits, done}
 use Rattle.fixpoint.proofs.ChaoticStep.{kept}
 use Rattle.semantics.proofs.Areas.{State, state-encodable, area-sound, reached-back, state-back, rest-back}
-use Rattle.semantics.proofs.Closure.{reached-closed, reached-complete, bound-is, closure-length, reached-real, closure-is}
+use Rattle.semantics.proofs.Closure.{reached-closed, reached-complete, bound-is, closure-length, reached-real, closure-is, pass-count-is, passes-few}
 use Rattle.semantics.proofs.Invariant.{lowest-some, lowest-none, rest-none, Invariant, after, waits-real, no-cause-holds, invariant-first, invariant-call, NoCause}
 use Rattle.semantics.proofs.Readings.{page-system, plain-is, plain-ordered, names-inside}
 use Rattle.semantics.proofs.Soundness.{sound-proper, both-true}
@@ -92,21 +92,23 @@ module _ (a : List ℕ) (ok : sound a ≡ true) (qs : List ℕ) where
       rw (one b t h z c) (rw (many cs (o .state) (t + takenBy (o .answer)) (invariant-call page w qs _ (plain-is page w) b t c h) z))
 
 -- an opening that returns R, E and the bound had no cause of refusal
-opened-with : (o : Option ℕ) (page : Page) (m : List Bool) (r : List ℕ) (R E B : ℕ) → openAs o page m r .answer ≡ openedWith R E B
-    → (o ≡ none) × (countR page m ≡ R) × (countE page m ≡ E) × (bound page m ≡ B)
-opened-with none page m r R E B e = (refl, (cc), (cc), (cc))
-opened-with (some k) page m r R E B e = absurd (let z : _≡_ {A = ℕ} 0 1 = cc in omega arith)
+opened-with : (o : Option ℕ) (page : Page) (m : List Bool) (j : ℕ) (r : List ℕ) (R E B k : ℕ) → openAs o page m j r .answer ≡ openedWith R E B k
+    → (o ≡ none) × (countR page m ≡ R) × (countE page m ≡ E) × (bound page m ≡ B) × (j ≡ k)
+opened-with none page m j r R E B k e = (refl, (cc), (cc), (cc), (cc))
+opened-with (some c) page m j r R E B k e = absurd (let z : _≡_ {A = ℕ} 0 1 = cc in omega arith)
 
-pub opened-none : (a qs r : List ℕ) (R E B : ℕ) → openOf a qs r .answer ≡ openedWith R E B → firstOf (openCauses a qs r) ≡ none
+pub opened-none : (a qs r : List ℕ) (R E B k : ℕ) → openOf a qs r .answer ≡ openedWith R E B k → firstOf (openCauses a qs r) ≡ none
 unfolding openOf
-opened-none a qs r R E B e = opened-with (firstOf (openCauses a qs r)) (pageOf a) (closure (pageOf a) qs) r R E B e .0
+opened-none a qs r R E B k e = opened-with (firstOf (openCauses a qs r)) (pageOf a) (closure (pageOf a) qs) (passCount (pageOf a) qs) r R E B k e .0
 
 pub demand3 : Demand3
-demand3 a qs r R E B e calls =
+demand3 a qs r R E B k e calls =
     record {
       reached-count = sym (o .1);
       edge-count = sym (o .2);
       bound-is = bound-by;
+      pass-count = subst (IsPassCount (pageOf a) qs) (o .4) (pass-count-is (pageOf a) qs);
+      passes-few = rw (← o .4, ← o .1) (passes-few (pageOf a) qs (names-inside (pageOf a) w) asked (leb-true 1 (length qs) (both-true (leb 1 (length qs)) (leb (length qs) 16) (not-false (leb 1 (length qs) && leb (length qs) 16) (no .1 .0)) .0)));
       reached-are = closure-is (pageOf a) qs (names-inside (pageOf a) w) asked;
       area = ap (λ (j : Performed). j .run) same;
       answers = same-answers;
@@ -114,7 +116,7 @@ demand3 a qs r R E B e calls =
       covers = λ P p c g l lo hi. let u = after (pageOf a) w qs P p calls .state .known c l in (omega arith, omega arith);
       in-time = rw (same-answers, ← o .3, bound-is (pageOf a) qs) (in-time S C (plain-is (pageOf a) w) (K .state));
       rests = rest-iff (pageOf a .conditions) b (K .waiting-length);
-      accepted = λ c h k f. accepted-by (pageOf a) (closure (pageOf a) qs) b c (waits-real (pageOf a) w qs _ (plain-is (pageOf a) w) b _ c K h) h k
+      accepted = λ c h i f. accepted-by (pageOf a) (closure (pageOf a) qs) b c (waits-real (pageOf a) w qs _ (plain-is (pageOf a) w) b _ c K h) h i
           (sym (ap (λ (l : Left). l .answer) (ap (λ (l : List ℕ). operation a l (evaluate c)) (ap (λ (j : Performed). j .run) same) ∙ one a ok qs b _ K (drop (3 * pageOf a .conditions) r) (evaluate c))) ∙ f);
       bound-rests = λ f. rest-iff (pageOf a .conditions) b (K .waiting-length) .1
           (none-waits S C (plain-is (pageOf a) w) (K .state) (sym (ap taken same-answers) ∙ f ∙ sym (o .3) ∙ bound-is (pageOf a) qs));
@@ -122,8 +124,8 @@ demand3 a qs r R E B e calls =
           (reached-real (pageOf a) qs (names-inside (pageOf a) w) asked h) (reached-complete (pageOf a) qs (names-inside (pageOf a) w) asked h);
     }
   where
-    o : (firstOf (openCauses a qs r) ≡ none) × (countR (pageOf a) (closure (pageOf a) qs) ≡ R) × (countE (pageOf a) (closure (pageOf a) qs) ≡ E) × (bound (pageOf a) (closure (pageOf a) qs) ≡ B)
-    o = unfold openOf in opened-with (firstOf (openCauses a qs r)) (pageOf a) (closure (pageOf a) qs) r R E B e
+    o : (firstOf (openCauses a qs r) ≡ none) × (countR (pageOf a) (closure (pageOf a) qs) ≡ R) × (countE (pageOf a) (closure (pageOf a) qs) ≡ E) × (bound (pageOf a) (closure (pageOf a) qs) ≡ B) × (passCount (pageOf a) qs ≡ k)
+    o = unfold openOf in opened-with (firstOf (openCauses a qs r)) (pageOf a) (closure (pageOf a) qs) (passCount (pageOf a) qs) r R E B k e
 
     bound-by : B ≡ R + pageOf a .top * E
     bound-by = unfold bound in sym (o .3) ∙ ap₂ (λ (x y : ℕ). x + pageOf a .top * y) (o .1) (o .2)
@@ -153,7 +155,7 @@ demand3 a qs r R E B e calls =
     K = after (pageOf a) w qs _ (plain-is (pageOf a) w) calls
 
     opens : openOf a qs r .run ≡ runOf (pageOf a) (closure (pageOf a) qs) (start (pageOf a) (closure (pageOf a) qs)) ++ drop (3 * pageOf a .conditions) r
-    opens = unfold openOf in ap (λ (x : Option ℕ). openAs x (pageOf a) (closure (pageOf a) qs) r .run) (o .0)
+    opens = unfold openOf in ap (λ (x : Option ℕ). openAs x (pageOf a) (closure (pageOf a) qs) (passCount (pageOf a) qs) r .run) (o .0)
 
     same : perform a (openOf a qs r .run) calls
         ≡ record { answers = performBook (pageOf a) qs calls .answers; run = runOf (pageOf a) (closure (pageOf a) qs) (performBook (pageOf a) qs calls .state) ++ drop (3 * pageOf a .conditions) r }

@@ -110,19 +110,19 @@ module _ (page : Page) (w : Proper page) (qs : List ℕ) where
   stays-under cs ds c threshold l h = omega (arith, narrows cs ds c l)
 
 -- The same on areas: from an accepted opening, whatever is called
-module _ (a qs r : List ℕ) (R E B : ℕ) (e : openOf a qs r .answer ≡ openedWith R E B) where
+module _ (a qs r : List ℕ) (R E B k : ℕ) (e : openOf a qs r .answer ≡ openedWith R E B k) where
   abbrev held : List Call → Assign
   held cs = intervalAt (perform a (openOf a qs r .run) cs .run)
 
   ok : sound a ≡ true
-  ok = not-false (sound a) (no-cause-holds (openCauses a qs r) (opened-none a qs r R E B e) .0)
+  ok = not-false (sound a) (no-cause-holds (openCauses a qs r) (opened-none a qs r R E B k e) .0)
 
   held-is : (cs : List Call) (c : ℕ) → c < pageOf a .conditions → held cs c ≡ bookAt (pageOf a) qs cs c
   held-is cs c l =
       let w = sound-proper a ok in
       let b = performBook (pageOf a) qs cs .state in
       let h = state-encodable (pageOf a) w qs b (taken (performBook (pageOf a) qs cs .answers)) (after (pageOf a) w qs _ (plain-is (pageOf a) w) cs) in
-      ap (λ (run : List ℕ). intervalAt run c) (demand3 a qs r R E B e cs .area)
+      ap (λ (run : List ℕ). intervalAt run c) (demand3 a qs r R E B k e cs .area)
       ∙ sym (held-at (pageOf a) (runOf (pageOf a) (closure (pageOf a) qs) b ++ drop (3 * pageOf a .conditions) r) c l)
       ∙ ap (λ (s : Worklist). intervalOf (s .intervals) c) (state-back (pageOf a) (closure (pageOf a) qs) b h (drop (3 * pageOf a .conditions) r))
 

@@ -74,19 +74,20 @@ same-cause (some j) (some k) e = ap some (eqb-true j k e)
 
 unfoldable pub sameOpening : Opening → Opening → Bool
 sameOpening (refusedOpening j) (refusedOpening k) = eqb j k
-sameOpening (refusedOpening j) (openedWith r e b) = false
-sameOpening (openedWith r e b) (refusedOpening k) = false
-sameOpening (openedWith r e b) (openedWith R E B) = eqb r R && (eqb e E && eqb b B)
+sameOpening (refusedOpening j) (openedWith r e b k) = false
+sameOpening (openedWith r e b k) (refusedOpening j) = false
+sameOpening (openedWith r e b k) (openedWith R E B K) = eqb r R && (eqb e E && (eqb b B && eqb k K))
 
 pub same-opening : (o p : Opening) → sameOpening o p ≡ true → o ≡ p
 unfolding sameOpening
 same-opening (refusedOpening j) (refusedOpening k) e = ap refusedOpening (eqb-true j k e)
-same-opening (refusedOpening j) (openedWith r e b) q = absurd (false≢true q)
-same-opening (openedWith r e b) (refusedOpening k) q = absurd (false≢true q)
-same-opening (openedWith r e b) (openedWith R E B) q =
-    let h = both-true (eqb r R) (eqb e E && eqb b B) q in
-    let k = both-true (eqb e E) (eqb b B) (h .1) in
-    rw (eqb-true r R (h .0), eqb-true e E (k .0), eqb-true b B (k .1)) refl
+same-opening (refusedOpening j) (openedWith r e b k) q = absurd (false≢true q)
+same-opening (openedWith r e b k) (refusedOpening j) q = absurd (false≢true q)
+same-opening (openedWith r e b k) (openedWith R E B K) q =
+    let h = both-true (eqb r R) (eqb e E && (eqb b B && eqb k K)) q in
+    let i = both-true (eqb e E) (eqb b B && eqb k K) (h .1) in
+    let j = both-true (eqb b B) (eqb k K) (i .1) in
+    rw (eqb-true r R (h .0), eqb-true e E (i .0), eqb-true b B (j .0), eqb-true k K (j .1)) refl
 
 -- an answer as numbers: which of the six it is, and its figures
 abbrev statusNumber : Status → ℕ

@@ -8,7 +8,7 @@ use lib.ListN.{drop}
 use Rattle.fixpoint.specs.Interval.{Interval, Assign}
 use Rattle.semantics.specs.Page.{Page}
 use Rattle.semantics.specs.Table.{member, intervalOf}
-use Rattle.semantics.specs.Reading.{IsPlain, Reached, closure, countR, countE}
+use Rattle.semantics.specs.Reading.{IsPlain, Reached, closure, IsPassCount, countR, countE}
 use Rattle.semantics.specs.Area.{pageOf}
 use Rattle.semantics.specs.Worklist.{Worklist, start, Status, rest, status}
 use Rattle.semantics.specs.RunArea.{runOf}
@@ -47,14 +47,17 @@ performBook page qs calls = performFrom page (closure page qs) (start page (clos
 abbrev pub bookAt : Page → List ℕ → List Call → Assign
 bookAt page qs calls = intervalOf (performBook page qs calls .state .intervals)
 
--- What holds after the calls, for a page area a, queries qs and a run area r whose opening returned R, E and B:
-pub record RunKeeps (a qs r : List ℕ) (R E B : ℕ) (calls : List Call) : Type 0 where
+-- What holds after the calls, for a page area a, queries qs and a run area r whose opening returned R, E, B and the count of passes k:
+pub record RunKeeps (a qs r : List ℕ) (R E B k : ℕ) (calls : List Call) : Type 0 where
   -- the computed closure is what the queries reach
   pub reached-are : (c : ℕ) → (member (closure (pageOf a) qs) c ≡ true) ↔ Reached (pageOf a) qs c
   -- R counts the reached conditions, E the pairs of them where a rule of the one names the other, and the bound is R + top × E
   pub reached-count : R ≡ countR (pageOf a) (closure (pageOf a) qs)
   pub edge-count : E ≡ countE (pageOf a) (closure (pageOf a) qs)
   pub bound-is : B ≡ R + pageOf a .top * E
+  -- k counts the passes that find the reached conditions, the last one too, and is 1 to R
+  pub pass-count : IsPassCount (pageOf a) qs k
+  pub passes-few : k ≤ R
   -- the area is the book's, with what lies past 3 × C untouched, and the answers are the book's
   pub area : perform a (openOf a qs r .run) calls .run
       ≡ runOf (pageOf a) (closure (pageOf a) qs) (performBook (pageOf a) qs calls .state) ++ drop (3 * pageOf a .conditions) r
@@ -82,5 +85,5 @@ pub record RunKeeps (a qs r : List ℕ) (R E B : ℕ) (calls : List Call) : Type
 -- Demand 3: any accepted opening, then any list of calls
 abbrev pub Demand3 : Type 0
 Demand3 =
-    (a qs r : List ℕ) (R E B : ℕ) → openOf a qs r .answer ≡ openedWith R E B → (calls : List Call)
-    → RunKeeps a qs r R E B calls
+    (a qs r : List ℕ) (R E B k : ℕ) → openOf a qs r .answer ≡ openedWith R E B k → (calls : List Call)
+    → RunKeeps a qs r R E B k calls

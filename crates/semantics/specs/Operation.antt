@@ -10,15 +10,15 @@ use lib.ListN.{length, drop}
 use Rattle.fixpoint.specs.Interval.{Interval, Assign}
 use Rattle.semantics.specs.Page.{Page}
 use Rattle.semantics.specs.Area.{sound, pageOf, firstLine, conditionsOf, countOf, usedOf, allUnder}
-use Rattle.semantics.specs.Reading.{IsClosed, closure, countR, countE, bound}
+use Rattle.semantics.specs.Reading.{IsClosed, closure, passCount, countR, countE, bound}
 use Rattle.semantics.specs.Worklist.{Worklist, start}
 use Rattle.semantics.specs.RunArea.{runOf, worklistOf, reachedOf, runSound}
 use Rattle.semantics.specs.Call.{Call, evaluate, drive, value, lineHeld, Answer, refused, Cause, cause, firstOf, Outcome, outcome}
 
--- Open a run: a refusal's number, or R, E and R + top × E
+-- Open a run: a refusal's number, or R, E, R + top × E and the count of passes
 pub data Opening : Type 0 where
   refusedOpening : ℕ → Opening
-  openedWith : (R E bound : ℕ) → Opening
+  openedWith : (R E bound passes : ℕ) → Opening
 
 -- 10 page area not sound; 11 fewer than 1 or more than 16 queries; 12 a query is C or more
 abbrev pub queryCauses : List ℕ → List ℕ → List Cause
@@ -36,17 +36,18 @@ pub record Opened : Type 0 where
   pub answer : Opening
   pub run : List ℕ
 
-abbrev pub openAs : Option ℕ → Page → List Bool → List ℕ → Opened
-openAs (some k) page m r = record { answer = refusedOpening k; run = r }
-openAs none page m r =
+-- where m is the set of the reached conditions and k the count of passes
+abbrev pub openAs : Option ℕ → Page → List Bool → ℕ → List ℕ → Opened
+openAs (some c) page m k r = record { answer = refusedOpening c; run = r }
+openAs none page m k r =
     record {
-      answer = openedWith (countR page m) (countE page m) (bound page m);
+      answer = openedWith (countR page m) (countE page m) (bound page m) k;
       run = runOf page m (start page m) ++ drop (3 * page .conditions) r;
     }
 
 -- "the closure of the queries is then marked 2, and every condition holds [0;top]"; what lies past 3 × C stays
 unfoldable pub openOf : List ℕ → List ℕ → List ℕ → Opened
-openOf a qs r = openAs (firstOf (openCauses a qs r)) (pageOf a) (closure (pageOf a) qs) r
+openOf a qs r = openAs (firstOf (openCauses a qs r)) (pageOf a) (closure (pageOf a) qs) (passCount (pageOf a) qs) r
 
 -- Evaluate, drive, value and line held: an answer, and what the run area then holds. 10 page area not sound; 14 run area too short or not sound
 pub record Left : Type 0 where

@@ -1,8 +1,8 @@
 -- Document 01, "The two readings". Assumes nothing.
 use mathlib.Core.Path.{_≡_}
-use mathlib.Core.Bool.{Bool, true, _&&_, _||_}
+use mathlib.Core.Bool.{Bool, true, false, not, _&&_, _||_}
 use mathlib.Core.List.{List}
-use Prim.Native.Nat.{ℕ, zero, suc, _+_, _*_}
+use Prim.Native.Nat.{ℕ, zero, suc, _+_, _-_, _*_, _≤_, _<_}
 use Rattle.fixpoint.specs.Interval.{Interval, Assign}
 use Rattle.fixpoint.specs.LeastFixpoint.{IsLeast}
 use Rattle.fixpoint.specs.Support.{IsSupport}
@@ -43,12 +43,30 @@ unfoldable pub passes : Page → ℕ → List Bool → List Bool
 passes page zero m = m
 passes page (suc k) m = pass page (passes page k m)
 
+-- the queried conditions, with which the passes start
+abbrev pub queriedSet : Page → List ℕ → List Bool
+queriedSet page qs = table (page .conditions) (λ c. listed c qs)
+
 -- C passes are enough: `closure-is`
 unfoldable pub closure : Page → List ℕ → List Bool
-closure page qs = passes page (page .conditions) (table (page .conditions) (λ c. listed c qs))
+closure page qs = passes page (page .conditions) (queriedSet page qs)
 
 abbrev pub reached : Page → List ℕ → ℕ → Bool
 reached page qs = member (closure page qs)
+
+-- whether a pass adds a condition to those found before it
+unfoldable pub adds : Page → List Bool → Bool
+adds page m = anyBelow (page .conditions) (λ b. member (pass page m) b && not (member m b))
+
+-- the count of passes, where "the first that adds none is the last and counted too": pass k adds none, and each pass before it adds some
+pub record IsPassCount (page : Page) (qs : List ℕ) (k : ℕ) : Type 0 where
+  pub some-pass : 1 ≤ k
+  pub last : adds page (passes page (k - 1) (queriedSet page qs)) ≡ false
+  pub before : (i : ℕ) → suc i < k → adds page (passes page i (queriedSet page qs)) ≡ true
+
+-- it, computed: one pass more than those that add some (`pass-count-is`)
+unfoldable pub passCount : Page → List ℕ → ℕ
+passCount page qs = suc (count (page .conditions) (λ i. adds page (passes page i (queriedSet page qs))))
 
 -- R, the count of the reached conditions m
 unfoldable pub countR : Page → List Bool → ℕ

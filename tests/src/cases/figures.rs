@@ -152,6 +152,7 @@ fn row_02_bound_22_spent_after_3_rest_after_4(trial: &mut Trial, _: u64) -> Chec
         reached: 2,
         edges: 2,
         bound: 22,
+        passes: 2,
     };
     figure("the opening", measures, wanted)?;
     figure("the opened run", run.clone(), vec![0, 10, 2, 0, 10, 2])?;

@@ -66,6 +66,7 @@ fn fast_reference(trial: &mut Trial, item: u64) -> Check {
     let opened = crate::reach::measure(&page, &queries);
     let wanted = (opened.reached, opened.edges, opened.bound);
     figure("the opening", run.measure(), wanted)?;
+    figure("the passes", index.passes(&queries), opened.passes)?;
     for _ in 0..4 {
         let allowance = trial.rng.below(20) as u32;
         figure("the drive", run.drive(allowance), book.drive(allowance))?;
@@ -102,6 +103,7 @@ fn compare(trial: &mut Trial, page: &Page, scanning: Scanning) -> Check {
     let mut fast = Run::open(&index, &queries);
     let got = (opened.reached, opened.edges, opened.bound);
     figure("the opening", got, fast.measure())?;
+    figure("the passes", opened.passes, index.passes(&queries))?;
     figure("the opened run", &run, &fast.area())?;
     // How many evaluations come to rest, then half of them and the rest.
     let whole = fast.clone().drive(opened.bound);

@@ -17,6 +17,7 @@ pub fn cases() -> Vec<Case> {
         case("texts_have_their_stated_outcome", texts),
         case("long_texts_have_their_stated_outcome", long_texts),
         case("lines_are_shown_as_stated", shown_lines),
+        case("openings_count_their_passes_as_stated", openings),
         case("row_02_goes_on_after_it_is_spent", row_02_step_by_step),
         case("row_07_falls_once_and_rests", row_07_step_by_step),
         case("the_line_that_holds_the_low_end_is_told", held_lines),
@@ -187,6 +188,85 @@ fn value(trial: &mut Trial, page: &[u16], run: &[u16], cond: u32) -> Check<(u16,
 const RIVALS: [u16; 30] = [
     10, 2, 6, 30, 0, 0, 2, 2, 1, 0, 3, 3, 0, 1, 10, 1, 3, 1, 1, 10, 1, 1, 0, 6, 0, 0, 1, 6, 1, 0,
 ];
+
+/// Lines after the first under top 9, queries, and what the opening returns: R, E, bound and passes.
+type Opening = (
+    &'static str,
+    &'static str,
+    &'static [u16],
+    (u32, u32, u32, u32),
+);
+
+const OPENINGS: &[Opening] = &[
+    ("no line", "", &[0], (1, 0, 1, 1)),
+    ("a self rule", "R,0,1,M,0\n", &[0], (1, 1, 10, 1)),
+    (
+        "all queried",
+        "R,0,1,M,1\nR,1,1,M,2\nR,2,1,M,3\n",
+        &[3, 0, 2, 1],
+        (4, 3, 31, 1),
+    ),
+    (
+        "a chain in page order",
+        "R,0,1,M,1\nR,1,1,M,2\nR,2,1,M,3\n",
+        &[0],
+        (4, 3, 31, 4),
+    ),
+    (
+        "a chain against page order",
+        "R,2,1,M,3\nR,1,1,M,2\nR,0,1,M,1\n",
+        &[0],
+        (4, 3, 31, 4),
+    ),
+    (
+        "a chain queried at both ends",
+        "R,0,1,M,1\nR,1,1,M,!2\nR,2,1,M,3\n",
+        &[0, 3],
+        (4, 3, 31, 3),
+    ),
+    (
+        "a shorter way",
+        "R,0,1,M,1,2\nR,1,1,M,2\nR,2,1,M,3\n",
+        &[0],
+        (4, 4, 40, 3),
+    ),
+    (
+        "a ring",
+        "R,0,1,M,1\nR,1,1,M,2\nR,2,1,M,3\nR,3,1,M,0\n",
+        &[1],
+        (4, 4, 40, 4),
+    ),
+];
+
+fn openings(trial: &mut Trial, _: u64) -> Check {
+    for (name, lines, queries, wanted) in OPENINGS {
+        let text = format!("G,9,4\n{lines}");
+        figure(name, opening(trial, &text, queries)?, *wanted)?;
+    }
+    // The longest chain, in page order and against it.
+    let mut lines: Vec<String> = (0..511)
+        .map(|cond| format!("R,{cond},1,M,{}\n", cond + 1))
+        .collect();
+    for name in ["512 in page order", "512 against page order"] {
+        let text = format!("G,9,512\n{}", lines.concat());
+        let wanted = (512, 511, 512 + 9 * 511, 512);
+        figure(name, opening(trial, &text, &[0])?, wanted)?;
+        lines.reverse();
+    }
+    Ok(())
+}
+
+/// What the opening of a page returns.
+fn opening(trial: &mut Trial, text: &str, queries: &[u16]) -> Check<(u32, u32, u32, u32)> {
+    trial.pages += 1;
+    let mut area = trial.rubbish(PAGE_MAX);
+    let used = trial.read(text.as_bytes(), &mut area)?;
+    let used = used.map_err(|refusal| format!("{text:?} is refused {refusal:?}"))?;
+    let mut run = trial.rubbish(3 * usize::from(area[1]));
+    let opened = trial.open(&area[..used], queries, &mut run)?;
+    let opened = opened.map_err(|number| format!("open is refused {number}"))?;
+    Ok((opened.reached, opened.edges, opened.bound, opened.passes))
+}
 
 fn row_02_step_by_step(trial: &mut Trial, _: u64) -> Check {
     trial.pages += 1;

@@ -110,7 +110,7 @@ struct Lent {
     area: Vec<u16>,
     answers: Vec<u16>,
     workspace: Vec<u16>,
-    outs: [u64; 3],
+    outs: [u64; 4],
 }
 
 impl Lent {
@@ -199,7 +199,8 @@ impl Bench<'_> {
     fn open(&mut self, lent: &Lent) -> Check<i32> {
         self.call(&OPEN, Call::Open.function(), lent, |lent| {
             let slices = [lent.page(), lent.queries(), lent.area()].concat();
-            [slices, lent.out(0), lent.out(1), lent.out(2)].concat()
+            let outs = [lent.out(0), lent.out(1), lent.out(2), lent.out(3)].concat();
+            [slices, outs].concat()
         })
     }
 

@@ -1,10 +1,10 @@
--- `reach::open_accepted` meets its contract: R, E and the bound are those of the closure, and the run area holds its marks. Assumes nothing.
+-- `reach::open_accepted` meets its contract: R, E, the bound and the passes are those of the closure, and the run area holds its marks. Assumes nothing.
 use native.Mathlib.Omega.{arith}
 use borrow.Author.Needs.{needs}
 use Rattle.semantics.specs.Area.{pageOf}
 use Rattle.page.proofs.Head.{head-of}
 use Rattle.page.proofs.Scan.{sound-head}
-use Rattle.reach.proofs.Closing.{followed-few}
+use Rattle.reach.proofs.Counting.{counted-few}
 use Rattle.reach.proofs.Marking.{unmarked, closure-marks}
 use Rattle.reach.proofs.Writing.{accepted-answer, accepted-run}
 use Rattle.reach.proofs.open_accepted.Statement.{statement}
@@ -16,8 +16,8 @@ shared-slice-read-top c = let z = c .before .before .before .before in omega (ar
 shared-slice-read-n : tie.Need-shared-slice-read-n
 shared-slice-read-n c = let z = c .before .before .before .before .before in omega (arith, sound-head (z .args .page .now) (z .pre .0))
 
-follow-requires : tie.Need-follow-requires
-follow-requires c κs = search needs
+find-requires : tie.Need-find-requires
+find-requires c κs = search needs
 
 slice-aggregate-mark-set : tie.Need-slice-aggregate-mark-set
 slice-aggregate-mark-set c = search needs
@@ -26,7 +26,7 @@ slice-aggregate-mark-set-2 : tie.Need-slice-aggregate-mark-set-2
 slice-aggregate-mark-set-2 c = search needs
 
 mark-set-requires : tie.Need-mark-set-requires
-mark-set-requires c κs = let z = c .before .before .before .before .before .before .before .before .before in (c .before .before .before .follow .ensures .set .size, head-of (z .args .page .now) (z .pre .0) .few, unmarked)
+mark-set-requires c κs = let z = c .before .before .before .before .before .before .before .before .before in (c .before .before .before .find .ensures .0 .set .size, head-of (z .args .page .now) (z .pre .0) .few, unmarked)
 
 slice-aggregate-write-run : tie.Need-slice-aggregate-write-run
 slice-aggregate-write-run c = search needs
@@ -39,7 +39,7 @@ unfolding pageOf
 bound-of-requires c κs =
     let z = c .before .before .before .before .before .before .before .before .before .before .before .before .before .before .before .before in
     let h = head-of (z .args .page .now) (z .pre .0) in
-    let f = followed-few (pageOf (z .args .page .now)) (z .args .queries .now) (h .few) (c .before .before .before .before .before .before .before .before .before .before .follow .ensures) in
+    let f = counted-few _ _ (c .before .before .before .before .before .before .before .before .before .before .find .ensures .1) (h .few) in
     (f .0, h .top-most, f .1)
 
 same-length : tie.Need-same-length
@@ -50,9 +50,10 @@ unfolding pageOf
 returns c =
     let z = c .before .before .before .before .before .before .before .before .before .before .before .before .before .before .before .before .before in
     let a = z .args .page .now in
-    let f = c .before .before .before .before .before .before .before .before .before .before .before .follow .ensures in (
-      accepted-answer a (z .args .queries .now) (z .args .run .now) f (c .bound-of .ensures),
-      accepted-run a (z .args .queries .now) (z .args .run .now) (closure-marks (pageOf a) (z .args .queries .now) (head-of a (z .pre .0) .few) (f .set) (c .before .before .before .before .before .before .before .mark-set .ensures)) (z .pre .2) (c .before .before .before .write-run .ensures),
+    let few = head-of a (z .pre .0) .few in
+    let f = c .before .before .before .before .before .before .before .before .before .before .before .find .ensures in (
+      accepted-answer a (z .args .queries .now) (z .args .run .now) few (f .0) (f .1) (c .bound-of .ensures),
+      accepted-run a (z .args .queries .now) (z .args .run .now) (closure-marks (pageOf a) (z .args .queries .now) few (f .0 .set) (c .before .before .before .before .before .before .before .mark-set .ensures)) (z .pre .2) (c .before .before .before .write-run .ensures),
     )
 
 pub open-accepted-spec : {M : Type 1} → statement M
@@ -61,7 +62,7 @@ open-accepted-spec =
     (tie.spec
     shared-slice-read-top
     shared-slice-read-n
-    follow-requires
+    find-requires
     slice-aggregate-mark-set
     slice-aggregate-mark-set-2
     mark-set-requires

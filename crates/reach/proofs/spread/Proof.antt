@@ -7,7 +7,7 @@ use Rattle.semantics.specs.Area.{pageOf}
 use Rattle.semantics.proofs.Soundness.{sound-proper}
 use Rattle.bits.specs.Words.{has}
 use Rattle.index.proofs.Parts.{cleared-zeros}
-use Rattle.reach.proofs.Closing.{following-first, Spreading, spreading-first, spreading-next, spreading-last}
+use Rattle.reach.proofs.Closing.{Spreading, spreading-first, spreading-next, spreading-last}
 use Rattle.reach.proofs.Inserting.{size-most}
 use Rattle.reach.proofs.Naming.{queries-few}
 use Rattle.reach.proofs.spread.Statement.{statement}
@@ -27,7 +27,7 @@ insert-queries-requires c κs = let z = c .before .before .before in (queries-fe
 
 loop-holds : tie.Need-loop-holds Inv-loop μ-loop
 unfolding pageOf
-loop-holds c = let z = c .before .before .before .before .before in spreading-first (pageOf (z .args .a .now)) (z .args .queries .now) (following-first (pageOf (z .args .a .now)) (z .args .queries .now) (sound-proper (z .args .a .now) (z .pre .0)) (z .pre .1) (cleared-zeros 8) (c .before .insert-queries .ensures))
+loop-holds c = let z = c .before .before .before .before .before in spreading-first (pageOf (z .args .a .now)) (z .args .queries .now) (sound-proper (z .args .a .now) (z .pre .0)) (z .pre .1) (cleared-zeros 8) (c .before .insert-queries .ensures)
 
 slice-aggregate-sweep : tie.Need-slice-aggregate-sweep Inv-loop μ-loop
 slice-aggregate-sweep c = sym (c .before .loop .inv .size)

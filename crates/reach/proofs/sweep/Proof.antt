@@ -8,8 +8,8 @@ use Rattle.semantics.proofs.Soundness.{sound-proper}
 use Rattle.page.proofs.Head.{head-of}
 use Rattle.page.proofs.Scanning.{entry-here}
 use Rattle.reach.proofs.Inserting.{inserts-few}
-use Rattle.reach.proofs.Sweeping.{Sweeping, sweeping-first, sweeping-next, sweeping-skip, sweeping-last, sweeping-few, head-in}
-use Rattle.reach.proofs.Visiting.{scanned-entry}
+use Rattle.reach.proofs.Sweeping.{Sweeping, sweeping-first, sweeping-next, sweeping-skip, sweeping-last, sweeping-few}
+use Rattle.reach.proofs.Visiting.{scanned-entry, scanned-head}
 use Rattle.reach.proofs.sweep.Statement.{statement}
 use Rattle.reach.proofs.sweep.Tie as tie
 
@@ -38,7 +38,7 @@ contains-requires : tie.Need-contains-requires Inv-loop μ-loop
 contains-requires c κs =
     let z = c .before .before .before .before .before .before .before .before in
     let h = c .before .before .before .loop .inv in
-    (h .1 .size, omega (arith, head-in (z .args .a .now) (z .args .set .now) (z .pre .0) (h .1) (omega (arith, h .0)), sound-proper (z .args .a .now) (z .pre .0) .conditions-most))
+    (h .1 .size, omega (arith, scanned-head (z .args .a .now) (h .1 .scan) (omega (arith, h .0)), sound-proper (z .args .a .now) (z .pre .0) .conditions-most))
 
 insert-line-requires : tie.Need-insert-line-requires Inv-loop μ-loop
 insert-line-requires c κs =
