@@ -3,7 +3,7 @@ use mathlib.Core.Path.{_≡_, refl, sym, _∙_, ap}
 use mathlib.Core.Logic.{_⊎_, inl, inr, ⊎-elim}
 use mathlib.Core.Bool.{Bool, true, false, or-true, true≢false}
 use mathlib.Core.List.{List, [], _∷_}
-use Prim.Native.Nat.{ℕ, zero, suc, _+_, _*_, _/_, _≤_, _<_}
+use Prim.Native.Nat.{ℕ, zero, suc, _+_, _/_, _≤_, _<_}
 use native.Mathlib.Decide.{ℕ-discrete}
 use native.Mathlib.Omega.{arith}
 use lib.Dec.{eqb}

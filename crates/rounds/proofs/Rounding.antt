@@ -7,11 +7,11 @@ use Prim.Native.Nat.{ℕ, suc, _+_, _*_, _-_, _<_}
 use native.Mathlib.Decide.{ℕ-discrete}
 use native.Mathlib.Omega.{arith}
 use lib.ListN.{length, getD, drop}
-use Rattle.fixpoint.specs.Interval.{Interval, Within, Assign}
+use Rattle.fixpoint.specs.Interval.{Interval, Within}
 use Rattle.fixpoint.proofs.Cond.{by-bool}
 use Rattle.fixpoint.proofs.Sum.{sum-eq}
 use Rattle.semantics.specs.Area.{pageOf, topOf, conditionsOf}
-use Rattle.semantics.specs.Body.{T, bodyless, unknownByDefault}
+use Rattle.semantics.specs.Body.{bodyless, unknownByDefault}
 use Rattle.semantics.specs.Grade.{lower, upper}
 use Rattle.semantics.specs.Table.{member}
 use Rattle.page.proofs.Head.{head-of}

@@ -19,7 +19,7 @@ use Rattle.page.specs.Places.{placeOf, LineIn}
 use Rattle.page.proofs.Scan.{span-four}
 use Rattle.page.proofs.Scanning.{Scanning, scanning-next}
 use Rattle.page.proofs.LineNumbers.{scanning-at}
-use Rattle.value.specs.Table.{endOf, other}
+use Rattle.value.specs.Table.{endOf}
 use Rattle.settle.specs.Scratch.{held, Half, Covered, Raised, Lookable, Looked}
 use Rattle.settle.proofs.EndReads.{line-level}
 use Rattle.settle.proofs.Raising.{line-ranged, room-less, steady-same, steady-on}
