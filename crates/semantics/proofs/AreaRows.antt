@@ -94,6 +94,7 @@ areaRows =
     ∷ callsOn area1 opened1 (value 2) (refused 15) opened1
     ∷ callsOn area1 unreached1 (value 0) (refused 17) unreached1
     ∷ closesOn area1 (1 ∷ []) scratch1 (9 ∷ 9 ∷ 9 ∷ []) (0 ∷ 0 ∷ 0 ∷ 0 ∷ 0 ∷ 0 ∷ 0 ∷ 0 ∷ 9 ∷ 9 ∷ 9 ∷ 9 ∷ 9 ∷ []) (3 ∷ 8 ∷ 9 ∷ [])
+    ∷ closesOn area1 (1 ∷ []) (9 ∷ nines) (9 ∷ 9 ∷ []) (0 ∷ 0 ∷ 0 ∷ 0 ∷ 0 ∷ 0 ∷ 0 ∷ 0 ∷ []) (3 ∷ 8 ∷ [])
     ∷ refusesOn area7 (1 ∷ []) scratch1 nines 10
     ∷ refusesOn area1 [] scratch1 nines 11
     ∷ refusesOn area1 (2 ∷ []) scratch1 nines 12
