@@ -10,7 +10,7 @@
 #include "common.h"
 
 static uint8_t text[TEXT_MAX + 1];
-static uint16_t page[PAGE_MAX], run[3 * CONDITIONS_MAX], scratch[6 * CONDITIONS_MAX];
+static uint16_t page[PAGE_MAX], run[3 * CONDITIONS_MAX], scratch[4 * CONDITIONS_MAX];
 
 static size_t read_all(void)
 {
@@ -48,7 +48,7 @@ static void answer(unsigned reading, uint16_t condition, uint16_t ends[2])
     uint32_t a, b, c, d;
 
     if (reading == 1) {
-        CLOSED(page, page[3], &condition, 1, scratch, 6 * page[1], ends, 2);
+        CLOSED(page, page[3], &condition, 1, scratch, 4 * page[1], ends, 2);
         return;
     }
     OPEN(page, page[3], &condition, 1, run, 3 * page[1], &a, &b, &c, &d);

@@ -99,7 +99,7 @@ static inline int closed_fault(const uint16_t *page, size_t page_length, const u
         return 10;
     if ((fault = queries_fault(queries, queries_length, page[1])) != 0)
         return fault;
-    if (scratch_length < 6u * page[1])
+    if (scratch_length < 4u * page[1])
         return 18;
     return answers_length < 2 * queries_length ? 19 : 0;
 }

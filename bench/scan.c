@@ -530,7 +530,7 @@ int32_t scan_line(const uint16_t *page, size_t page_length, const uint16_t *run,
  * value[2 * c + 1], the same end of the negations, stays. `side` is 2 for low ends and 3 for high ends: the place
  * in a fact. Returns 1 if any rose.
  */
-static int rise(const uint16_t *page, const uint16_t *seen, uint16_t *value, unsigned side)
+static int rise(const uint16_t *page, const uint8_t *seen, uint16_t *value, unsigned side)
 {
     const uint16_t *p, *end = page + page[3];
     unsigned top = page[0], add = side == 3 ? top - 1 : 0, v;
@@ -574,7 +574,8 @@ static int stale(const uint16_t *page, const uint16_t *low, const uint16_t *high
 int32_t scan_closed(const uint16_t *page, size_t page_length, const uint16_t *queries, size_t queries_length,
                     uint16_t *scratch, size_t scratch_length, uint16_t *answers, size_t answers_length)
 {
-    uint16_t *low, *high, *seen;    /* low and high: by literal */
+    uint16_t *low, *high;           /* by literal */
+    uint8_t seen[CONDITIONS_MAX];
     const uint16_t *p, *end;
     unsigned top, count, c, i;
     int fault, more;
@@ -582,10 +583,10 @@ int32_t scan_closed(const uint16_t *page, size_t page_length, const uint16_t *qu
     if ((fault = closed_fault(page, page_length, queries, queries_length, scratch_length, answers_length)) != 0)
         return -fault;
     top = page[0], count = page[1];
-    memset(scratch, 0, 6 * count * sizeof *scratch);
+    memset(scratch, 0, 4 * count * sizeof *scratch);
+    memset(seen, 0, count);
     low = scratch;
     high = scratch + 2 * count;
-    seen = scratch + 4 * count;
 
     for (i = 0; i < queries_length; i++)
         seen[queries[i]] = 1;
@@ -614,6 +615,6 @@ int32_t scan_closed(const uint16_t *page, size_t page_length, const uint16_t *qu
     } while (rise(page, seen, low, 2) && stale(page, low, high));
 
     put_answers(low, high, queries, queries_length, answers);
-    memset(scratch, 0, 6 * count * sizeof *scratch);
+    memset(scratch, 0, 4 * count * sizeof *scratch);
     return 0;
 }

@@ -9,7 +9,7 @@
 #include "impl.h"
 #include "pages.h"
 
-enum { RUN = 3 * 512 + 8, SCRATCH = 6 * 512 + 8, AREA = SIMJORAD_PAGE_MAX + 8, FILL = 0x5a5a };
+enum { RUN = 3 * 512 + 8, SCRATCH = 4 * 512 + 8, AREA = SIMJORAD_PAGE_MAX + 8, FILL = 0x5a5a };
 
 static unsigned failures, checks;
 static const struct impl *at;       /* the implementation under test */
@@ -511,7 +511,7 @@ static void closed_one(int used, uint16_t query, int low, int high)
     same("closed", at->closed(page, used, &query, 1, scratch, SCRATCH, answers, 2), 0);
     same("closed low", answers[0], low);
     same("closed high", answers[1], high);
-    for (i = 0; i < 6u * page[1]; i++)
+    for (i = 0; i < 4u * page[1]; i++)
         if (scratch[i] != 0)
             same("scratch", scratch[i], 0);
 }
@@ -887,20 +887,20 @@ static void random_page(void)
             scratch[i] = FILL;
         for (i = 0; i < 32; i++)
             answers[i] = FILL;
-        same("closed, scratch", at->closed(page, used, queries, n, scratch, 6 * count - 1, answers, 2 * n), -18);
-        same("closed, answers", at->closed(page, used, queries, n, scratch, 6 * count, answers, 2 * n - 1), -19);
+        same("closed, scratch", at->closed(page, used, queries, n, scratch, 4 * count - 1, answers, 2 * n), -18);
+        same("closed, answers", at->closed(page, used, queries, n, scratch, 4 * count, answers, 2 * n - 1), -19);
         same("closed, untouched", scratch[0] == FILL && answers[0] == FILL, 1);
-        same("closed", at->closed(page, used, queries, n, scratch, 6 * count, answers, 2 * n), 0);
+        same("closed", at->closed(page, used, queries, n, scratch, 4 * count, answers, 2 * n), 0);
         for (i = 0; i < n; i++) {
             same("closed, low", answers[2 * i], closed[queries[i]].low);
             same("closed, high", answers[2 * i + 1], closed[queries[i]].high);
         }
         for (; i < 16; i++)
             same("closed, past the answers", answers[2 * i], FILL);
-        for (i = 0; i < 6 * count; i++)
+        for (i = 0; i < 4 * count; i++)
             if (scratch[i] != 0)
                 same("closed, scratch left", scratch[i], 0);
-        same("closed, past the scratch", scratch[6 * count], FILL);
+        same("closed, past the scratch", scratch[4 * count], FILL);
         low = queries[0];
         queries[0] = count;
         same("closed, query range", at->closed(page, used, queries, n, scratch, 0, answers, 0), -12);

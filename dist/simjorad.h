@@ -63,7 +63,7 @@ extern "C" {
  * measurements and do not count). SIMJORAD_LAYOUT is raised whenever the layout of a page area or a run area changes: an area that was
  * kept under another layout must be read or opened again.
  */
-#define SIMJORAD_VERSION 6
+#define SIMJORAD_VERSION 7
 #define SIMJORAD_LAYOUT 1
 
 /*
@@ -91,7 +91,7 @@ extern "C" {
 #define SIMJORAD_TEXT_MAX 65535       /* bytes of a page's text */
 #define SIMJORAD_PAGE_MAX 12292       /* numbers of the longest page area */
 #define SIMJORAD_RUN_LENGTH(c) (3 * (c))     /* numbers of a run area for c conditions */
-#define SIMJORAD_SCRATCH_LENGTH(c) (6 * (c)) /* numbers of scratch for the closed reading of c conditions */
+#define SIMJORAD_SCRATCH_LENGTH(c) (4 * (c)) /* numbers of scratch for the closed reading of c conditions */
 
 /*
  * Numbers of a workspace with room for a page's index, and the most that any page needs. The page area holds the counts: conditions is
@@ -113,8 +113,8 @@ extern "C" {
 #define SIMJORAD_STACK_DRIVE_INDEXED 1856
 #define SIMJORAD_STACK_VALUE 192
 #define SIMJORAD_STACK_LINE 1408
-#define SIMJORAD_STACK_CLOSED 1280
-#define SIMJORAD_STACK_CLOSED_INDEXED 1344
+#define SIMJORAD_STACK_CLOSED 1344
+#define SIMJORAD_STACK_CLOSED_INDEXED 1408
 #define SIMJORAD_STACK_LAYERS 1280
 
 /* Refusals, each with its cause. */
@@ -132,7 +132,7 @@ extern "C" {
 #define SIMJORAD_CONDITION_RANGE 15   /* the condition is C or more */
 #define SIMJORAD_NOT_WAITING 16       /* the condition is not waiting */
 #define SIMJORAD_NOT_REACHED 17       /* the condition is not reached */
-#define SIMJORAD_SCRATCH_SHORT 18     /* scratch shorter than 6 * C */
+#define SIMJORAD_SCRATCH_SHORT 18     /* scratch shorter than 4 * C */
 #define SIMJORAD_ANSWERS_SHORT 19     /* answers shorter than 2 * the list */
 #define SIMJORAD_WEIGHT_RANGE 21      /* a weight outside 1 to top */
 #define SIMJORAD_GRADE_RANGE 22       /* a low or high over top */
@@ -210,7 +210,7 @@ int32_t simjorad_line(const uint16_t *page, size_t page_length, const uint16_t *
 
 /*
  * Closed reading. Returns 0, or minus 10, 11, 12, 18 or 19. Writes low, high per query in list order to answers;
- * the first 6 * C numbers of scratch end as zero.
+ * the first 4 * C numbers of scratch end as zero, and no other number of scratch is read or written.
  */
 int32_t simjorad_closed(const uint16_t *page, size_t page_length, const uint16_t *queries, size_t queries_length,
                         uint16_t *scratch, size_t scratch_length, uint16_t *answers, size_t answers_length);

@@ -145,16 +145,16 @@ static void closed(void)
     uint16_t scratch[SIMJORAD_SCRATCH_LENGTH(2)], answers[5] = {77, 77, 77, 77, 77}, workspace[INDEX];
 
     memset(scratch, 0xff, sizeof scratch);
-    CHECK(simjorad_closed(area, USED, queries, 2, scratch, 11, answers, 5) == -SIMJORAD_SCRATCH_SHORT);
-    CHECK(simjorad_closed(area, USED, queries, 2, scratch, 12, answers, 3) == -SIMJORAD_ANSWERS_SHORT);
+    CHECK(simjorad_closed(area, USED, queries, 2, scratch, 7, answers, 5) == -SIMJORAD_SCRATCH_SHORT);
+    CHECK(simjorad_closed(area, USED, queries, 2, scratch, 8, answers, 3) == -SIMJORAD_ANSWERS_SHORT);
     CHECK(answers[0] == 77 && scratch[0] == 0xffff);
-    CHECK(simjorad_closed(area, USED, queries, 2, scratch, 12, answers, 5) == 0);
-    CHECK(same(answers, answer, 4) && answers[4] == 77 && scratch[0] == 0 && scratch[11] == 0);
+    CHECK(simjorad_closed(area, USED, queries, 2, scratch, 8, answers, 5) == 0);
+    CHECK(same(answers, answer, 4) && answers[4] == 77 && scratch[0] == 0 && scratch[7] == 0);
     memset(answers, 0, sizeof answers);
     memset(workspace, 0xff, sizeof workspace);
-    CHECK(simjorad_closed_indexed(area, USED, queries, 2, scratch, 12, answers, 5, workspace, INDEX) == 0);
+    CHECK(simjorad_closed_indexed(area, USED, queries, 2, scratch, 8, answers, 5, workspace, INDEX) == 0);
     CHECK(same(answers, answer, 4) && workspace[0] == 0 && workspace[INDEX - 1] == 0);
-    CHECK(simjorad_closed_indexed(area, USED, area + 1, 1, scratch, 12, answers, 5, NULL, 0) == -SIMJORAD_QUERY_RANGE);
+    CHECK(simjorad_closed_indexed(area, USED, area + 1, 1, scratch, 8, answers, 5, NULL, 0) == -SIMJORAD_QUERY_RANGE);
 }
 
 static void layered(void)

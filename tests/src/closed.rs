@@ -41,6 +41,11 @@ pub fn reading(page: &Page) -> Vec<Pair> {
     }
 }
 
+/// The numbers of scratch that a page of so many conditions takes.
+pub fn scratch_length(count: u16) -> usize {
+    4 * usize::from(count)
+}
+
 pub fn closed(
     page_area: &[u16],
     queries: &[u16],
@@ -49,7 +54,7 @@ pub fn closed(
 ) -> Result<(), Refusal> {
     let page = decode(page_area).ok_or(PAGE_UNSOUND)?;
     check_queries(&page, queries)?;
-    let needed = 6 * usize::from(page.count);
+    let needed = scratch_length(page.count);
     if scratch.len() < needed {
         return Err(SCRATCH_SHORT);
     }

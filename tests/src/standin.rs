@@ -530,9 +530,24 @@ pub const FAULTS: &[(&str, &str, &str)] = &[
         "row_01_two_rivals_plain_and_closed",
     ),
     (
-        "scratch_zeroed_past_6c",
+        "scratch_number_left",
         "quick only CASE",
-        "closed_rows_answer_whole_lists",
+        "closed_reading_takes_4c_of_the_scratch_and_leaves_the_rest",
+    ),
+    (
+        "scratch_fifth_part_zeroed",
+        "quick only CASE",
+        "closed_reading_takes_4c_of_the_scratch_and_leaves_the_rest",
+    ),
+    (
+        "scratch_fifth_part_read",
+        "quick only CASE",
+        "closed_reading_takes_4c_of_the_scratch_and_leaves_the_rest",
+    ),
+    (
+        "scratch_refused_under_6c",
+        "quick only CASE",
+        "closed_reading_takes_4c_of_the_scratch_and_leaves_the_rest",
     ),
     (
         "short_answers_written",
@@ -1851,11 +1866,12 @@ fn closed_call(
         // SAFETY: none; this is the planted fault.
         unsafe { std::ptr::write_volatile(queries.as_ptr() as *mut u16, queries[0]) };
     }
-    let mut needed = 6 * usize::from(page.count);
+    let mut needed = 4 * usize::from(page.count);
     if fault("scratch_one_short_accepted_at_129_conditions") && page.count == 129 {
         needed -= 1;
     }
-    if scratch.len() < needed {
+    let short = fault("scratch_refused_under_6c") && scratch.len() < needed / 2 * 3;
+    if short || scratch.len() < needed {
         return Err(SCRATCH_SHORT);
     }
     if answers.len() < 2 * queries.len() {
@@ -1865,14 +1881,17 @@ fn closed_call(
         return Err(ANSWERS_SHORT);
     }
     let reading = closed_reading(&page);
-    if fault("scratch_half_zeroed") {
-        scratch[..needed / 2].fill(0);
-    } else if fault("scratch_zeroed_past_6c") {
-        let end = scratch.len().min(needed + 1);
-        scratch[..end].fill(0);
-    } else {
-        scratch[..needed].fill(0);
+    if fault("scratch_fifth_part_read") && scratch.len() > needed {
+        // SAFETY: inside the announced length.
+        unsafe { std::ptr::read_volatile(scratch.as_ptr().add(needed)) };
     }
+    let end = match planted() {
+        "scratch_half_zeroed" => needed / 2,
+        "scratch_number_left" => needed - 1,
+        "scratch_fifth_part_zeroed" => scratch.len().min(needed / 4 * 5),
+        _ => needed,
+    };
+    scratch[..end].fill(0);
     let mut queries = queries.to_vec();
     if fault("answers_in_sorted_order") {
         queries.sort_unstable();

@@ -271,7 +271,7 @@ impl Trial {
         scanning: bool,
     ) -> Check {
         let before = ClosedAreas {
-            scratch: self.rubbish(6 * usize::from(page[1])),
+            scratch: self.rubbish(closed::scratch_length(page[1])),
             answers: self.rubbish(wanted.len()),
         };
         let expected = ClosedAreas {

@@ -19,13 +19,13 @@ use Rattle.reach.proofs.Refusals.{first-behind}
 use Rattle.page.proofs.Head.{conditions-is}
 use Rattle.answers.proofs.OneQuery.{asked}
 
-module _ (a : List ℕ) (ok : sound a ≡ true) (c : ℕ) (l : c < conditionsOf a) (s w : List ℕ) (long : 6 * conditionsOf a ≤ length s) (room : 2 ≤ length w) where
+module _ (a : List ℕ) (ok : sound a ≡ true) (c : ℕ) (l : c < conditionsOf a) (s w : List ℕ) (long : 4 * conditionsOf a ≤ length s) (room : 2 ≤ length w) where
   abbrev behind : List Cause
   behind = cause (not (leb (scratchLength (pageOf a)) (length s))) 18 ∷ cause (not (leb (2 * length (c ∷ [])) (length w))) 19 ∷ []
 
   accepted : firstOf (closedCauses a (c ∷ []) s w) ≡ none
   unfolding pageOf
-  accepted = first-behind a (c ∷ []) behind ok refl (asked (conditionsOf a) c l) ∙ rw (le-leb (6 * conditionsOf a) (length s) long, le-leb 2 (length w) room)
+  accepted = first-behind a (c ∷ []) behind ok refl (asked (conditionsOf a) c l) ∙ rw (le-leb (4 * conditionsOf a) (length s) long, le-leb 2 (length w) room)
 
   pub closed-holds : (answer : Option ℕ) (s′ w′ : List ℕ) → ClosedOf answer a (c ∷ []) s w s′ w′ → Reads (IsClosed (pageOf a)) c (record { low = getD w′ 0 0; high = getD w′ 1 0 })
   unfolding ClosedOf

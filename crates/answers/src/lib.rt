@@ -47,7 +47,7 @@ fn closed_answer(page: &[u16], c: u16, workspace: &mut [u16]) -> Ends
     requires { ⌜ (sound (now page) ≡ true) × (c < conditionsOf (now page)) ⌝ }
     ensures { λ r. ⌜ Reads (IsClosed (pageOf (now (page .entry)))) c (record { low = r .low; high = r .high }) ⌝ }
 {
-    let mut scratch = [0u16; 3072];
+    let mut scratch = [0u16; 2048];
     let mut answers = [0u16; 2];
     let queries = [c];
     closed::closed_indexed(page, &queries, &mut scratch, &mut answers, workspace);

@@ -4,20 +4,21 @@ use mathlib.Core.Bool.{Bool, true, false, not, _&&_, true≢false, or-true}
 use mathlib.Core.Logic.{_≢_, inl, inr}
 use mathlib.Core.List.{List, [], _∷_, _++_, append-assoc}
 use mathlib.Core.Option.{none, some}
-use Prim.Native.Nat.{ℕ, zero, suc, _+_, _*_, _-_, _≤_, _<_}
+use Prim.Native.Nat.{ℕ, suc, _+_, _*_, _-_, _≤_, _<_}
 use native.Mathlib.Numerals.{add-one}
 use native.Mathlib.Omega.{arith}
 use lib.Dec.{eqb, leb, ltb}
 use lib.ListN.{length, getD, set, take, drop, length-append, length-take, length-drop, length-set}
 use lib.Seq.{drop-at, length-take-le, drop-cons, take-suc, take-length, set-at, getD-set-same, getD-set-other, drop-set-lt}
-use mir.Val.{boolByte}
 use borrow.Rule.Slice.PartAt.{part-to-end}
 use borrow.Author.Tests.{le-leb, lt-leb, leb-true, ltb-true, eq-eqb, eqb-true, not-false}
+use Rattle.fixpoint.specs.ChaoticIteration.{DependencyClosed}
 use Rattle.fixpoint.specs.Interval.{Interval, Assign}
 use Rattle.semantics.specs.Area.{sound, pageOf, conditionsOf, allUnder}
 use Rattle.semantics.specs.Body.{unknownByDefault}
 use Rattle.semantics.specs.Call.{Cause, cause, firstOf}
 use Rattle.semantics.specs.Operation.{ends, zeros, scratchLength, queryCauses, closedCauses, indexLength, usedWorkspace, closedWorkspace, ClosedAnswers, ClosedOf}
+use Rattle.semantics.specs.Page.{names}
 use Rattle.semantics.specs.Reading.{queried, closure, reached}
 use Rattle.semantics.specs.Table.{listed, member}
 use Rattle.semantics.proofs.Closure.{reached-closed, reached-complete}
@@ -25,79 +26,67 @@ use Rattle.semantics.proofs.Invariant.{no-cause-holds}
 use Rattle.semantics.proofs.Readings.{names-inside, closed-is}
 use Rattle.semantics.proofs.Soundness.{sound-proper, both-true}
 use Rattle.semantics.proofs.Table.{or-cases}
+use Rattle.page.proofs.Head.{head-of}
 use Rattle.index.specs.Parts.{linesLength, Index}
 use Rattle.reach.specs.Marks.{Marks}
 use Rattle.reach.proofs.Refusals.{first-10, first-11, first-12, first-behind}
-use Rattle.settle.specs.Scratch.{held, reachedAt}
+use Rattle.settle.specs.Scratch.{held}
 use Rattle.closed.specs.Answer.{FirstCause, AnswersWritten}
 use Rattle.settle.specs.Waiting.{MaybeIndex}
 use Rattle.rounds.specs.Round.{closedAt, RoundReady, Alternated}
 use Rattle.closed.specs.Solving.{Begun, SolveReady, Solved}
-use Rattle.settle.proofs.Scratch.{shut-over}
 use Rattle.settle.proofs.Raising.{S}
 use Rattle.rounds.proofs.Turns.{turned-none}
 use Rattle.rounds.proofs.Starting.{upto}
 
--- the loop that begins: the conditions before c have the low end 0 and their marks
-module _ (n : ℕ) (marks : List Bool) (s₀ : List ℕ) where
+-- the loop that begins: the conditions before c have the low end 0
+module _ (n : ℕ) (s₀ : List ℕ) where
   pub record Beginning (s : List ℕ) (c : ℕ) : Type 0 where
-    pub long : 6 * n ≤ length s₀
+    pub long : 4 * n ≤ length s₀
     pub within : c ≤ n
     pub same-length : length s ≡ length s₀
     pub lows : (d : ℕ) → d < c → getD s (2 * d) 0 ≡ 0
-    pub marked : (d : ℕ) → d < c → reachedAt n s d ≡ member marks d
-    pub beyond : drop (6 * n) s ≡ drop (6 * n) s₀
+    pub beyond : drop (4 * n) s ≡ drop (4 * n) s₀
 
-  pub beginning-first : 6 * n ≤ length s₀ → Beginning s₀ 0
+  pub beginning-first : 4 * n ≤ length s₀ → Beginning s₀ 0
   beginning-first h =
-      record { long = h; within = omega arith; same-length = refl; lows = λ d l. absurd (omega arith); marked = λ d l. absurd (omega arith); beyond = refl }
+      record { long = h; within = omega arith; same-length = refl; lows = λ d l. absurd (omega arith); beyond = refl }
 
-  pub beginning-next : {s : List ℕ} {c : ℕ} (y : ℕ) → Beginning s c → c < n → leb 1 y ≡ member marks c → Beginning (set (set s (2 * c) 0) (4 * n + c) y) (c + 1)
-  beginning-next {s} {c} y v l q =
+  pub beginning-next : {s : List ℕ} {c : ℕ} → Beginning s c → c < n → Beginning (set s (2 * c) 0) (c + 1)
+  beginning-next {s} {c} v l =
       record {
         long = v .long;
         within = omega arith;
         same-length = simp length-set (v .same-length);
-        lows = upto (λ d. getD s′ (2 * d) 0 ≡ 0) c (λ d m. low d (omega arith) (λ z. omega arith) ∙ v .lows d m)
-            (getD-set-other s₁ (4 * n + c) (2 * c) y 0 (λ z. omega arith) ∙ getD-set-same s (2 * c) 0 0 (omega (arith, v .same-length, v .long)));
-        marked = upto (λ d. reachedAt n s′ d ≡ member marks d) c
-            (λ d m. ap (leb 1) (getD-set-other s₁ (4 * n + c) (4 * n + d) y 0 (λ z. omega arith) ∙ getD-set-other s (2 * c) (4 * n + d) 0 0 (λ z. omega arith)) ∙ v .marked d m)
-            (ap (leb 1) (getD-set-same s₁ (4 * n + c) y 0 (rw length-set (omega (arith, v .same-length, v .long)))) ∙ q);
-        beyond = drop-set-lt (6 * n) s₁ (4 * n + c) y (omega arith) ∙ drop-set-lt (6 * n) s (2 * c) 0 (omega arith) ∙ v .beyond;
+        lows = upto (λ d. getD (set s (2 * c) 0) (2 * d) 0 ≡ 0) c (λ d m. getD-set-other s (2 * c) (2 * d) 0 0 (λ z. omega arith) ∙ v .lows d m)
+            (getD-set-same s (2 * c) 0 0 (omega (arith, v .same-length, v .long)));
+        beyond = drop-set-lt (4 * n) s (2 * c) 0 (omega arith) ∙ v .beyond;
       }
-    where
-      s₁ : List ℕ
-      s₁ = set s (2 * c) 0
 
-      s′ : List ℕ
-      s′ = set s₁ (4 * n + c) y
-
-      low : (d : ℕ) → d < n → d ≢ c → getD s′ (2 * d) 0 ≡ getD s (2 * d) 0
-      low d h z = getD-set-other s₁ (4 * n + c) (2 * d) y 0 (λ e. omega arith) ∙ getD-set-other s (2 * c) (2 * d) 0 0 (λ e. z (omega arith))
-
-  pub beginning-last : {s : List ℕ} {c : ℕ} → Beginning s c → n ≤ c → Begun n marks s₀ s
-  beginning-last {s} {c} v l = record { same-length = v .same-length; lows = λ d m. v .lows d (omega arith); marked = λ d m. v .marked d (omega arith); beyond = v .beyond }
+  pub beginning-last : {s : List ℕ} {c : ℕ} → Beginning s c → n ≤ c → Begun n s₀ s
+  beginning-last v l = record { same-length = v .same-length; lows = λ d m. v .lows d (omega arith); beyond = v .beyond }
 
 -- the start: the marks are those of the closure
-module _ (a qs s : List ℕ) (r : SolveReady a qs s) {marks : List Bool} (m : Marks (closure (pageOf a) qs) marks) {s₁ : List ℕ} (b : Begun (conditionsOf a) marks s s₁) where
-  marked-is : (c : ℕ) → c < conditionsOf a → reachedAt (conditionsOf a) s₁ c ≡ reached (pageOf a) qs c
-  marked-is c l = b .marked c l ∙ m .same c
+module _ (a qs s : List ℕ) (r : SolveReady a qs s) {marks : List Bool} (m : Marks (closure (pageOf a) qs) marks) {s₁ : List ℕ} (b : Begun (conditionsOf a) s s₁) where
+  shut : DependencyClosed (pageOf a .conditions) (names (pageOf a)) (member marks)
+  shut c d l k p q = m .same d ∙ reached-closed (pageOf a) qs c d l k (sym (m .same c) ∙ p) q
 
-  pub rounds-begin : RoundReady a s₁
+  pub rounds-begin : RoundReady a marks s₁
   unfolding pageOf unknownByDefault
   rounds-begin =
       record {
         page-sound = r .page-sound;
         long = omega (arith, r .long, b .same-length);
-        shut = shut-over marked-is (reached-closed (pageOf a) qs);
+        marked = omega (arith, m .size, head-of a (r .page-sound) .few);
+        shut = shut;
         within = λ c l. omega (arith, b .lows c l);
         apart = λ c l q. b .lows c l;
         round = 0;
-        turned = turned-none (S a (r .page-sound)) (shut-over marked-is (reached-closed (pageOf a) qs)) (held (conditionsOf a) s₁) (λ c l q. b .lows c l);
+        turned = turned-none (S a (r .page-sound)) shut (held (conditionsOf a) s₁) (λ c l q. b .lows c l);
       }
 
-  pub solved : {s′ : List ℕ} → Alternated a s₁ s′ → Solved a qs s s′
-  solved v = record { same-length = v .same-length ∙ b .same-length; beyond = v .beyond ∙ b .beyond; reads-closed = λ c l q. v .reads-closed c l (marked-is c l ∙ q) }
+  pub solved : {s′ : List ℕ} → Alternated a marks s₁ s′ → Solved a qs s s′
+  solved v = record { same-length = v .same-length ∙ b .same-length; beyond = v .beyond ∙ b .beyond; reads-closed = λ c l q. v .reads-closed c l (m .same c ∙ q) }
 
 -- the answers: the first i queries are answered
 module _ (I : Assign) (qs answers₀ : List ℕ) where
@@ -187,18 +176,18 @@ module _ (a qs s w : List ℕ) where
       causes-12 e = record { is = sym (first-12 a qs behind ok few e) }
 
       module _ (under : allUnder (conditionsOf a) qs ≡ true) where
-        pub causes-18 : length s < 6 * conditionsOf a → FirstCause (some 18) a qs s w
+        pub causes-18 : length s < 4 * conditionsOf a → FirstCause (some 18) a qs s w
         unfolding pageOf
-        causes-18 l = record { is = sym (first-behind a qs behind ok few under ∙ rw (lt-leb (6 * conditionsOf a) (length s) l)) }
+        causes-18 l = record { is = sym (first-behind a qs behind ok few under ∙ rw (lt-leb (4 * conditionsOf a) (length s) l)) }
 
-        module _ (long : 6 * conditionsOf a ≤ length s) where
+        module _ (long : 4 * conditionsOf a ≤ length s) where
           pub causes-19 : length w < 2 * length qs → FirstCause (some 19) a qs s w
           unfolding pageOf
-          causes-19 l = record { is = sym (first-behind a qs behind ok few under ∙ rw (le-leb (6 * conditionsOf a) (length s) long, lt-leb (2 * length qs) (length w) l)) }
+          causes-19 l = record { is = sym (first-behind a qs behind ok few under ∙ rw (le-leb (4 * conditionsOf a) (length s) long, lt-leb (2 * length qs) (length w) l)) }
 
           pub causes-none : 2 * length qs ≤ length w → FirstCause none a qs s w
           unfolding pageOf
-          causes-none l = record { is = sym (first-behind a qs behind ok few under ∙ rw (le-leb (6 * conditionsOf a) (length s) long, le-leb (2 * length qs) (length w) l)) }
+          causes-none l = record { is = sym (first-behind a qs behind ok few under ∙ rw (le-leb (4 * conditionsOf a) (length s) long, le-leb (2 * length qs) (length w) l)) }
 
   -- a refusal
   pub refused-by : {k : ℕ} → FirstCause (some k) a qs s w → ClosedOf (some k) a qs s w s w
@@ -214,7 +203,7 @@ module _ (a qs s w : List ℕ) where
         record {
           page-sound = not-false _ (h .0);
           under = not-false _ (h .1 .1 .0);
-          long = leb-true (6 * conditionsOf a) (length s) (not-false _ (h .1 .1 .1 .0));
+          long = leb-true (4 * conditionsOf a) (length s) (not-false _ (h .1 .1 .1 .0));
         }
 
     pub room : 2 * length qs ≤ length w
@@ -241,7 +230,7 @@ module _ (a qs s w : List ℕ) where
               reading = closedAt a;
               is-closed = closed-is (pageOf a) (sound-proper a (solve-ready .page-sound));
               written = d .written ∙ ap (λ (t : List ℕ). t ++ drop (2 * length qs) w) (ends-same (held (conditionsOf a) s₁) (closedAt a) qs answer);
-              cleared = d .erased ∙ ap (λ (t : List ℕ). zeros (6 * conditionsOf a) ++ t) (v .beyond);
+              cleared = d .erased ∙ ap (λ (t : List ℕ). zeros (4 * conditionsOf a) ++ t) (v .beyond);
             }
 
         pub accepted : ClosedOf none a qs s w s′ w′
@@ -257,11 +246,6 @@ module _ (a qs s w : List ℕ) where
   pub workspace-kept : {k : ℕ} {x : List ℕ} → FirstCause (some k) a qs s w → x ≡ closedWorkspace a qs s w x
   unfolding closedWorkspace
   workspace-kept {k} {x} e = rw (← e .is)
-
--- a truth value as a number
-pub byte-is : (b : Bool) → leb 1 (boolByte b) ≡ b
-byte-is true = refl
-byte-is false = refl
 
 -- an index in the two parts that the code takes
 pub built-index : (a w : List ℕ) → Index a w → (k : ℕ) → k ≡ linesLength a → MaybeIndex a (take (k - 0) w) (take (length w - k) (drop k w))

@@ -23,4 +23,4 @@ pub record FirstCause (answer : Option ℕ) (a qs s w : List ℕ) : Type 0 where
 -- the answers are the ends held, and the scratch is erased
 pub record AnswersWritten (a qs s w s′ w′ : List ℕ) : Type 0 where
   pub written : w′ ≡ ends (held (conditionsOf a) s) qs ++ drop (2 * length qs) w
-  pub erased : s′ ≡ zeros (6 * conditionsOf a) ++ drop (6 * conditionsOf a) s
+  pub erased : s′ ≡ zeros (4 * conditionsOf a) ++ drop (4 * conditionsOf a) s

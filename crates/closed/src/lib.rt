@@ -10,16 +10,14 @@ ghost use Rattle.settle.specs.Waiting.{MaybeIndex};
 ghost use Rattle.closed.specs.Solving.{Begun, SolveReady, Solved};
 ghost use Rattle.closed.specs.Answer.{refusalTold, FirstCause, AnswersWritten};
 
-// The low ends are 0, and the reached conditions are marked.
-fn begin(scratch: &mut [u16], n: u16, marks: &[bool])
-    requires { ⌜ (6 * n ≤ length (now scratch)) × (n ≤ 512) × (length (now marks) ≡ 512) ⌝ }
-    ensures { λ r. ⌜ Begun n (now (marks .entry)) (now (scratch .entry)) (now (scratch .exit)) ⌝ }
+// The low ends are 0.
+fn begin(scratch: &mut [u16], n: u16)
+    requires { ⌜ (4 * n ≤ length (now scratch)) × (n ≤ 512) ⌝ }
+    ensures { λ r. ⌜ Begun n (now (scratch .entry)) (now (scratch .exit)) ⌝ }
 {
-    let base = 4 * n as usize;
     let mut c: usize = 0;
     while c < n as usize {
         scratch[2 * c] = 0;
-        scratch[base + c] = marks[c] as u16;
         c += 1;
     }
 }
@@ -31,8 +29,8 @@ fn solve(a: &[u16], queries: &[u16], lines: &[u16], users: &[u16], scratch: &mut
 {
     let mut marks = [false; 512];
     reach::mark_closure(a, queries, &mut marks);
-    begin(scratch, a[1], &marks);
-    rounds::alternate(a, lines, users, scratch);
+    begin(scratch, a[1]);
+    rounds::alternate(a, lines, users, &marks, scratch);
 }
 
 // Low and high of each query, in list order.
@@ -70,7 +68,7 @@ fn refusal(page: &[u16], queries: &[u16], scratch: &[u16], answers: &[u16]) -> C
     if !reach::all_below(queries, n) {
         return ClosedAnswer::Refused(12);
     }
-    if scratch.len() < 6 * n as usize {
+    if scratch.len() < 4 * n as usize {
         return ClosedAnswer::Refused(18);
     }
     if answers.len() < 2 * queries.len() {
@@ -86,7 +84,7 @@ fn answer(page: &[u16], queries: &[u16], scratch: &mut [u16], answers: &mut [u16
 {
     let n = page[1];
     write_answers(scratch, n, queries, answers);
-    index::erase(scratch, 6 * n as usize);
+    index::erase(scratch, 4 * n as usize);
 }
 
 // Closed reading: low and high of each query in the closed reading of the page.

@@ -7,21 +7,20 @@ use Prim.Native.Nat.{ℕ, suc, _+_, _*_, _-_, _<_}
 use native.Mathlib.Decide.{ℕ-discrete}
 use native.Mathlib.Omega.{arith}
 use lib.ListN.{length, getD, drop}
-use Rattle.fixpoint.specs.Interval.{Interval, Within, Assign}
-use Rattle.fixpoint.specs.Tables.{Turned}
+use Rattle.fixpoint.specs.Interval.{Interval, Within}
 use Rattle.fixpoint.proofs.Cond.{by-bool}
 use Rattle.fixpoint.proofs.Sum.{sum-eq}
 use Rattle.semantics.specs.Area.{pageOf, topOf, conditionsOf}
-use Rattle.semantics.specs.Body.{T, bodyless, unknownByDefault}
+use Rattle.semantics.specs.Body.{bodyless, unknownByDefault}
 use Rattle.semantics.specs.Grade.{lower, upper}
+use Rattle.semantics.specs.Table.{member}
 use Rattle.page.proofs.Head.{head-of}
 use Rattle.bits.specs.Words.{has}
 use Rattle.index.specs.Parts.{Users}
 use Rattle.settle.specs.Ends.{reads, room}
-use Rattle.settle.specs.Scratch.{held, reachedAt, roomAt, Half, RestsAt, Settled}
+use Rattle.settle.specs.Scratch.{held, roomAt, Half, RestsAt, Settled}
 use Rattle.settle.specs.Waiting.{WaitSet, MaybeIndex, MaybeIndexed}
 use Rattle.rounds.specs.Round.{AllWait, HighsBegun, LowsBegun, Woke, past, LowsWait, TurnedAt, ToppedAt, closedAt, Comparable, Fresh, Searched, LinesHave, RoundReady, Rounded, Alternated}
-use Rattle.settle.proofs.Scratch.{shut-over}
 use Rattle.settle.proofs.Halves.{settled-alike, settled-others}
 use Rattle.settle.proofs.Raising.{S, E}
 use Rattle.rounds.proofs.Turns.{turned-same, topped-by, turned-by, lows-known, rounds-end}
@@ -32,118 +31,113 @@ low-eq h = ap (λ (r : Interval). r .low) h
 high-eq : {p q : Interval} → p ≡ q → p .high ≡ q .high
 high-eq h = ap (λ (r : Interval). r .high) h
 
-turned-over : {n top : ℕ} {T : Assign → ℕ → Interval} {free r s : ℕ → Bool} {k : ℕ} {L : Assign} → ((c : ℕ) → c < n → s c ≡ r c)
-    → Turned n top T free r k L → Turned n top T free s k L
-turned-over e t = record { turned = λ c l q. t .turned c l (sym (e c l) ∙ q) }
-
-module _ (a s : List ℕ) (b : RoundReady a s) where
+module _ (a : List ℕ) (m : List Bool) (s : List ℕ) (b : RoundReady a m s) where
   abbrev n : ℕ
   n = conditionsOf a
 
+  pub comparable : Comparable a s
+  comparable = record { page-sound = b .page-sound; long = b .long; within = b .within }
+
   -- the first half
   module _ {s₁ : List ℕ} (h : HighsBegun a s s₁) where
-    pub highs-half : Half upper a s₁
+    pub highs-half : Half upper a m s₁
     unfolding bodyless
     highs-half =
         record {
           page-sound = b .page-sound;
           long = omega (arith, b .long, h .same-length);
-          shut = shut-over (h .marks) (b .shut);
+          marked = b .marked;
+          shut = b .shut;
           within = λ c l. record { low-in = omega (arith, h .lows c l, b .within c l); high-in = omega (arith, h .highs c l) };
           negated = λ c l. h .negated c l ∙ ap (λ (x : ℕ). topOf a - x) (sym (h .lows c l));
           below = λ c l. omega (arith, h .highs c l);
         }
 
     -- the second
-    module _ {s₂ s₃ : List ℕ} {t : Bool} (v : Settled upper a s₁ s₂ t) (g : LowsBegun a s₂ s₃) where
-      marks₃ : (c : ℕ) → c < n → reachedAt n s₃ c ≡ reachedAt n s c
-      marks₃ c l = g .marks c l ∙ v .steady .marks c l ∙ h .marks c l
-
+    module _ {s₂ s₃ : List ℕ} {t : Bool} (v : Settled upper a m s₁ s₂ t) (g : LowsBegun a s₂ s₃) where
       lows₃ : (c : ℕ) → c < n → held n s₃ c .low ≡ held n s c .low
       lows₃ c l = low-eq (g .intervals c l) ∙ v .steady .others c l ∙ h .lows c l
 
-      turned₃ : TurnedAt a (reachedAt n s) (b .round) (held n s₃)
+      turned₃ : TurnedAt a (member m) (b .round) (held n s₃)
       unfolding unknownByDefault
       turned₃ = turned-same (S a (b .page-sound)) (b .shut) (λ c l r. lows₃ c l) (b .turned)
 
-      topped₃ : ToppedAt a (reachedAt n s) (b .round) (held n s₃)
+      topped₃ : ToppedAt a (member m) (b .round) (held n s₃)
       unfolding unknownByDefault
       topped₃ =
           topped-by (S a (b .page-sound)) (b .shut) {L = held n s₁} (turned-same (S a (b .page-sound)) (b .shut) (λ c l r. h .lows c l) (b .turned))
-          (λ c l r. high-eq (g .intervals c l) ∙ v .ends c l (h .marks c l ∙ r))
+          (λ c l r. high-eq (g .intervals c l) ∙ v .ends c l r)
 
       within₃ : (c : ℕ) → c < n → Within (topOf a) (held n s₃ c)
       within₃ c l = subst (Within (topOf a)) (sym (g .intervals c l)) (v .half .within c l)
 
-      apart₃ : (c : ℕ) → c < n → reachedAt n s c ≡ false → held n s₃ c .low ≡ 0
+      apart₃ : (c : ℕ) → c < n → member m c ≡ false → held n s₃ c .low ≡ 0
       apart₃ c l r = lows₃ c l ∙ b .apart c l r
 
-      pub lows-half : Half lower a s₃
+      pub lows-half : Half lower a m s₃
       unfolding unknownByDefault
       lows-half =
           record {
             page-sound = b .page-sound;
             long = omega (arith, v .half .long, g .same-length);
-            shut = shut-over marks₃ (b .shut);
+            marked = b .marked;
+            shut = b .shut;
             within = within₃;
             negated = λ c l. ap (λ (i : ℕ). getD s₃ i 0) (omega arith) ∙ g .negated c l ∙ ap (λ (x : ℕ). topOf a - x) (sym (high-eq (g .intervals c l)));
             below = lows-known (S a (b .page-sound)) (b .shut) turned₃ topped₃ within₃ apart₃;
           }
 
       -- whoever does not wait negates no condition whose number is another
-      module _ {users lows lows′ : List ℕ} (k : LowsWait a users s lows) (o : Woke a users s₂ s₃ lows lows′) where
+      module _ {users lows lows′ : List ℕ} (k : LowsWait a m users s lows) (o : Woke a users s₂ s₃ lows lows′) where
         number-same : (b : ℕ) → b < n → getD s₂ (2 * b + 1) 0 ≡ getD s (2 * b + 1) 0
-        number-same b m = ap (λ (i : ℕ). getD s₂ i 0) (omega arith) ∙ v .steady .negations b m ∙ ap (λ (i : ℕ). getD s₁ i 0) (omega arith) ∙ h .negations b m
+        number-same b k = ap (λ (i : ℕ). getD s₂ i 0) (omega arith) ∙ v .steady .negations b k ∙ ap (λ (i : ℕ). getD s₁ i 0) (omega arith) ∙ h .negations b k
 
         past-high : (b : ℕ) → b < n → getD s₂ (2 * b + 1) 0 ≡ getD s₃ (2 * b + 1) 0 → held n s₃ b .high ≡ past a s b .high
-        past-high b m z = omega (arith, high-eq (g .intervals b m), g .negated b m, number-same b m, v .half .within b m .high-in)
+        past-high b k z = omega (arith, high-eq (g .intervals b k), g .negated b k, number-same b k, v .half .within b k .high-in)
 
-        rests₃ : Users a users → (c : ℕ) → c < n → reachedAt n s₃ c ≡ true → has lows′ c ≡ false → RestsAt lower a s₃ c
+        rests₃ : Users a users → (c : ℕ) → c < n → member m c ≡ true → has lows′ c ≡ false → RestsAt lower a s₃ c
         unfolding pageOf
         rests₃ u c l r q =
             let few = head-of a (b .page-sound) .few in
             let out : has lows c ≡ false = by-bool (has lows c) (λ y. absurd (true≢false (sym (o .kept c (omega arith) y) ∙ q))) (λ y. y) in
             omega (
               arith,
-              k .rests (λ z. omega (arith, u .long)) c l (sym (marks₃ c l) ∙ r) out,
+              k .rests (λ z. omega (arith, u .long)) c l r out,
               lows₃ c l,
-              E a (b .page-sound) .local-end lower (held n s₃) (past a s) c l (λ d m f. lows₃ d m)
-                  (λ d m f. past-high d m (elim (ℕ-discrete (getD s₂ (2 * d + 1) 0) (getD s₃ (2 * d + 1) 0)) [
+              E a (b .page-sound) .local-end lower (held n s₃) (past a s) c l (λ d i f. lows₃ d i)
+                  (λ d i f. past-high d i (elim (ℕ-discrete (getD s₂ (2 * d + 1) 0) (getD s₃ (2 * d + 1) 0)) [
                     | yes y ↦ y
-                    | no y ↦ absurd (⊎-elim (λ z. omega (arith, u .long)) (λ p. true≢false (sym (p d m y c f) ∙ q)) (o .woken))
+                    | no y ↦ absurd (⊎-elim (λ z. omega (arith, u .long)) (λ p. true≢false (sym (p d i y c f) ∙ q)) (o .woken))
                   ])),
             )
 
-        pub lows-indexed : {lines : List ℕ} → MaybeIndex a lines users → MaybeIndexed lower a lines users s₃ lows′
+        pub lows-indexed : {lines : List ℕ} → MaybeIndex a lines users → MaybeIndexed lower a m lines users s₃ lows′
         lows-indexed = ⊎-elim (λ z. inl z) (λ i. inr (record { lines-in = i .0; users-in = i .1; waiting = record { set = o .set-in; rests = rests₃ (i .1) } }))
 
-      module _ {s₄ : List ℕ} {changed : Bool} (w : Settled lower a s₃ s₄ changed) where
-        marks₄ : (c : ℕ) → c < n → reachedAt n s₄ c ≡ reachedAt n s c
-        marks₄ c l = w .steady .marks c l ∙ marks₃ c l
-
-        turned₄ : TurnedAt a (reachedAt n s) (suc (b .round)) (held n s₄)
+      module _ {s₄ : List ℕ} {changed : Bool} (w : Settled lower a m s₃ s₄ changed) where
+        turned₄ : TurnedAt a (member m) (suc (b .round)) (held n s₄)
         unfolding unknownByDefault
-        turned₄ = turned-by (S a (b .page-sound)) (b .shut) topped₃ (λ c l r. w .ends c l (marks₃ c l ∙ r))
+        turned₄ = turned-by (S a (b .page-sound)) (b .shut) topped₃ (λ c l r. w .ends c l r)
 
         -- the low ends are as before wherever a rule of a reached condition negates them
         abbrev Still : Type 0
-        Still = (d e : ℕ) → d < n → e < n → reachedAt n s d ≡ true → reads (pageOf a) true d e ≡ true → held n s₄ e .low ≡ held n s e .low
+        Still = (d e : ℕ) → d < n → e < n → member m d ≡ true → reads (pageOf a) true d e ≡ true → held n s₄ e .low ≡ held n s e .low
 
         -- then the high ends that are held are those over the low ends held
-        topped₄ : Still → ToppedAt a (reachedAt n s) (suc (b .round)) (held n s₄)
+        topped₄ : Still → ToppedAt a (member m) (suc (b .round)) (held n s₄)
         unfolding unknownByDefault pageOf
         topped₄ q =
             topped-by (S a (b .page-sound)) (b .shut) {L = held n s₄} turned₄
-            (λ c l r. w .steady .others c l ∙ high-eq (g .intervals c l) ∙ v .ends c l (h .marks c l ∙ r)
-            ∙ settled-alike (S a (b .page-sound)) (E a (b .page-sound)) (b .shut) upper (held n s₁) (held n s₄) (λ d e k m p f. h .lows e m ∙ sym (q d e k m p f)) c l r)
+            (λ c l r. w .steady .others c l ∙ high-eq (g .intervals c l) ∙ v .ends c l r
+            ∙ settled-alike (S a (b .page-sound)) (E a (b .page-sound)) (b .shut) upper (held n s₁) (held n s₄) (λ d e k i p f. h .lows e i ∙ sym (q d e k i p f)) c l r)
 
         -- and the low ends are those over these high ends, so both are the closed reading
-        ended : Still → (c : ℕ) → c < n → reachedAt n s c ≡ true → held n s₄ c ≡ closedAt a c
+        ended : Still → (c : ℕ) → c < n → member m c ≡ true → held n s₄ c ≡ closedAt a c
         unfolding unknownByDefault
         ended q =
             rounds-end (S a (b .page-sound)) (b .shut) turned₄ (topped₄ q)
             (turned-by (S a (b .page-sound)) (b .shut) (topped₄ q)
-            (λ c l r. w .ends c l (marks₃ c l ∙ r) ∙ settled-others (S a (b .page-sound)) (E a (b .page-sound)) lower (held n s₃) (held n s₄) (λ d m. sym (w .steady .others d m)) c l))
+            (λ c l r. w .ends c l r ∙ settled-others (S a (b .page-sound)) (E a (b .page-sound)) lower (held n s₃) (held n s₄) (λ d i. sym (w .steady .others d i)) c l))
 
         -- where a negation is fresh the low end is as before
         number₄ : (c : ℕ) → c < n → getD s₄ (2 * n + (2 * c + 1)) 0 ≡ topOf a - held n s c .low
@@ -156,16 +150,16 @@ module _ (a s : List ℕ) (b : RoundReady a s) where
         comparable₄ = record { page-sound = b .page-sound; long = w .half .long; within = λ c l. w .half .within c l .low-in }
 
         -- everybody rests, over the high ends held
-        pub lows-wait : {users lows : List ℕ} → WaitSet n lows → LowsWait a users s₄ lows
+        pub lows-wait : {users lows : List ℕ} → WaitSet n lows → LowsWait a m users s₄ lows
         unfolding pageOf
         lows-wait {users} {lows} q =
             record {
               set-in = q;
               rests = λ y c l r z. omega (
                 arith,
-                w .rests c l (sym (w .steady .marks c l) ∙ r),
-                E a (b .page-sound) .local-end lower (past a s₄) (held n s₄) c l (λ d m f. refl)
-                    (λ d m f. omega (arith, ap (λ (i : ℕ). getD s₄ i 0) {x = 2 * d + 1} {y = 0 + (2 * d + 1)} (omega arith), w .half .negated d m, w .half .within d m .high-in)),
+                w .rests c l r,
+                E a (b .page-sound) .local-end lower (past a s₄) (held n s₄) c l (λ d k f. refl)
+                    (λ d k f. omega (arith, ap (λ (i : ℕ). getD s₄ i 0) {x = 2 * d + 1} {y = 0 + (2 * d + 1)} (omega arith), w .half .negated d k, w .half .within d k .high-in)),
               );
             }
 
@@ -173,58 +167,57 @@ module _ (a s : List ℕ) (b : RoundReady a s) where
         unfolding room
         room-same = sum-eq n _ _ (λ c l. ap (λ (x : ℕ). topOf a - x) (lows₃ c l))
 
-        rounded : {moved : Bool} → (moved ≡ false → Still) → (moved ≡ true → roomAt lower a s₄ < roomAt lower a s) → Rounded a s s₄ moved
-        rounded q m =
+        rounded : {moved : Bool} → (moved ≡ false → Still) → (moved ≡ true → roomAt lower a s₄ < roomAt lower a s) → Rounded a m s s₄ moved
+        rounded q z =
             record {
               same-length = w .steady .same-length ∙ g .same-length ∙ v .steady .same-length ∙ h .same-length;
-              marks = marks₄;
               beyond = w .steady .beyond ∙ g .beyond ∙ v .steady .beyond ∙ h .beyond;
               next = record {
                 page-sound = b .page-sound;
                 long = w .half .long;
-                shut = w .half .shut;
+                marked = b .marked;
+                shut = b .shut;
                 within = λ c l. w .half .within c l .low-in;
-                apart = λ c l r. w .steady .apart c l (marks₃ c l ∙ sym (marks₄ c l) ∙ r) ∙ apart₃ c l (sym (marks₄ c l) ∙ r);
+                apart = λ c l r. w .steady .apart c l r ∙ apart₃ c l r;
                 round = suc (b .round);
-                turned = turned-over marks₄ turned₄;
+                turned = turned₄;
               };
-              ends = λ z. ended (q z);
-              moves = m;
+              ends = λ y. ended (q y);
+              moves = z;
             }
 
         -- no low end rose
-        pub rounded-still : changed ≡ false → Rounded a s s₄ false
+        pub rounded-still : changed ≡ false → Rounded a m s s₄ false
         rounded-still z =
-            rounded (λ y d e k m p f. ap (λ (x : List ℕ). held n x e .low) (w .still z) ∙ lows₃ e m) (λ y. absurd (false≢true y))
+            rounded (λ y d e k i p f. ap (λ (x : List ℕ). held n x e .low) (w .still z) ∙ lows₃ e i) (λ y. absurd (false≢true y))
 
         -- some rose
-        pub rounded-rose : {moved : Bool} → changed ≡ true → Searched a s₄ (LinesHave (pageOf a .lines)) moved → Rounded a s s₄ moved
-        rounded-rose z q = rounded (λ y d e k m p f. fresh-same e m (q .all y e (d, f))) (λ y. omega (arith, w .moves z, room-same))
+        pub rounded-rose : {moved : Bool} → changed ≡ true → Searched a s₄ (LinesHave (pageOf a .lines)) moved → Rounded a m s s₄ moved
+        rounded-rose z q = rounded (λ y d e k i p f. fresh-same e i (q .all y e (d, f))) (λ y. omega (arith, w .moves z, room-same))
 
 -- the loop over the rounds
-module _ (a s₀ : List ℕ) where
+module _ (a : List ℕ) (m : List Bool) (s₀ : List ℕ) where
   pub record Alternating (s : List ℕ) : Type 0 where
     pub same-length : length s ≡ length s₀
-    pub marks : (c : ℕ) → c < conditionsOf a → reachedAt (conditionsOf a) s c ≡ reachedAt (conditionsOf a) s₀ c
-    pub beyond : drop (6 * conditionsOf a) s ≡ drop (6 * conditionsOf a) s₀
-    pub ready : RoundReady a s
+    pub beyond : drop (4 * conditionsOf a) s ≡ drop (4 * conditionsOf a) s₀
+    pub ready : RoundReady a m s
 
-  pub alternating-first : RoundReady a s₀ → Alternating s₀
-  alternating-first b = record { same-length = refl; marks = λ c l. refl; beyond = refl; ready = b }
+  pub alternating-first : RoundReady a m s₀ → Alternating s₀
+  alternating-first b = record { same-length = refl; beyond = refl; ready = b }
 
-  module _ {s s′ : List ℕ} {moved : Bool} (v : Alternating s) (r : Rounded a s s′ moved) where
+  module _ {s s′ : List ℕ} {moved : Bool} (v : Alternating s) (r : Rounded a m s s′ moved) where
     pub alternating-next : Alternating s′
-    alternating-next = record { same-length = r .same-length ∙ v .same-length; marks = λ c l. r .marks c l ∙ v .marks c l; beyond = r .beyond ∙ v .beyond; ready = r .next }
+    alternating-next = record { same-length = r .same-length ∙ v .same-length; beyond = r .beyond ∙ v .beyond; ready = r .next }
 
-    pub alternating-last : moved ≡ false → Alternated a s₀ s′
+    pub alternating-last : moved ≡ false → Alternated a m s₀ s′
     alternating-last z =
         record {
           same-length = r .same-length ∙ v .same-length;
           beyond = r .beyond ∙ v .beyond;
-          reads-closed = λ c l q. r .ends z c l (v .marks c l ∙ q);
+          reads-closed = r .ends z;
         }
 
 -- at first everybody waits
-pub all-lows : (a users s words : List ℕ) → WaitSet (conditionsOf a) words → (length users ≡ 0) ⊎ AllWait (conditionsOf a) s words → LowsWait a users s words
-all-lows a users s words h w =
+pub all-lows : (a : List ℕ) (m : List Bool) (users s words : List ℕ) → WaitSet (conditionsOf a) words → (length users ≡ 0) ⊎ AllWait (conditionsOf a) m words → LowsWait a m users s words
+all-lows a m users s words h w =
     record { set-in = h; rests = λ y c l r z. ⊎-elim (λ e. absurd (y e)) (λ v. absurd (true≢false (sym (v .waits c l r) ∙ z))) w }

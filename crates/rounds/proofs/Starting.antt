@@ -6,20 +6,17 @@ use mathlib.Core.List.{List}
 use Prim.Native.Nat.{ℕ, _+_, _*_, _-_, _≤_, _<_}
 use native.Mathlib.Decide.{ℕ-discrete}
 use native.Mathlib.Omega.{arith}
-use lib.Dec.{leb}
 use lib.ListN.{length, getD, set, drop, length-set}
 use lib.Seq.{getD-set-same, getD-set-other, drop-set-lt, ext-getD}
 use Rattle.fixpoint.proofs.KnowledgeOrder.{pair-eq}
 use Rattle.semantics.specs.Area.{sound, pageOf, topOf, conditionsOf}
 use Rattle.semantics.specs.Body.{bodyless}
-use Rattle.semantics.specs.Grade.{upper}
 use Rattle.page.proofs.Head.{head-of}
 use Rattle.bits.specs.Words.{has}
 use Rattle.index.specs.Parts.{MaybeUsers}
 use Rattle.index.specs.Readers.{linesRead}
-use Rattle.settle.specs.Scratch.{Half}
 use Rattle.settle.specs.Waiting.{WaitSet, Woken}
-use Rattle.rounds.specs.Round.{HighsBegun, LowsBegun, Renegated, Woke}
+use Rattle.rounds.specs.Round.{HighsBegun, LowsBegun, HighsIn, Renegated, Woke}
 use Rattle.index.proofs.Readers.{reads-below}
 
 -- a fact of every condition before c, and of c
@@ -36,16 +33,15 @@ module _ (a s₀ : List ℕ) where
 
   pub record StartingHighs (s : List ℕ) (c : ℕ) : Type 0 where
     pub page-sound : sound a ≡ true
-    pub long : 6 * n ≤ length s₀
+    pub long : 4 * n ≤ length s₀
     pub within : c ≤ n
     pub same-length : length s ≡ length s₀
     pub under : (i : ℕ) → i < 2 * n → getD s i 0 ≡ getD s₀ i 0
-    pub over : (i : ℕ) → 4 * n ≤ i → getD s i 0 ≡ getD s₀ i 0
     pub highs : (d : ℕ) → d < c → getD s (2 * n + 2 * d) 0 ≡ bodyless (pageOf a) d .high
     pub negated : (d : ℕ) → d < c → getD s (2 * n + (2 * d + 1)) 0 ≡ topOf a - getD s₀ (2 * d) 0
-    pub beyond : drop (6 * n) s ≡ drop (6 * n) s₀
+    pub beyond : drop (4 * n) s ≡ drop (4 * n) s₀
 
-  pub highs-first : sound a ≡ true → 6 * n ≤ length s₀ → StartingHighs s₀ 0
+  pub highs-first : sound a ≡ true → 4 * n ≤ length s₀ → StartingHighs s₀ 0
   highs-first ok h =
       record {
         page-sound = ok;
@@ -53,7 +49,6 @@ module _ (a s₀ : List ℕ) where
         within = omega arith;
         same-length = refl;
         under = λ i l. refl;
-        over = λ i l. refl;
         highs = λ d l. absurd (omega arith);
         negated = λ d l. absurd (omega arith);
         beyond = refl;
@@ -83,14 +78,13 @@ module _ (a s₀ : List ℕ) where
           within = omega arith;
           same-length = simp length-set (v .same-length);
           under = λ j m. else′ j (λ z. omega arith) (λ z. omega arith) ∙ v .under j m;
-          over = λ j m. else′ j (λ z. omega arith) (λ z. omega arith) ∙ v .over j m;
           highs = upto (λ d. getD s′ (2 * n + 2 * d) 0 ≡ bodyless (pageOf a) d .high) c
               (λ d m. else′ (2 * n + 2 * d) (λ z. omega arith) (λ z. omega arith) ∙ v .highs d m)
               (getD-set-other s₁ (i + 1) i y 0 (λ z. omega arith) ∙ getD-set-same s i x 0 (omega (arith, v .same-length, v .long)) ∙ p);
           negated = upto (λ d. getD s′ (2 * n + (2 * d + 1)) 0 ≡ topOf a - getD s₀ (2 * d) 0) c
               (λ d m. else′ (2 * n + (2 * d + 1)) (λ z. omega arith) (λ z. omega arith) ∙ v .negated d m)
               (ap (λ (j : ℕ). getD s′ j 0) {y = i + 1} (omega arith) ∙ getD-set-same s₁ (i + 1) y 0 (rw length-set (omega (arith, v .same-length, v .long))) ∙ q ∙ ap (λ (k : ℕ). topOf a - k) low-read);
-          beyond = drop-set-lt (6 * n) s₁ (i + 1) y (omega arith) ∙ drop-set-lt (6 * n) s i x (omega arith) ∙ v .beyond;
+          beyond = drop-set-lt (4 * n) s₁ (i + 1) y (omega arith) ∙ drop-set-lt (4 * n) s i x (omega arith) ∙ v .beyond;
         }
 
   pub highs-last : {s : List ℕ} {c : ℕ} → StartingHighs s c → n ≤ c → HighsBegun a s₀ s
@@ -101,7 +95,6 @@ module _ (a s₀ : List ℕ) where
         highs = λ d m. v .highs d (omega arith);
         negated = λ d m. v .negated d (omega arith);
         negations = λ d m. v .under (2 * d + 1) (omega arith);
-        marks = λ d m. ap (leb 1) (v .over (4 * n + d) (omega arith));
         beyond = v .beyond;
       }
 
@@ -119,7 +112,7 @@ module _ (a users s₀ words₀ : List ℕ) where
   WokenFor words d = getD s₀ (2 * d + 1) 0 ≢ over-high d → (h : ℕ) → linesRead (2 * d + 1) (pageOf a .lines) h ≡ true → has words h ≡ true
 
   pub record StartingLows (s words : List ℕ) (c : ℕ) : Type 0 where
-    pub half : Half upper a s₀
+    pub half : HighsIn a s₀
     pub users-in : MaybeUsers a users
     pub within : c ≤ size
     pub same-length : length s ≡ length s₀
@@ -127,12 +120,12 @@ module _ (a users s₀ words₀ : List ℕ) where
     pub over : (i : ℕ) → 2 * size ≤ i → getD s i 0 ≡ getD s₀ i 0
     pub behind : (d : ℕ) → c ≤ d → getD s (2 * d + 1) 0 ≡ getD s₀ (2 * d + 1) 0
     pub negated : (d : ℕ) → d < c → getD s (2 * d + 1) 0 ≡ over-high d
-    pub beyond : drop (6 * size) s ≡ drop (6 * size) s₀
+    pub beyond : drop (4 * size) s ≡ drop (4 * size) s₀
     pub set-in : WaitSet size words
     pub kept : (d : ℕ) → d < 512 → has words₀ d ≡ true → has words d ≡ true
     pub woken : (length users ≡ 0) ⊎ ((d : ℕ) → d < c → WokenFor words d)
 
-  pub lows-first : Half upper a s₀ → MaybeUsers a users → WaitSet size words₀ → StartingLows s₀ words₀ 0
+  pub lows-first : HighsIn a s₀ → MaybeUsers a users → WaitSet size words₀ → StartingLows s₀ words₀ 0
   lows-first h u w =
       record {
         half = h;
@@ -151,7 +144,7 @@ module _ (a users s₀ words₀ : List ℕ) where
 
   module _ {s words : List ℕ} {c : ℕ} (v : StartingLows s words c) (l : c < size) where
     pub high-read : getD s (2 * size + 2 * c) 0 ≤ topOf a
-    high-read = omega (arith, v .over (2 * size + 2 * c) (omega arith), v .half .within c l)
+    high-read = omega (arith, v .over (2 * size + 2 * c) (omega arith), v .half .2 c l)
 
     module _ {s′ words′ : List ℕ} (r : Renegated a users c s s′ words words′) where
       y : ℕ
@@ -176,7 +169,7 @@ module _ (a users s₀ words₀ : List ℕ) where
               | inl z ↦ inl z
               | inr g ↦ inr (λ d m. elim (ℕ-discrete d c) [
                 | yes z ↦ subst (WokenFor words′) (sym z) (λ q h k. g (λ e. q (sym (v .behind c (omega arith)) ∙ e ∙ ap (λ (x : ℕ). topOf a - x) (v .over (2 * size + 2 * c) (omega arith)))) h k)
-                | no z ↦ λ q h k. r .kept h (omega (arith, head-of a (v .half .page-sound) .few, reads-below a (v .half .page-sound) (2 * d + 1) h k)) (f d (omega arith) q h k)
+                | no z ↦ λ q h k. r .kept h (omega (arith, head-of a (v .half .0) .few, reads-below a (v .half .0) (2 * d + 1) h k)) (f d (omega arith) q h k)
               ])
             ]
           ]
@@ -192,8 +185,8 @@ module _ (a users s₀ words₀ : List ℕ) where
             over = λ j m. other-at j (λ z. omega arith) ∙ v .over j m;
             behind = λ d m. other-at (2 * d + 1) (λ z. omega arith) ∙ v .behind d (omega arith);
             negated = upto (λ d. getD s′ (2 * d + 1) 0 ≡ over-high d) c (λ d m. other-at (2 * d + 1) (λ z. omega arith) ∙ v .negated d m)
-                (ap (λ (x : List ℕ). getD x (2 * c + 1) 0) s-is ∙ getD-set-same s (2 * c + 1) y 0 (omega (arith, v .same-length, v .half .long)) ∙ y-is);
-            beyond = ap (drop (6 * size)) s-is ∙ drop-set-lt (6 * size) s (2 * c + 1) y (omega arith) ∙ v .beyond;
+                (ap (λ (x : List ℕ). getD x (2 * c + 1) 0) s-is ∙ getD-set-same s (2 * c + 1) y 0 (omega (arith, v .same-length, v .half .1)) ∙ y-is);
+            beyond = ap (drop (4 * size)) s-is ∙ drop-set-lt (4 * size) s (2 * c + 1) y (omega arith) ∙ v .beyond;
             set-in = r .set-in;
             kept = λ d m q. r .kept d m (v .kept d m q);
             woken = next-woken;
@@ -206,7 +199,6 @@ module _ (a users s₀ words₀ : List ℕ) where
       intervals = λ d m. pair-eq (v .plain d) (v .over (2 * size + 2 * d) (omega arith));
       negated = λ d m. v .negated d (omega arith);
       negations = λ d m. v .over (2 * size + (2 * d + 1)) (omega arith);
-      marks = λ d m. ap (leb 1) (v .over (4 * size + d) (omega arith));
       beyond = v .beyond;
     },
     record {

@@ -13,15 +13,16 @@ use Rattle.semantics.specs.Area.{sound, pageOf, topOf, conditionsOf}
 use Rattle.semantics.specs.Body.{T, bodyless, unknownByDefault}
 use Rattle.semantics.specs.Grade.{lower}
 use Rattle.semantics.specs.Page.{Line, names}
+use Rattle.semantics.specs.Table.{member}
 use Rattle.bits.specs.Words.{has}
 use Rattle.index.specs.Readers.{linesRead}
-use Rattle.settle.specs.Scratch.{held, reachedAt, roomAt}
+use Rattle.settle.specs.Scratch.{held, roomAt}
 use Rattle.settle.specs.Waiting.{WaitSet}
 
 -- every reached condition waits
-pub record AllWait (n : ℕ) (s words : List ℕ) : Type 0 where
+pub record AllWait (n : ℕ) (m : List Bool) (words : List ℕ) : Type 0 where
   pub set : WaitSet n words
-  pub waits : (c : ℕ) → c < n → reachedAt n s c ≡ true → has words c ≡ true
+  pub waits : (c : ℕ) → c < n → member m c ≡ true → has words c ≡ true
 
 -- every high end starts anew over the low ends
 pub record HighsBegun (a s s′ : List ℕ) : Type 0 where
@@ -30,8 +31,7 @@ pub record HighsBegun (a s s′ : List ℕ) : Type 0 where
   pub highs : (c : ℕ) → c < conditionsOf a → getD s′ (2 * conditionsOf a + 2 * c) 0 ≡ bodyless (pageOf a) c .high
   pub negated : (c : ℕ) → c < conditionsOf a → getD s′ (2 * conditionsOf a + (2 * c + 1)) 0 ≡ topOf a - getD s (2 * c) 0
   pub negations : (c : ℕ) → c < conditionsOf a → getD s′ (2 * c + 1) 0 ≡ getD s (2 * c + 1) 0
-  pub marks : (c : ℕ) → c < conditionsOf a → reachedAt (conditionsOf a) s′ c ≡ reachedAt (conditionsOf a) s c
-  pub beyond : drop (6 * conditionsOf a) s′ ≡ drop (6 * conditionsOf a) s
+  pub beyond : drop (4 * conditionsOf a) s′ ≡ drop (4 * conditionsOf a) s
 
 -- the negation of c has its number over the high ends, and if there is an index and the number is another, whoever negates c waits
 pub record Renegated (a users : List ℕ) (c : ℕ) (s s′ words words′ : List ℕ) : Type 0 where
@@ -51,9 +51,9 @@ abbrev pub past : (a s : List ℕ) → Assign
 past a s c = record { low = getD s (2 * c) 0; high = topOf a - getD s (2 * c + 1) 0 }
 
 -- if there is an index, whoever is reached and does not wait holds what T made of it then
-pub record LowsWait (a users s words : List ℕ) : Type 0 where
+pub record LowsWait (a : List ℕ) (m : List Bool) (users s words : List ℕ) : Type 0 where
   pub set-in : WaitSet (conditionsOf a) words
-  pub rests : (length users ≡ 0 → ⊥) → (c : ℕ) → c < conditionsOf a → reachedAt (conditionsOf a) s c ≡ true → has words c ≡ false → T (pageOf a) (past a s) c .low ≤ getD s (2 * c) 0
+  pub rests : (length users ≡ 0 → ⊥) → (c : ℕ) → c < conditionsOf a → member m c ≡ true → has words c ≡ false → T (pageOf a) (past a s) c .low ≤ getD s (2 * c) 0
 
 -- every low end goes on over the high ends
 pub record LowsBegun (a s s′ : List ℕ) : Type 0 where
@@ -61,13 +61,16 @@ pub record LowsBegun (a s s′ : List ℕ) : Type 0 where
   pub intervals : (c : ℕ) → c < conditionsOf a → held (conditionsOf a) s′ c ≡ held (conditionsOf a) s c
   pub negated : (c : ℕ) → c < conditionsOf a → getD s′ (2 * c + 1) 0 ≡ topOf a - getD s (2 * conditionsOf a + 2 * c) 0
   pub negations : (c : ℕ) → c < conditionsOf a → getD s′ (2 * conditionsOf a + (2 * c + 1)) 0 ≡ getD s (2 * conditionsOf a + (2 * c + 1)) 0
-  pub marks : (c : ℕ) → c < conditionsOf a → reachedAt (conditionsOf a) s′ c ≡ reachedAt (conditionsOf a) s c
-  pub beyond : drop (6 * conditionsOf a) s′ ≡ drop (6 * conditionsOf a) s
+  pub beyond : drop (4 * conditionsOf a) s′ ≡ drop (4 * conditionsOf a) s
+
+-- the numbers that the negations of the high ends read
+abbrev pub HighsIn : (a s : List ℕ) → Type 0
+HighsIn a s = (sound a ≡ true) × (4 * conditionsOf a ≤ length s) × ((c : ℕ) → c < conditionsOf a → getD s (2 * conditionsOf a + 2 * c) 0 ≤ topOf a)
 
 -- the numbers that a comparison of the negations reads
 pub record Comparable (a s : List ℕ) : Type 0 where
   pub page-sound : sound a ≡ true
-  pub long : 6 * conditionsOf a ≤ length s
+  pub long : 4 * conditionsOf a ≤ length s
   pub within : (c : ℕ) → c < conditionsOf a → getD s (2 * c) 0 ≤ topOf a
 
 -- the negation of c has at its high end the number over the low end that is held now
@@ -98,26 +101,26 @@ abbrev pub closedAt : List ℕ → Assign
 closedAt a = closed (conditionsOf a) (topOf a) (T (pageOf a)) (unknownByDefault (pageOf a))
 
 -- before a round: the low ends are those of round k, and 0 wherever a condition is not reached
-pub record RoundReady (a s : List ℕ) : Type 0 where
+pub record RoundReady (a : List ℕ) (m : List Bool) (s : List ℕ) : Type 0 where
   pub page-sound : sound a ≡ true
-  pub long : 6 * conditionsOf a ≤ length s
-  pub shut : DependencyClosed (conditionsOf a) (names (pageOf a)) (reachedAt (conditionsOf a) s)
+  pub long : 4 * conditionsOf a ≤ length s
+  pub marked : conditionsOf a ≤ length m
+  pub shut : DependencyClosed (conditionsOf a) (names (pageOf a)) (member m)
   pub within : (c : ℕ) → c < conditionsOf a → getD s (2 * c) 0 ≤ topOf a
-  pub apart : (c : ℕ) → c < conditionsOf a → reachedAt (conditionsOf a) s c ≡ false → getD s (2 * c) 0 ≡ 0
+  pub apart : (c : ℕ) → c < conditionsOf a → member m c ≡ false → getD s (2 * c) 0 ≡ 0
   pub round : ℕ
-  pub turned : TurnedAt a (reachedAt (conditionsOf a) s) round (held (conditionsOf a) s)
+  pub turned : TurnedAt a (member m) round (held (conditionsOf a) s)
 
 -- a round leaves the next state; if no low end moved that a rule negates, it leaves the closed reading on what is reached
-pub record Rounded (a s s′ : List ℕ) (moved : Bool) : Type 0 where
+pub record Rounded (a : List ℕ) (m : List Bool) (s s′ : List ℕ) (moved : Bool) : Type 0 where
   pub same-length : length s′ ≡ length s
-  pub marks : (c : ℕ) → c < conditionsOf a → reachedAt (conditionsOf a) s′ c ≡ reachedAt (conditionsOf a) s c
-  pub beyond : drop (6 * conditionsOf a) s′ ≡ drop (6 * conditionsOf a) s
-  pub next : RoundReady a s′
-  pub ends : moved ≡ false → (c : ℕ) → c < conditionsOf a → reachedAt (conditionsOf a) s c ≡ true → held (conditionsOf a) s′ c ≡ closedAt a c
+  pub beyond : drop (4 * conditionsOf a) s′ ≡ drop (4 * conditionsOf a) s
+  pub next : RoundReady a m s′
+  pub ends : moved ≡ false → (c : ℕ) → c < conditionsOf a → member m c ≡ true → held (conditionsOf a) s′ c ≡ closedAt a c
   pub moves : moved ≡ true → roomAt lower a s′ < roomAt lower a s
 
 -- all rounds
-pub record Alternated (a s s′ : List ℕ) : Type 0 where
+pub record Alternated (a : List ℕ) (m : List Bool) (s s′ : List ℕ) : Type 0 where
   pub same-length : length s′ ≡ length s
-  pub beyond : drop (6 * conditionsOf a) s′ ≡ drop (6 * conditionsOf a) s
-  pub reads-closed : (c : ℕ) → c < conditionsOf a → reachedAt (conditionsOf a) s c ≡ true → held (conditionsOf a) s′ c ≡ closedAt a c
+  pub beyond : drop (4 * conditionsOf a) s′ ≡ drop (4 * conditionsOf a) s
+  pub reads-closed : (c : ℕ) → c < conditionsOf a → member m c ≡ true → held (conditionsOf a) s′ c ≡ closedAt a c

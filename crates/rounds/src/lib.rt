@@ -6,19 +6,17 @@ ghost use mathlib.Core.List.{[], _∷_};
 ghost use Prim.Native.Nat.{ℕ, _≤_, _<_, _+_, _*_};
 ghost use lib.ListN.{length, getD, drop};
 ghost use Rattle.semantics.specs.Area.{sound, lineAt, pageOf, topOf, conditionsOf};
-ghost use Rattle.semantics.specs.Grade.{upper};
 ghost use Rattle.page.specs.Places.{LineIn};
 ghost use Rattle.index.specs.Parts.{MaybeUsers};
-ghost use Rattle.settle.specs.Scratch.{Half};
 ghost use Rattle.settle.specs.Waiting.{WaitSet, MaybeIndex};
-ghost use Rattle.rounds.specs.Round.{AllWait, HighsBegun, Renegated, Woke, LowsWait, LowsBegun, Comparable, Searched, Between, LinesHave, RoundReady, Rounded, Alternated};
+ghost use Rattle.rounds.specs.Round.{AllWait, HighsBegun, Renegated, Woke, LowsWait, LowsBegun, HighsIn, Comparable, Searched, Between, LinesHave, RoundReady, Rounded, Alternated};
 use settle::settle;
 use settle::wake;
 use value::End;
 
 // Every high end starts anew, with what the negations have over the low ends.
 fn start_highs(a: &[u16], scratch: &mut [u16])
-    requires { ⌜ RoundReady (now a) (now scratch) ⌝ }
+    requires { ⌜ Comparable (now a) (now scratch) ⌝ }
     ensures { λ r. ⌜ HighsBegun (now (a .entry)) (now (scratch .entry)) (now (scratch .exit)) ⌝ }
 {
     let top = a[0];
@@ -36,7 +34,7 @@ fn start_highs(a: &[u16], scratch: &mut [u16])
 
 // The negation of c has its number over the high ends; if it is another, whoever negates c waits.
 fn negate(a: &[u16], users: &[u16], scratch: &mut [u16], words: &mut [u64], c: u16)
-    requires { ⌜ (sound (now a) ≡ true) × MaybeUsers (now a) (now users) × (6 * conditionsOf (now a) ≤ length (now scratch)) × (c < conditionsOf (now a)) × (getD (now scratch) (2 * conditionsOf (now a) + 2 * c) 0 ≤ topOf (now a)) × WaitSet (conditionsOf (now a)) (now words) ⌝ }
+    requires { ⌜ (sound (now a) ≡ true) × MaybeUsers (now a) (now users) × (4 * conditionsOf (now a) ≤ length (now scratch)) × (c < conditionsOf (now a)) × (getD (now scratch) (2 * conditionsOf (now a) + 2 * c) 0 ≤ topOf (now a)) × WaitSet (conditionsOf (now a)) (now words) ⌝ }
     ensures { λ r. ⌜ Renegated (now (a .entry)) (now (users .entry)) c (now (scratch .entry)) (now (scratch .exit)) (now (words .entry)) (now (words .exit)) ⌝ }
 {
     let base = 2 * a[1] as usize;
@@ -54,7 +52,7 @@ fn negate(a: &[u16], users: &[u16], scratch: &mut [u16], words: &mut [u64], c: u
 
 // The low ends go on, with what the negations have over the high ends.
 fn start_lows(a: &[u16], users: &[u16], scratch: &mut [u16], words: &mut [u64])
-    requires { ⌜ Half upper (now a) (now scratch) × MaybeUsers (now a) (now users) × WaitSet (conditionsOf (now a)) (now words) ⌝ }
+    requires { ⌜ HighsIn (now a) (now scratch) × MaybeUsers (now a) (now users) × WaitSet (conditionsOf (now a)) (now words) ⌝ }
     ensures { λ r. ⌜ LowsBegun (now (a .entry)) (now (scratch .entry)) (now (scratch .exit)) × Woke (now (a .entry)) (now (users .entry)) (now (scratch .entry)) (now (scratch .exit)) (now (words .entry)) (now (words .exit)) ⌝ }
 {
     let n = a[1];
@@ -66,17 +64,16 @@ fn start_lows(a: &[u16], users: &[u16], scratch: &mut [u16], words: &mut [u64])
 }
 
 // Every reached condition waits, if there is an index.
-fn wait_all(scratch: &[u16], users: &[u16], n: u16, words: &mut [u64])
-    requires { ⌜ (6 * n ≤ length (now scratch)) × (n ≤ 512) × WaitSet n (now words) ⌝ }
-    ensures { λ r. ⌜ WaitSet n (now (words .exit)) × ((length (now (users .entry)) ≡ 0) ⊎ AllWait n (now (scratch .entry)) (now (words .exit))) ⌝ }
+fn wait_all(marks: &[bool], users: &[u16], n: u16, words: &mut [u64])
+    requires { ⌜ (n ≤ length (now marks)) × (n ≤ 512) × WaitSet n (now words) ⌝ }
+    ensures { λ r. ⌜ WaitSet n (now (words .exit)) × ((length (now (users .entry)) ≡ 0) ⊎ AllWait n (now (marks .entry)) (now (words .exit))) ⌝ }
 {
     if users.len() == 0 {
         return;
     }
-    let base = 4 * n as usize;
     let mut c: u16 = 0;
     while c < n {
-        if scratch[base + c as usize] != 0 {
+        if marks[c as usize] {
             bits::insert(words, c);
         }
         c += 1;
@@ -145,30 +142,31 @@ fn round(
     a: &[u16],
     lines: &[u16],
     users: &[u16],
+    marks: &[bool],
     scratch: &mut [u16],
     tops: &mut [u64],
     lows: &mut [u64],
 ) -> bool
-    requires { ⌜ RoundReady (now a) (now scratch) × MaybeIndex (now a) (now lines) (now users) × WaitSet (conditionsOf (now a)) (now tops) × LowsWait (now a) (now users) (now scratch) (now lows) ⌝ }
-    ensures { λ r. ⌜ Rounded (now (a .entry)) (now (scratch .entry)) (now (scratch .exit)) r × WaitSet (conditionsOf (now (a .entry))) (now (tops .exit)) × LowsWait (now (a .entry)) (now (users .entry)) (now (scratch .exit)) (now (lows .exit)) ⌝ }
+    requires { ⌜ RoundReady (now a) (now marks) (now scratch) × MaybeIndex (now a) (now lines) (now users) × WaitSet (conditionsOf (now a)) (now tops) × LowsWait (now a) (now marks) (now users) (now scratch) (now lows) ⌝ }
+    ensures { λ r. ⌜ Rounded (now (a .entry)) (now (marks .entry)) (now (scratch .entry)) (now (scratch .exit)) r × WaitSet (conditionsOf (now (a .entry))) (now (tops .exit)) × LowsWait (now (a .entry)) (now (marks .entry)) (now (users .entry)) (now (scratch .exit)) (now (lows .exit)) ⌝ }
 {
     start_highs(a, scratch);
-    wait_all(scratch, users, a[1], tops);
-    settle(a, lines, users, scratch, tops, End::Upper);
+    wait_all(marks, users, a[1], tops);
+    settle(a, lines, users, marks, scratch, tops, End::Upper);
     start_lows(a, users, scratch, lows);
-    if !settle(a, lines, users, scratch, lows, End::Lower) {
+    if !settle(a, lines, users, marks, scratch, lows, End::Lower) {
         return false;
     }
     negation_stale(a, scratch)
 }
 
 // Rounds until one moves no low end that a rule negates. In the first every reached condition waits in both halves.
-pub fn alternate(a: &[u16], lines: &[u16], users: &[u16], scratch: &mut [u16])
-    requires { ⌜ RoundReady (now a) (now scratch) × MaybeIndex (now a) (now lines) (now users) ⌝ }
-    ensures { λ r. ⌜ Alternated (now (a .entry)) (now (scratch .entry)) (now (scratch .exit)) ⌝ }
+pub fn alternate(a: &[u16], lines: &[u16], users: &[u16], marks: &[bool], scratch: &mut [u16])
+    requires { ⌜ RoundReady (now a) (now marks) (now scratch) × MaybeIndex (now a) (now lines) (now users) ⌝ }
+    ensures { λ r. ⌜ Alternated (now (a .entry)) (now (marks .entry)) (now (scratch .entry)) (now (scratch .exit)) ⌝ }
 {
     let mut tops = [0u64; 8];
     let mut lows = [0u64; 8];
-    wait_all(scratch, users, a[1], &mut lows);
-    while round(a, lines, users, scratch, &mut tops, &mut lows) {}
+    wait_all(marks, users, a[1], &mut lows);
+    while round(a, lines, users, marks, scratch, &mut tops, &mut lows) {}
 }

@@ -134,12 +134,13 @@ areaRows =
     ∷ callsOn areaAsked (0 ∷ 10 ∷ 2 ∷ 0 ∷ 10 ∷ 2 ∷ []) (evaluate 1) (changed 0) (0 ∷ 10 ∷ 2 ∷ 0 ∷ 0 ∷ 1 ∷ [])
     ∷ callsOn areaAsked (0 ∷ 4 ∷ 1 ∷ 0 ∷ 10 ∷ 2 ∷ []) (drive 9) (drove 1 0 rest) (0 ∷ 4 ∷ 1 ∷ 0 ∷ 0 ∷ 1 ∷ [])
     ∷ callsOn areaAsked (0 ∷ 10 ∷ 2 ∷ 0 ∷ 10 ∷ 2 ∷ []) (lineHeld 1) (heldBy 0) (0 ∷ 10 ∷ 2 ∷ 0 ∷ 10 ∷ 2 ∷ [])
-    ∷ closesOn area1 (1 ∷ []) scratch1 (9 ∷ 9 ∷ 9 ∷ []) (0 ∷ 0 ∷ 0 ∷ 0 ∷ 0 ∷ 0 ∷ 0 ∷ 0 ∷ 0 ∷ 0 ∷ 0 ∷ 0 ∷ 9 ∷ []) (3 ∷ 8 ∷ 9 ∷ [])
+    ∷ closesOn area1 (1 ∷ []) scratch1 (9 ∷ 9 ∷ 9 ∷ []) (0 ∷ 0 ∷ 0 ∷ 0 ∷ 0 ∷ 0 ∷ 0 ∷ 0 ∷ 9 ∷ 9 ∷ 9 ∷ 9 ∷ 9 ∷ []) (3 ∷ 8 ∷ 9 ∷ [])
+    ∷ closesOn area1 (1 ∷ []) (9 ∷ nines) (9 ∷ 9 ∷ []) (0 ∷ 0 ∷ 0 ∷ 0 ∷ 0 ∷ 0 ∷ 0 ∷ 0 ∷ []) (3 ∷ 8 ∷ [])
     -- a division rounds the low end down and the high end up
     ∷ callsOn areaHalf opened1 (drive 3) (drove 3 3 rest) (2 ∷ 3 ∷ 1 ∷ 5 ∷ 5 ∷ 1 ∷ 9 ∷ [])
     ∷ callsOn areaNine (0 ∷ 10 ∷ 2 ∷ []) (evaluate 0) (changed 2) (0 ∷ 9 ∷ 2 ∷ [])
     ∷ callsOn areaNine (0 ∷ 9 ∷ 2 ∷ []) (evaluate 0) (unchanged 2) (0 ∷ 9 ∷ 1 ∷ [])
-    ∷ closesOn areaHalf (0 ∷ []) scratch1 (9 ∷ 9 ∷ 9 ∷ []) (0 ∷ 0 ∷ 0 ∷ 0 ∷ 0 ∷ 0 ∷ 0 ∷ 0 ∷ 0 ∷ 0 ∷ 0 ∷ 0 ∷ 9 ∷ []) (2 ∷ 3 ∷ 9 ∷ [])
+    ∷ closesOn areaHalf (0 ∷ []) scratch1 (9 ∷ 9 ∷ 9 ∷ []) (0 ∷ 0 ∷ 0 ∷ 0 ∷ 0 ∷ 0 ∷ 0 ∷ 0 ∷ 9 ∷ 9 ∷ 9 ∷ 9 ∷ 9 ∷ []) (2 ∷ 3 ∷ 9 ∷ [])
     ∷ refusesOn area7 (1 ∷ []) scratch1 nines 10
     ∷ refusesOn area1 [] scratch1 nines 11
     ∷ refusesOn area1 (2 ∷ []) scratch1 nines 12

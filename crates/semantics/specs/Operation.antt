@@ -100,9 +100,9 @@ workspaceAs none a w = usedWorkspace a w
 
 -- how many scratch numbers the closed reading takes
 abbrev pub scratchLength : Page → ℕ
-scratchLength page = 6 * page .conditions
+scratchLength page = 4 * page .conditions
 
--- Closed reading: 10, 11, 12; 18 scratch shorter than 6 × C; 19 answers shorter than 2 × the list
+-- Closed reading: 10, 11, 12; 18 scratch shorter than 4 × C; 19 answers shorter than 2 × the list
 abbrev pub closedCauses : List ℕ → List ℕ → List ℕ → List ℕ → List Cause
 closedCauses a qs scratch answers =
     queryCauses a qs

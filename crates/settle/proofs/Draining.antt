@@ -15,6 +15,7 @@ use Rattle.fixpoint.proofs.Sum.{sum-le, sum-const, sum-drop}
 use Rattle.semantics.specs.Area.{sound, lineAt, pageOf, topOf, conditionsOf, countOf}
 use Rattle.semantics.specs.Grade.{End}
 use Rattle.semantics.specs.Page.{Line, fact, rule, query}
+use Rattle.semantics.specs.Table.{member}
 use Rattle.page.specs.Places.{placeOf, LineIn, LineOf}
 use Rattle.page.proofs.Head.{head-of}
 use Rattle.page.proofs.Scanning.{linesLeft, lines-first}
@@ -25,7 +26,7 @@ use Rattle.index.specs.Parts.{Users}
 use Rattle.index.specs.Readers.{among, linesRead}
 use Rattle.value.specs.Table.{endOf, other}
 use Rattle.value.proofs.BodyEnds.{body-most}
-use Rattle.settle.specs.Scratch.{held, reachedAt, roomAt, Half, Lookable, Looked, RestsAt, Settled}
+use Rattle.settle.specs.Scratch.{held, roomAt, Half, Lookable, Looked, RestsAt, Settled}
 use Rattle.settle.specs.Waiting.{WaitSet, Woken, Waiting}
 use Rattle.settle.proofs.Raising.{E}
 use Rattle.settle.proofs.Settling.{Settling, settling-first, settling-next, settling-last}
@@ -82,23 +83,23 @@ module _ (a first places : List ℕ) (ok : sound a ≡ true) (g : LinesByHead a 
         lines = λ i l u. let w = line-at-group i l u in record { number = w .number; in-count = w .in-count; place = w .place };
       }
 
-  module _ {e : End} {s s′ : List ℕ} {t : Bool} (r : Looked e a (λ i. getD places i 0) from to s s′ t) where
+  module _ {e : End} {m : List Bool} {s s′ : List ℕ} {t : Bool} (r : Looked e a m (λ i. getD places i 0) from to s s′ t) where
     -- no other condition rose
     pub group-only : (b : ℕ) → b < conditionsOf a → b ≢ c → endOf e (held (conditionsOf a) s′ b) ≡ endOf e (held (conditionsOf a) s b)
-    group-only b m d = r .only b m (λ i l u q. d (sym q ∙ line-at-group i l u .head))
+    group-only b k d = r .only b k (λ i l u q. d (sym q ∙ line-at-group i l u .head))
 
     -- and if c does not read itself, or did not rise, it rests
-    pub group-rests : (linesRead (2 * c) (pageOf a .lines) c ≡ true → endOf e (held (conditionsOf a) s′ c) ≡ endOf e (held (conditionsOf a) s c)) → reachedAt (conditionsOf a) s′ c ≡ true → RestsAt e a s′ c
+    pub group-rests : (linesRead (2 * c) (pageOf a .lines) c ≡ true → endOf e (held (conditionsOf a) s′ c) ≡ endOf e (held (conditionsOf a) s c)) → member m c ≡ true → RestsAt e a s′ c
     group-rests h q =
         body-most e a ok (held (conditionsOf a) s′) c (endOf e (held (conditionsOf a) s′ c))
         (λ j u p d.
         let y = g .every c (placeOf a j) real (line-of (topOf a) (held (conditionsOf a) s′) c a j u d) in
         let z : getD places (y .0) 0 ≡ placeOf a j = y .3 in
         r .covered (y .0) (y .1) (y .2) c real q
-        (λ b m f. elim (ℕ-discrete b c) [
+        (λ b o f. elim (ℕ-discrete b c) [
           | yes k ↦ subst (λ (x : ℕ). endOf e (held (conditionsOf a) s′ x) ≡ endOf e (held (conditionsOf a) s x)) (sym k)
               (h (read-in a ok (2 * c) c (getD places (y .0) 0) (group-lookable .lines (y .0) (y .1) (y .2)) (subst (λ (x : ℕ). linesRead (2 * x) (lineAt (drop (getD places (y .0) 0) a) ∷ []) c ≡ true) k f)))
-          | no k ↦ group-only b m k
+          | no k ↦ group-only b o k
         ])
         p (rw z d))
 
@@ -116,18 +117,18 @@ few-wait words = omega (arith, sum-le 512 (λ c. bit (has words c)) (λ c. 1) (�
     small true = omega arith
     small false = omega arith
 
-module _ (e : End) (a first places s₀ : List ℕ) where
+module _ (e : End) (a : List ℕ) (m : List Bool) (first places s₀ : List ℕ) where
   pub record Draining (s words : List ℕ) (changed : Bool) : Type 0 where
     pub groups : LinesByHead a first places
-    pub settling : Settling e a s₀ s changed
-    pub waiting : Waiting e a s words
+    pub settling : Settling e a m s₀ s changed
+    pub waiting : Waiting e a m s words
 
-  pub draining-first : {words : List ℕ} → LinesByHead a first places → Half e a s₀ → Waiting e a s₀ words → Draining s₀ words false
-  draining-first g h w = record { groups = g; settling = settling-first e a h; waiting = w }
+  pub draining-first : {words : List ℕ} → LinesByHead a first places → Half e a m s₀ → Waiting e a m s₀ words → Draining s₀ words false
+  draining-first g h w = record { groups = g; settling = settling-first e a m h; waiting = w }
 
-  pub draining-last : {s words : List ℕ} {changed : Bool} → Draining s words changed → ((c : ℕ) → c < 512 → has words c ≡ false) → Settled e a s₀ s changed
+  pub draining-last : {s words : List ℕ} {changed : Bool} → Draining s words changed → ((c : ℕ) → c < 512 → has words c ≡ false) → Settled e a m s₀ s changed
   draining-last v q =
-      settling-last e a (v .settling) (λ c l r. v .waiting .rests c l r (q c (omega (arith, head-of a (v .settling .half .page-sound) .few))))
+      settling-last e a m (v .settling) (λ c l r. v .waiting .rests c l r (q c (omega (arith, head-of a (v .settling .half .page-sound) .few))))
 
   -- c is taken out and its group looked at
   module _ {s words : List ℕ} {changed : Bool} (v : Draining s words changed) (c : ℕ) (small : c < 512) (waits : has words c ≡ true) (words₁ : List ℕ) (x : Removed c words words₁) where
@@ -161,7 +162,7 @@ module _ (e : End) (a first places s₀ : List ℕ) where
         bits : (d : ℕ) → d < 512 → (has words₁ d ≡ true → has words d ≡ true) → bit (has words₁ d) ≤ bit (has words d)
         bits d l h = by-bool (has words₁ d) (λ q. rw (q, h q) (omega arith)) (λ q. rw q (omega arith))
 
-    module _ {s′ : List ℕ} {t : Bool} (r : Looked e a (λ i. getD places i 0) (getD first c 0) (getD first (c + 1) 0) s s′ t) where
+    module _ {s′ : List ℕ} {t : Bool} (r : Looked e a m (λ i. getD places i 0) (getD first c 0) (getD first (c + 1) 0) s s′ t) where
       abbrev n : ℕ
       n = conditionsOf a
 
@@ -181,11 +182,11 @@ module _ (e : End) (a first places s₀ : List ℕ) where
               settling = v .settling;
               waiting = record {
                 set = set₁;
-                rests = λ d l m o. elim (ℕ-discrete d c) [
+                rests = λ d l i o. elim (ℕ-discrete d c) [
                   | yes k ↦ subst (λ (b : ℕ). RestsAt e a s b) (sym k)
                       (subst (λ (y : List ℕ). RestsAt e a y c) q (group-rests a first places ok (v .groups) c c-real r (λ f. ap (λ (y : List ℕ). endOf e (held n y c)) q)
-                      (ap (λ (y : List ℕ). reachedAt n y c) q ∙ sym (ap (reachedAt n s) k) ∙ m)))
-                  | no k ↦ v .waiting .rests d l m (out-before d (omega (arith, few)) k o)
+                      (sym (ap (member m) k) ∙ i)))
+                  | no k ↦ v .waiting .rests d l i (out-before d (omega (arith, few)) k o)
                 ];
               };
             },
@@ -201,9 +202,9 @@ module _ (e : End) (a first places s₀ : List ℕ) where
         out₁ : (d : ℕ) → d < 512 → has words₂ d ≡ false → has words₁ d ≡ false
         out₁ d l o = by-bool (has words₁ d) (λ y. absurd (true≢false (sym (w .kept d l y) ∙ o))) (λ y. y)
 
-        other-rests : (d : ℕ) → d < n → d ≢ c → reachedAt n s′ d ≡ true → has words₂ d ≡ false → RestsAt e a s′ d
+        other-rests : (d : ℕ) → d < n → d ≢ c → member m d ≡ true → has words₂ d ≡ false → RestsAt e a s′ d
         unfolding pageOf
-        other-rests d l k m o =
+        other-rests d l k z o =
             omega (
               arith,
               E a ok .local-end e (held n s′) (held n s) d l
@@ -212,7 +213,7 @@ module _ (e : End) (a first places s₀ : List ℕ) where
                     | no y ↦ group-only a first places ok (v .groups) c c-real r b i y
                   ])
                   (λ b i f. r .steady .others b i),
-              v .waiting .rests d l (sym (r .steady .marks d l) ∙ m) (out-before d (omega (arith, few)) k (out₁ d (omega (arith, few)) o)),
+              v .waiting .rests d l z (out-before d (omega (arith, few)) k (out₁ d (omega (arith, few)) o)),
               r .steady .rises d l,
             )
 
@@ -220,13 +221,13 @@ module _ (e : End) (a first places s₀ : List ℕ) where
         draining-rose z = (
           record {
             groups = v .groups;
-            settling = settling-next e a (v .settling) (subst (Looked e a (λ i. getD places i 0) (getD first c 0) (getD first (c + 1) 0) s s′) z r);
+            settling = settling-next e a m (v .settling) (subst (Looked e a m (λ i. getD places i 0) (getD first c 0) (getD first (c + 1) 0) s s′) z r);
             waiting = record {
               set = w .set;
-              rests = λ d l m o. elim (ℕ-discrete d c) [
+              rests = λ d l i o. elim (ℕ-discrete d c) [
                 | yes k ↦ subst (λ (b : ℕ). RestsAt e a s′ b) (sym k)
-                    (group-rests a first places ok (v .groups) c c-real r (λ f. absurd (reads-not c (sym (ap (has words₂) k) ∙ o) f)) (sym (ap (reachedAt n s′) k) ∙ m))
-                | no k ↦ other-rests d l k m o
+                    (group-rests a first places ok (v .groups) c c-real r (λ f. absurd (reads-not c (sym (ap (has words₂) k) ∙ o) f)) (sym (ap (member m) k) ∙ i))
+                | no k ↦ other-rests d l k i o
               ];
             };
           },
@@ -234,13 +235,13 @@ module _ (e : End) (a first places s₀ : List ℕ) where
         )
 
 -- the loop: c is one that waits, or 512
-pub record Drains (e : End) (a first places users : List ℕ) (n : ℕ) (s₀ s words : List ℕ) (changed : Bool) (c : ℕ) : Type 0 where
+pub record Drains (e : End) (a : List ℕ) (m : List Bool) (first places users : List ℕ) (n : ℕ) (s₀ s words : List ℕ) (changed : Bool) (c : ℕ) : Type 0 where
   pub users-in : Users a users
   pub size : n ≡ conditionsOf a
-  pub draining : Draining e a first places s₀ s words changed
+  pub draining : Draining e a m first places s₀ s words changed
   pub any : AnyIn words c
 
-module _ {e : End} {a first places users : List ℕ} {n : ℕ} {s₀ s words : List ℕ} {changed : Bool} {c : ℕ} (v : Drains e a first places users n s₀ s words changed c) (small : c < 512) where
+module _ {e : End} {a : List ℕ} {m : List Bool} {first places users : List ℕ} {n : ℕ} {s₀ s words : List ℕ} {changed : Bool} {c : ℕ} (v : Drains e a m first places users n s₀ s words changed c) (small : c < 512) where
   pub drains-real : c < conditionsOf a
   drains-real = v .draining .waiting .set .inside c small (v .any .found small)
 
@@ -252,29 +253,29 @@ module _ {e : End} {a first places users : List ℕ} {n : ℕ} {s₀ s words : L
 
   module _ (words₁ : List ℕ) (x : Removed c words words₁) where
     pub drains-set : WaitSet (conditionsOf a) words₁
-    drains-set = set₁ e a first places s₀ (v .draining) c small (v .any .found small) words₁ x
+    drains-set = set₁ e a m first places s₀ (v .draining) c small (v .any .found small) words₁ x
 
-    module _ {s′ : List ℕ} {t : Bool} (r : Looked e a (λ i. getD places i 0) (getD first c 0) (getD first (c + 1) 0) s s′ t) {words′ : List ℕ} {changed′ : Bool} where
+    module _ {s′ : List ℕ} {t : Bool} (r : Looked e a m (λ i. getD places i 0) (getD first c 0) (getD first (c + 1) 0) s s′ t) {words′ : List ℕ} {changed′ : Bool} where
       module _ (z : t ≡ true) {words₂ : List ℕ} (w : Woken a (2 * c) words₁ words₂) (q : words′ ≡ words₂) (k : changed′ ≡ true) where
-        rose : Draining e a first places s₀ s′ words₂ true × (left e a s′ words₂ < left e a s words)
-        rose = draining-rose e a first places s₀ (v .draining) c small (v .any .found small) words₁ x r w z
+        rose : Draining e a m first places s₀ s′ words₂ true × (left e a s′ words₂ < left e a s words)
+        rose = draining-rose e a m first places s₀ (v .draining) c small (v .any .found small) words₁ x r w z
 
-        pub drains-rose : {c′ : ℕ} → AnyIn words′ c′ → Drains e a first places users n s₀ s′ words′ changed′ c′
+        pub drains-rose : {c′ : ℕ} → AnyIn words′ c′ → Drains e a m first places users n s₀ s′ words′ changed′ c′
         drains-rose y = record { users-in = v .users-in; size = v .size; draining = rw (q, k) (rose .0); any = y }
 
         pub rose-less : left e a s′ words′ < left e a s words
         rose-less = rw q (rose .1)
 
       module _ (z : t ≡ false) (q : words′ ≡ words₁) (k : changed′ ≡ changed) where
-        still : (s′ ≡ s) × Draining e a first places s₀ s words₁ changed × (left e a s words₁ < left e a s words)
-        still = draining-still e a first places s₀ (v .draining) c small (v .any .found small) words₁ x r z
+        still : (s′ ≡ s) × Draining e a m first places s₀ s words₁ changed × (left e a s words₁ < left e a s words)
+        still = draining-still e a m first places s₀ (v .draining) c small (v .any .found small) words₁ x r z
 
-        pub drains-still : {c′ : ℕ} → AnyIn words′ c′ → Drains e a first places users n s₀ s′ words′ changed′ c′
+        pub drains-still : {c′ : ℕ} → AnyIn words′ c′ → Drains e a m first places users n s₀ s′ words′ changed′ c′
         drains-still y = record { users-in = v .users-in; size = v .size; draining = rw (q, k, still .0) (still .1); any = y }
 
         pub still-less : left e a s′ words′ < left e a s words
         still-less = rw (q, still .0) (still .2)
 
-pub drains-last : {e : End} {a first places users : List ℕ} {n : ℕ} {s₀ s words : List ℕ} {changed : Bool} {c : ℕ} → Drains e a first places users n s₀ s words changed c → 512 ≤ c
-    → Settled e a s₀ s changed × WaitSet (conditionsOf a) words
-drains-last {e} {a} {first} {places} {s₀ = s₀} v l = (draining-last e a first places s₀ (v .draining) (v .any .none (omega (arith, v .any .within))), v .draining .waiting .set)
+pub drains-last : {e : End} {a : List ℕ} {m : List Bool} {first places users : List ℕ} {n : ℕ} {s₀ s words : List ℕ} {changed : Bool} {c : ℕ} → Drains e a m first places users n s₀ s words changed c → 512 ≤ c
+    → Settled e a m s₀ s changed × WaitSet (conditionsOf a) words
+drains-last {e} {a} {m} {first} {places} {s₀ = s₀} v l = (draining-last e a m first places s₀ (v .draining) (v .any .none (omega (arith, v .any .within))), v .draining .waiting .set)

@@ -19,17 +19,17 @@ use Rattle.page.specs.Places.{placeOf, LineIn}
 use Rattle.page.proofs.Scan.{span-four}
 use Rattle.page.proofs.Scanning.{Scanning, scanning-next}
 use Rattle.page.proofs.LineNumbers.{scanning-at}
-use Rattle.value.specs.Table.{endOf, other}
+use Rattle.value.specs.Table.{endOf}
 use Rattle.settle.specs.Scratch.{held, Half, Covered, Raised, Lookable, Looked}
 use Rattle.settle.proofs.EndReads.{line-level}
 use Rattle.settle.proofs.Raising.{line-ranged, room-less, steady-same, steady-on}
 
-module _ (e : End) (a : List ℕ) (place : ℕ → ℕ) (from : ℕ) where
-  pub looked-first : {s : List ℕ} → Half e a s → Looked e a place from from s s false
+module _ (e : End) (a : List ℕ) (m : List Bool) (place : ℕ → ℕ) (from : ℕ) where
+  pub looked-first : {s : List ℕ} → Half e a m s → Looked e a m place from from s s false
   looked-first h =
       record {
         half = h;
-        steady = steady-same e _ _;
+        steady = steady-same e _ m _;
         still = λ z. refl;
         moves = λ z. absurd (false≢true z);
         covered = λ i l u. absurd (omega arith);
@@ -37,25 +37,25 @@ module _ (e : End) (a : List ℕ) (place : ℕ → ℕ) (from : ℕ) where
       }
 
   module _ {i : ℕ} (lines : (j : ℕ) → from ≤ j → j < i → LineIn a (place j)) (begun : from ≤ i) {s₀ s s′ : List ℕ} {rose t : Bool}
-      (v : Looked e a place from i s₀ s rose) (r : Raised e a (place i) s s′ t) where
+      (v : Looked e a m place from i s₀ s rose) (r : Raised e a m (place i) s s′ t) where
     abbrev n : ℕ
     n = conditionsOf a
 
     -- what is held in s′ as in s₀ was held so in between
     between : (b : ℕ) → b < n → endOf e (held n s′ b) ≡ endOf e (held n s₀ b) → endOf e (held n s′ b) ≡ endOf e (held n s b)
-    between b m z = omega (arith, v .steady .rises b m, r .steady .rises b m)
+    between b l z = omega (arith, v .steady .rises b l, r .steady .rises b l)
 
     before : (b : ℕ) → b < n → endOf e (held n s′ b) ≡ endOf e (held n s₀ b) → endOf e (held n s b) ≡ endOf e (held n s₀ b)
-    before b m z = omega (arith, v .steady .rises b m, r .steady .rises b m)
+    before b l z = omega (arith, v .steady .rises b l, r .steady .rises b l)
 
     -- a line looked at before
-    earlier : (j : ℕ) → from ≤ j → j < i → Covered e a s₀ s′ (place j)
-    earlier j l u c m q g p d =
+    earlier : (j : ℕ) → from ≤ j → j < i → Covered e a m s₀ s′ (place j)
+    earlier j l u c o q g p d =
         let y = line-level n (topOf a) e (held n s′) (held n s) (lineAt (drop (place j) a)) (line-ranged a (v .half .page-sound) (lines j l u)) c
         (λ b k f. between b k (g b k f)) (r .steady .others) d in
-        omega (arith, y .2, v .covered j l u c m (sym (r .steady .marks c m) ∙ q) (λ b k f. before b k (g b k f)) (y .0) (y .1), r .steady .rises c m)
+        omega (arith, y .2, v .covered j l u c o q (λ b k f. before b k (g b k f)) (y .0) (y .1), r .steady .rises c o)
 
-    pub looked-next : Looked e a place from (i + 1) s₀ s′ (t || rose)
+    pub looked-next : Looked e a m place from (i + 1) s₀ s′ (t || rose)
     looked-next =
         record {
           half = r .half;
@@ -64,55 +64,55 @@ module _ (e : End) (a : List ℕ) (place : ℕ → ℕ) (from : ℕ) where
           moves = λ z. by-bool t (λ y. omega (arith, r .moves y, room-less e a s₀ s (v .steady .rises)))
               (λ y. omega (arith, v .moves (sym (ap (λ (b : Bool). b || rose) y) ∙ z), room-less e a s s′ (r .steady .rises)));
           covered = λ j l u. elim (ℕ-discrete j i) [
-            | yes z ↦ subst (λ (k : ℕ). Covered e a s₀ s′ (place k)) (sym z) (λ c m q g p d. r .covered c m q (λ b k f. between b k (g b k f)) p d)
+            | yes z ↦ subst (λ (k : ℕ). Covered e a m s₀ s′ (place k)) (sym z) (λ c o q g p d. r .covered c o q (λ b k f. between b k (g b k f)) p d)
             | no z ↦ earlier j l (omega arith)
           ];
           only = λ c l g. r .only c l (g i begun (omega arith)) ∙ v .only c l (λ j k u. g j k (omega arith));
         }
 
 -- the loop over a group: the lines from `from` up to i were looked at
-pub record Looking (e : End) (a places : List ℕ) (from to n : ℕ) (s₀ s : List ℕ) (rose : Bool) (i : ℕ) : Type 0 where
+pub record Looking (e : End) (a : List ℕ) (m : List Bool) (places : List ℕ) (from to n : ℕ) (s₀ s : List ℕ) (rose : Bool) (i : ℕ) : Type 0 where
   pub lookable : Lookable a places from to
   pub size : n ≡ conditionsOf a
   pub begun : from ≤ i
   pub within : i ≤ to
-  pub looked : Looked e a (λ j. getD places j 0) from i s₀ s rose
+  pub looked : Looked e a m (λ j. getD places j 0) from i s₀ s rose
 
-pub looking-first : {e : End} {a places : List ℕ} {from to n : ℕ} {s : List ℕ} → Half e a s → n ≡ conditionsOf a → Lookable a places from to
-    → Looking e a places from to n s s false from
-looking-first {e} {a} {places} h q L =
-    record { lookable = L; size = q; begun = omega arith; within = L .ordered; looked = looked-first e a (λ j. getD places j 0) _ h }
+pub looking-first : {e : End} {a : List ℕ} {m : List Bool} {places : List ℕ} {from to n : ℕ} {s : List ℕ} → Half e a m s → n ≡ conditionsOf a → Lookable a places from to
+    → Looking e a m places from to n s s false from
+looking-first {e} {a} {m} {places} h q L =
+    record { lookable = L; size = q; begun = omega arith; within = L .ordered; looked = looked-first e a m (λ j. getD places j 0) _ h }
 
-module _ {e : End} {a places : List ℕ} {from to n : ℕ} {s₀ s : List ℕ} {rose : Bool} {i : ℕ} (v : Looking e a places from to n s₀ s rose i) where
+module _ {e : End} {a : List ℕ} {m : List Bool} {places : List ℕ} {from to n : ℕ} {s₀ s : List ℕ} {rose : Bool} {i : ℕ} (v : Looking e a m places from to n s₀ s rose i) where
   pub line-here : i < to → LineIn a (getD places i 0)
   line-here l = v .lookable .lines i (v .begun) l
 
-  pub looking-next : i < to → {s′ : List ℕ} {t rose′ : Bool} → Raised e a (getD places i 0) s s′ t → rose′ ≡ (t || rose) → Looking e a places from to n s₀ s′ rose′ (i + 1)
+  pub looking-next : i < to → {s′ : List ℕ} {t rose′ : Bool} → Raised e a m (getD places i 0) s s′ t → rose′ ≡ (t || rose) → Looking e a m places from to n s₀ s′ rose′ (i + 1)
   looking-next l r h =
       record {
         lookable = v .lookable;
         size = v .size;
         begun = omega (arith, v .begun);
         within = omega arith;
-        looked = rw h (looked-next e a (λ j. getD places j 0) from (λ j k u. v .lookable .lines j k (omega arith)) (v .begun) (v .looked) r);
+        looked = rw h (looked-next e a m (λ j. getD places j 0) from (λ j k u. v .lookable .lines j k (omega arith)) (v .begun) (v .looked) r);
       }
 
-  pub looking-last : to ≤ i → Looked e a (λ j. getD places j 0) from to s₀ s rose
-  looking-last l = let q : i ≡ to = omega (arith, v .within) in subst (λ (x : ℕ). Looked e a (λ j. getD places j 0) from x s₀ s rose) q (v .looked)
+  pub looking-last : to ≤ i → Looked e a m (λ j. getD places j 0) from to s₀ s rose
+  looking-last l = let q : i ≡ to = omega (arith, v .within) in subst (λ (x : ℕ). Looked e a m (λ j. getD places j 0) from x s₀ s rose) q (v .looked)
 
 -- the loop over the page: `passed` lines were looked at, and the next stands at `at`
-pub record Sweeping (e : End) (a : List ℕ) (n : ℕ) (s₀ s : List ℕ) (at : ℕ) (rose : Bool) : Type 0 where
+pub record Sweeping (e : End) (a : List ℕ) (m : List Bool) (n : ℕ) (s₀ s : List ℕ) (at : ℕ) (rose : Bool) : Type 0 where
   pub size : n ≡ conditionsOf a
   pub passed : ℕ
   pub in-count : passed ≤ countOf a
   pub place : at ≡ placeOf a passed
-  pub looked : Looked e a (placeOf a) 0 passed s₀ s rose
+  pub looked : Looked e a m (placeOf a) 0 passed s₀ s rose
 
-pub sweeping-first : {e : End} {a : List ℕ} {n at k : ℕ} {s : List ℕ} → Half e a s → n ≡ conditionsOf a → (at ≡ firstLine a) × (k ≡ 0) → Sweeping e a n s s at false
+pub sweeping-first : {e : End} {a : List ℕ} {m : List Bool} {n at k : ℕ} {s : List ℕ} → Half e a m s → n ≡ conditionsOf a → (at ≡ firstLine a) × (k ≡ 0) → Sweeping e a m n s s at false
 unfolding placeOf
-sweeping-first {e} {a} h q f = record { size = q; passed = 0; in-count = omega arith; place = f .0; looked = looked-first e a (placeOf a) 0 h }
+sweeping-first {e} {a} {m} h q f = record { size = q; passed = 0; in-count = omega arith; place = f .0; looked = looked-first e a m (placeOf a) 0 h }
 
-module _ {e : End} {a : List ℕ} {n : ℕ} {s₀ s : List ℕ} {at : ℕ} {rose : Bool} (v : Sweeping e a n s₀ s at rose) where
+module _ {e : End} {a : List ℕ} {m : List Bool} {n : ℕ} {s₀ s : List ℕ} {at : ℕ} {rose : Bool} (v : Sweeping e a m n s₀ s at rose) where
   here : Scanning a at (v .passed)
   here = rw (v .place) (scanning-at a (v .looked .half .page-sound) (v .passed) (v .in-count))
 
@@ -138,7 +138,7 @@ module _ {e : End} {a : List ℕ} {n : ℕ} {s₀ s : List ℕ} {at : ℕ} {rose
     pub sweep-less : (k : ℕ) → k ≡ stepAt a at → (at < at + k) × (at + k ≤ usedOf a) × (usedOf a ≤ length a)
     sweep-less k h = (omega (arith, span-four (kind (getD a (at + 1) 0)) (getD a (at + 3) 0)), rw h (scanning-next a here more .in-used), here .in-area)
 
-    pub sweeping-next : {s′ : List ℕ} {t rose′ : Bool} {k : ℕ} → Raised e a at s s′ t → rose′ ≡ (t || rose) → k ≡ stepAt a at → Sweeping e a n s₀ s′ (at + k) rose′
+    pub sweeping-next : {s′ : List ℕ} {t rose′ : Bool} {k : ℕ} → Raised e a m at s s′ t → rose′ ≡ (t || rose) → k ≡ stepAt a at → Sweeping e a m n s₀ s′ (at + k) rose′
     unfolding placeOf
     sweeping-next {s′} {t} r h g =
         record {
@@ -147,13 +147,13 @@ module _ {e : End} {a : List ℕ} {n : ℕ} {s₀ s : List ℕ} {at : ℕ} {rose
           in-count = omega (arith, more);
           place = rw (g, v .place);
           looked = rw (h, ← add-one (v .passed))
-              (looked-next e a (placeOf a) 0 (λ j k u. record { number = j; in-count = omega (arith, v .in-count); place = refl }) (omega arith) (v .looked)
-              (subst (λ (x : ℕ). Raised e a x s s′ t) (v .place) r));
+              (looked-next e a m (placeOf a) 0 (λ j k u. record { number = j; in-count = omega (arith, v .in-count); place = refl }) (omega arith) (v .looked)
+              (subst (λ (x : ℕ). Raised e a m x s s′ t) (v .place) r));
         }
 
-  pub sweeping-last : usedOf a ≤ at → Looked e a (placeOf a) 0 (countOf a) s₀ s rose
+  pub sweeping-last : usedOf a ≤ at → Looked e a m (placeOf a) 0 (countOf a) s₀ s rose
   sweeping-last l =
       elim (decLe (countOf a) (v .passed)) [
-        | yes z ↦ let q : v .passed ≡ countOf a = omega (arith, v .in-count) in subst (λ (x : ℕ). Looked e a (placeOf a) 0 x s₀ s rose) q (v .looked)
+        | yes z ↦ let q : v .passed ≡ countOf a = omega (arith, v .in-count) in subst (λ (x : ℕ). Looked e a m (placeOf a) 0 x s₀ s rose) q (v .looked)
         | no z ↦ absurd (omega (arith, scanning-next a here (omega arith) .in-used, span-four (kind (getD a (at + 1) 0)) (getD a (at + 3) 0)))
       ]

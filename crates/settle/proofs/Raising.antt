@@ -1,14 +1,12 @@
 -- One line: what raising the end of its head leaves. Assumes nothing.
 use mathlib.Core.Path.{_≡_, refl, sym, _∙_, ap, subst}
 use mathlib.Core.Logic.{_≢_}
-use mathlib.Core.Bool.{true, false, true≢false, false≢true}
+use mathlib.Core.Bool.{Bool, true, false, true≢false, false≢true}
 use mathlib.Core.List.{List, [], _∷_}
 use Prim.Native.Nat.{ℕ, zero, suc, _+_, _*_, _-_, _≤_, _<_}
 use native.Mathlib.Decide.{ℕ-discrete}
 use native.Mathlib.Omega.{arith}
-use lib.Dec.{leb}
 use lib.ListN.{length, getD, set, take, drop, length-set}
-use borrow.Author.Tests.{le-leb}
 use Rattle.fixpoint.specs.Interval.{Interval, Assign}
 use Rattle.fixpoint.specs.System.{System}
 use Rattle.fixpoint.proofs.Sum.{sum-le, sum-drop}
@@ -16,6 +14,7 @@ use Rattle.semantics.specs.Area.{sound, lineAt, pageOf, topOf, conditionsOf, co
 use Rattle.semantics.specs.Body.{lineBody, T, unknownByDefault}
 use Rattle.semantics.specs.Grade.{End}
 use Rattle.semantics.specs.Page.{names}
+use Rattle.semantics.specs.Table.{member}
 use Rattle.semantics.proofs.Proper.{InRange, AllInRange}
 use Rattle.semantics.proofs.Readings.{page-system}
 use Rattle.semantics.proofs.Soundness.{sound-proper}
@@ -29,10 +28,10 @@ use Rattle.value.specs.Table.{endOf, other, Grades}
 use Rattle.value.specs.LineEnds.{LineEnd}
 use Rattle.value.proofs.BodyEnds.{body-has}
 use Rattle.settle.specs.Ends.{reads, EndLocal, room}
-use Rattle.settle.specs.Scratch.{baseOf, tableOf, held, reachedAt, settledAt, roomAt, Half, Steady, Covered, Raised}
+use Rattle.settle.specs.Scratch.{baseOf, tableOf, held, settledAt, roomAt, Half, Steady, Covered, Raised}
 use Rattle.settle.proofs.EndReads.{line-level, page-ends}
 use Rattle.settle.proofs.Halves.{ends-in, end-in, below-T, settled-others}
-use Rattle.settle.proofs.Scratch.{end-at, base-in, part-is, shut-over, half-table, half-grades, put-here, put-else, put-other, put-negated, put-rest, put-mark, put-beyond}
+use Rattle.settle.proofs.Scratch.{end-at, base-in, part-is, half-table, half-grades, put-here, put-else, put-other, put-negated, put-rest, put-beyond}
 
 module _ (a : List ℕ) (ok : sound a ≡ true) where
   pub S : System (conditionsOf a) (topOf a) (T (pageOf a)) (names (pageOf a))
@@ -66,23 +65,22 @@ pub room-less : (e : End) (a s s′ : List ℕ) → ((c : ℕ) → c < condition
 unfolding room
 room-less e a s s′ h = sum-le (conditionsOf a) _ _ (λ c l. omega (arith, h c l))
 
-pub steady-same : (e : End) (n : ℕ) (s : List ℕ) → Steady e n s s
-steady-same e n s = record { same-length = refl; others = λ c l. refl; marks = λ c l. refl; apart = λ c l r. refl; rises = λ c l. omega arith; negations = λ c l. refl; beyond = refl }
+pub steady-same : (e : End) (n : ℕ) (m : List Bool) (s : List ℕ) → Steady e n m s s
+steady-same e n m s = record { same-length = refl; others = λ c l. refl; apart = λ c l r. refl; rises = λ c l. omega arith; negations = λ c l. refl; beyond = refl }
 
-pub steady-on : {e : End} {n : ℕ} {s s′ s″ : List ℕ} → Steady e n s s′ → Steady e n s′ s″ → Steady e n s s″
+pub steady-on : {e : End} {n : ℕ} {m : List Bool} {s s′ s″ : List ℕ} → Steady e n m s s′ → Steady e n m s′ s″ → Steady e n m s s″
 steady-on u v =
     record {
       same-length = v .same-length ∙ u .same-length;
       others = λ c l. v .others c l ∙ u .others c l;
-      marks = λ c l. v .marks c l ∙ u .marks c l;
-      apart = λ c l r. v .apart c l (u .marks c l ∙ r) ∙ u .apart c l r;
+      apart = λ c l r. v .apart c l r ∙ u .apart c l r;
       rises = λ c l. omega (arith, u .rises c l, v .rises c l);
       negations = λ c l. v .negations c l ∙ u .negations c l;
       beyond = v .beyond ∙ u .beyond;
     }
 
 -- the line at a place, whose head is h
-module _ (e : End) (a s : List ℕ) (at : ℕ) (H : Half e a s) (x : LineIn a at) where
+module _ (e : End) (a : List ℕ) (m : List Bool) (s : List ℕ) (at : ℕ) (H : Half e a m s) (x : LineIn a at) where
   abbrev h : ℕ
   h = getD a at 0
 
@@ -98,22 +96,22 @@ module _ (e : End) (a s : List ℕ) (at : ℕ) (H : Half e a s) (x : LineIn a at
   added-to I c p d = subst (LineOf a c) (sym (x .place)) (line-of (topOf a) I c a (x .number) (x .in-count) (moved-to I c p d))
 
   -- nothing is done: it is no F or R line, its head is not reached, or it adds no more than its head holds
-  nothing-done : Covered e a s s at → Raised e a at s s false
+  nothing-done : Covered e a m s s at → Raised e a m at s s false
   nothing-done v =
       record {
         half = H;
-        steady = steady-same e n s;
+        steady = steady-same e n m s;
         still = λ z. refl;
         moves = λ z. absurd (false≢true z);
         covered = v;
         only = λ c l d. refl;
       }
 
-  pub raised-query : 5 < getD a (at + 1) 0 → Raised e a at s s false
+  pub raised-query : 5 < getD a (at + 1) 0 → Raised e a m at s s false
   raised-query q = nothing-done (λ c l r g p d. absurd (omega (arith, added-to (held n s) c p d .body)))
 
-  pub raised-apart : getD s (4 * n + h) 0 ≡ 0 → Raised e a at s s false
-  raised-apart q = nothing-done (λ c l r g p d. absurd (true≢false (sym r ∙ ap (λ (k : ℕ). leb 1 (getD s (4 * n + k) 0)) (sym (added-to (held n s) c p d .head)) ∙ ap (leb 1) q)))
+  pub raised-apart : member m h ≡ false → Raised e a m at s s false
+  raised-apart q = nothing-done (λ c l r g p d. absurd (true≢false (sym r ∙ ap (member m) (sym (added-to (held n s) c p d .head)) ∙ q)))
 
   module _ {v : ℕ} (w : LineEnd e a (tableOf n e s) at v) where
     -- the value of the line at s
@@ -128,11 +126,11 @@ module _ (e : End) (a s : List ℕ) (at : ℕ) (H : Half e a s) (x : LineIn a at
         let o : q .0 ≡ p = cc in
         (sym z, ap (endOf e) (sym o) ∙ sym (q .2))
 
-    pub raised-not : v ≤ endOf e (held n s h) → Raised e a at s s false
+    pub raised-not : v ≤ endOf e (held n s h) → Raised e a m at s s false
     raised-not m = nothing-done (λ c l r g p d. let y = adds-v c p d in rw (y .0) (omega (arith, y .1)))
 
     -- the end of the head becomes v
-    module _ (real : h < n) (reached : reachedAt n s h ≡ true) (over : endOf e (held n s h) < v) where
+    module _ (real : h < n) (reached : member m h ≡ true) (over : endOf e (held n s h) < v) where
       abbrev s′ : List ℕ
       s′ = set s (baseOf n e + 2 * h) v
 
@@ -170,12 +168,13 @@ module _ (e : End) (a s : List ℕ) (at : ℕ) (H : Half e a s) (x : LineIn a at
       rises′ : (c : ℕ) → c < n → endOf e (held n s c) ≤ endOf e (held n s′ c)
       rises′ = by-head (λ c. endOf e (held n s c) ≤ endOf e (held n s′ c)) (omega (arith, here)) (λ c l z. omega (arith, else′ c z))
 
-      half′ : Half e a s′
+      half′ : Half e a m s′
       half′ =
           record {
             page-sound = H .page-sound;
             long = rw length-set (H .long);
-            shut = shut-over (λ c l. put-mark n s h v (H .long) real e c) (H .shut);
+            marked = H .marked;
+            shut = H .shut;
             within = λ c l. ends-in e (held n s′ c)
                 (by-head (λ c. endOf e (held n s′ c) ≤ topOf a) (omega (arith, here, w .grade)) (λ c l z. omega (arith, else′ c z, end-in e (held n s c) (H .within c l))) c l)
                 (subst (λ (k : ℕ). k ≤ topOf a) (sym (to-others c l)) (end-in (other e) (held n s c) (H .within c l)));
@@ -183,13 +182,12 @@ module _ (e : End) (a s : List ℕ) (at : ℕ) (H : Half e a s) (x : LineIn a at
             below = λ c l. by-head (λ c. endOf e (held n s′ c) ≤ settledAt e a s′ c) (omega (arith, here, v-below, settled-same h real)) (λ c l z. omega (arith, else′ c z, settled-same c l, H .below c l)) c l;
           }
 
-      steady′ : Steady e n s s′
+      steady′ : Steady e n m s s′
       steady′ =
           record {
             same-length = length-set s (baseOf n e + 2 * h) v;
             others = to-others;
-            marks = λ c l. put-mark n s h v (H .long) real e c;
-            apart = λ c l r. else′ c (λ z. true≢false (sym reached ∙ sym (ap (reachedAt n s) z) ∙ r));
+            apart = λ c l r. else′ c (λ z. true≢false (sym reached ∙ sym (ap (member m) z) ∙ r));
             rises = rises′;
             negations = put-rest n s h v (H .long) real e;
             beyond = put-beyond n s h v (H .long) real e;
@@ -203,13 +201,13 @@ module _ (e : End) (a s : List ℕ) (at : ℕ) (H : Half e a s) (x : LineIn a at
             sum-drop n (λ c. topOf a - endOf e (held n s′ c)) (λ c. topOf a - endOf e (held n s c)) 1 h real (λ c l z. omega (arith, rises′ c l)) (omega (arith, here, over, w .grade)),
           )
 
-      covered′ : Covered e a s s′ at
+      covered′ : Covered e a m s s′ at
       covered′ c l r g p d =
           let q = line-level n (topOf a) e (held n s′) (held n s) (lineAt (drop at a)) (line-ranged a (H .page-sound) x) c g to-others d in
           let y = adds-v c (q .0) (q .1) in
           rw (y .0) (omega (arith, q .2, y .1, here))
 
-      pub raised-up : Raised e a at s s′ true
+      pub raised-up : Raised e a m at s s′ true
       raised-up =
           record {
             half = half′;
@@ -226,37 +224,32 @@ module _ (e : End) (a s : List ℕ) (at : ℕ) (H : Half e a s) (x : LineIn a at
     pub head : 4 ≤ length a
     pub real : getD a at 0 < conditionsOf a
     pub few : conditionsOf a ≤ 512
-    pub long : 6 * conditionsOf a ≤ length s
+    pub long : 4 * conditionsOf a ≤ length s
+    pub marked : conditionsOf a ≤ length m
 
   pub facts : Facts
   facts =
       let k = head-of a (H .page-sound) in
-      record { four = line-entry a (H .page-sound) x .four; head = k .four; real = line-head a (H .page-sound) x; few = k .few; long = H .long }
+      record { four = line-entry a (H .page-sound) x .four; head = k .four; real = line-head a (H .page-sound) x; few = k .few; long = H .long; marked = H .marked }
 
   pub line-here : getD a (at + 1) 0 ≤ 5 → LineOf a h at
   line-here l = record { number = x .number; in-count = x .in-count; place = x .place; head = refl; body = l }
 
-  some : {y : ℕ} → y ≢ 0 → 1 ≤ y
-  some l = omega arith
-
-  -- m is the number of conditions
-  module _ (m : ℕ) (z : m ≡ n) where
-    pub apart-here : getD s (4 * m + h) 0 ≡ 0 → Raised e a at s s false
-    apart-here q = raised-apart (sym (ap (λ (k : ℕ). getD s (4 * k + h) 0) z) ∙ q)
-
+  -- k is the number of conditions
+  module _ (k : ℕ) (z : k ≡ n) where
     -- and the table of the end begins at base
-    module _ (base : ℕ) (g : base ≡ baseOf m e) where
+    module _ (base : ℕ) (g : base ≡ baseOf k e) where
       q : base ≡ baseOf n e
-      q = g ∙ ap (λ (k : ℕ). baseOf k e) z
+      q = g ∙ ap (λ (i : ℕ). baseOf i e) z
 
       pub base-small : base ≤ 2 * n
       base-small = omega (arith, q, base-in n e)
 
       abbrev part : List ℕ
-      part = take (base + 2 * m - base) (drop base s)
+      part = take (base + 2 * k - base) (drop base s)
 
       part-table : part ≡ tableOf n e s
-      part-table = ap (λ (k : ℕ). take (base + 2 * k - base) (drop base s)) z ∙ part-is n s e base q
+      part-table = ap (λ (i : ℕ). take (base + 2 * i - base) (drop base s)) z ∙ part-is n s e base q
 
       pub part-grades : Grades (topOf a) n part
       part-grades = rw part-table (half-grades H)
@@ -265,10 +258,10 @@ module _ (e : End) (a s : List ℕ) (at : ℕ) (H : Half e a s) (x : LineIn a at
         on-table : LineEnd e a (tableOf n e s) at v
         on-table = rw part-table at w
 
-        pub kept-here : v ≤ getD s (base + 2 * h) 0 → Raised e a at s s false
+        pub kept-here : v ≤ getD s (base + 2 * h) 0 → Raised e a m at s s false
         kept-here l = raised-not on-table (rw (end-at n s e h, ← q) l)
 
-        pub raised-here : getD s (4 * m + h) 0 ≢ 0 → getD s (base + 2 * h) 0 < v → Raised e a at s (set s (base + 2 * h) v) true
+        pub raised-here : member m h ≡ true → getD s (base + 2 * h) 0 < v → Raised e a m at s (set s (base + 2 * h) v) true
         raised-here r l =
-            subst (λ (b : ℕ). Raised e a at s (set s (b + 2 * h) v) true) (sym q)
-            (raised-up on-table (line-head a (H .page-sound) x) (le-leb 1 (getD s (4 * n + h) 0) (some (λ y. r (ap (λ (k : ℕ). getD s (4 * k + h) 0) z ∙ y)))) (rw (end-at n s e h, ← q) l))
+            subst (λ (b : ℕ). Raised e a m at s (set s (b + 2 * h) v) true) (sym q)
+            (raised-up on-table (line-head a (H .page-sound) x) r (rw (end-at n s e h, ← q) l))

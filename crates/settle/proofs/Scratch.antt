@@ -5,15 +5,13 @@ use mathlib.Core.Bool.{Bool}
 use mathlib.Core.List.{List}
 use Prim.Native.Nat.{ℕ, _+_, _*_, _-_, _≤_, _<_}
 use native.Mathlib.Omega.{arith}
-use lib.Dec.{leb}
 use lib.ListN.{length, getD, set, take, drop, length-take, length-drop}
 use lib.Seq.{getD-set-same, getD-set-other, drop-set-lt, getD-take, getD-drop}
-use Rattle.fixpoint.specs.ChaoticIteration.{DependencyClosed}
 use Rattle.semantics.specs.Area.{topOf, conditionsOf}
 use Rattle.semantics.specs.Grade.{End, lower, upper}
 use Rattle.value.specs.Table.{endOf, other, Grades, EndTable}
 use Rattle.value.proofs.Tables.{table-of, grades-of}
-use Rattle.settle.specs.Scratch.{baseOf, tableOf, held, reachedAt, Half}
+use Rattle.settle.specs.Scratch.{baseOf, tableOf, held, Half}
 use Rattle.settle.proofs.Halves.{end-in}
 
 -- where an end stands
@@ -24,10 +22,6 @@ end-at n s upper c = refl
 pub base-in : (n : ℕ) (e : End) → baseOf n e ≤ 2 * n
 base-in n lower = omega arith
 base-in n upper = omega arith
-
--- the same conditions are reached
-pub shut-over : {n : ℕ} {names : ℕ → ℕ → Bool} {r s : ℕ → Bool} → ((c : ℕ) → c < n → s c ≡ r c) → DependencyClosed n names r → DependencyClosed n names s
-shut-over e h a b l m q f = e b m ∙ h a b l m (sym (e a l) ∙ q) f
 
 module _ (n : ℕ) (s : List ℕ) (e : End) where
   table-get : (i : ℕ) → i < 2 * n → getD (tableOf n e s) i 0 ≡ getD s (baseOf n e + i) 0
@@ -40,7 +34,7 @@ module _ (n : ℕ) (s : List ℕ) (e : End) where
   pub part-is : (base : ℕ) → base ≡ baseOf n e → take (base + 2 * n - base) (drop base s) ≡ tableOf n e s
   part-is base h = let q : base + 2 * n - base ≡ 2 * n = omega arith in rw (q, h)
 
-module _ {e : End} {a s : List ℕ} (h : Half e a s) where
+module _ {e : End} {a : List ℕ} {m : List Bool} {s : List ℕ} (h : Half e a m s) where
   pub half-table : EndTable e (topOf a) (conditionsOf a) (held (conditionsOf a) s) (tableOf (conditionsOf a) e s)
   half-table =
       table-of e (topOf a) (conditionsOf a) (held (conditionsOf a) s) (tableOf (conditionsOf a) e s)
@@ -55,7 +49,7 @@ module _ {e : End} {a s : List ℕ} (h : Half e a s) where
       (λ c l. end-in e (held (conditionsOf a) s c) (h .within c l)) half-table
 
 -- the end e of h becomes v
-module _ (n : ℕ) (s : List ℕ) (h v : ℕ) (long : 6 * n ≤ length s) (real : h < n) where
+module _ (n : ℕ) (s : List ℕ) (h v : ℕ) (long : 4 * n ≤ length s) (real : h < n) where
   pub put-here : (e : End) → endOf e (held n (set s (baseOf n e + 2 * h) v) h) ≡ v
   put-here e = end-at n (set s (baseOf n e + 2 * h) v) e h ∙ getD-set-same s (baseOf n e + 2 * h) v 0 (omega (arith, base-in n e))
 
@@ -75,8 +69,5 @@ module _ (n : ℕ) (s : List ℕ) (h v : ℕ) (long : 6 * n ≤ length s) (real 
   put-rest lower c l = getD-set-other s (0 + 2 * h) (2 * n + (2 * c + 1)) v 0 (λ q. omega arith)
   put-rest upper c l = getD-set-other s (2 * n + 2 * h) (0 + (2 * c + 1)) v 0 (λ q. omega arith)
 
-  pub put-mark : (e : End) (c : ℕ) → reachedAt n (set s (baseOf n e + 2 * h) v) c ≡ reachedAt n s c
-  put-mark e c = ap (leb 1) (getD-set-other s (baseOf n e + 2 * h) (4 * n + c) v 0 (λ q. omega (arith, base-in n e)))
-
-  pub put-beyond : (e : End) → drop (6 * n) (set s (baseOf n e + 2 * h) v) ≡ drop (6 * n) s
-  put-beyond e = drop-set-lt (6 * n) s (baseOf n e + 2 * h) v (omega (arith, base-in n e))
+  pub put-beyond : (e : End) → drop (4 * n) (set s (baseOf n e + 2 * h) v) ≡ drop (4 * n) s
+  put-beyond e = drop-set-lt (4 * n) s (baseOf n e + 2 * h) v (omega (arith, base-in n e))

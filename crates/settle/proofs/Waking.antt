@@ -1,7 +1,7 @@
 -- The set of those that wait: heads that join it, and the groups of an index. Assumes nothing.
 use mathlib.Core.Path.{_≡_, refl, sym, _∙_, ap, subst}
 use mathlib.Core.Logic.{_⊎_, inl, inr, ⊎-elim}
-use mathlib.Core.Bool.{true, false, or-true, true≢false}
+use mathlib.Core.Bool.{Bool, true, false, or-true, true≢false}
 use mathlib.Core.List.{List, [], _∷_}
 use Prim.Native.Nat.{ℕ, zero, suc, _+_, _*_, _-_, _/_, _≤_, _<_}
 use native.Mathlib.Decide.{ℕ-discrete}
@@ -110,7 +110,7 @@ module _ (a : List ℕ) (ok : sound a ≡ true) where
     line-groups = has-lines a lines (inr v) (λ z. omega (arith, v .long)) .1
 
 -- an index that is there
-pub indexed : {e : End} {a lines users s words : List ℕ} → MaybeIndexed e a lines users s words → (length users ≡ 0 → ⊥) → Indexed e a lines users s words
+pub indexed : {e : End} {a : List ℕ} {m : List Bool} {lines users s words : List ℕ} → MaybeIndexed e a m lines users s words → (length users ≡ 0 → ⊥) → Indexed e a m lines users s words
 indexed (inl z) h = absurd (h z)
 indexed (inr i) h = i
 

@@ -23,12 +23,12 @@ fn base_of(n: usize, end: End) -> usize
 }
 
 // If the head of the F or R line at `at` is reached, its end becomes the line's where the line's is higher; whether it rose.
-fn raise_head(a: &[u16], at: usize, scratch: &mut [u16], n: usize, end: End) -> bool
-    requires { ⌜ Half (side end) (now a) (now scratch) × (n ≡ conditionsOf (now a)) × LineIn (now a) at × (getD (now a) (at + 1) 0 ≤ 5) ⌝ }
-    ensures { λ r. ⌜ Raised (side end) (now (a .entry)) at (now (scratch .entry)) (now (scratch .exit)) r ⌝ }
+fn raise_head(a: &[u16], at: usize, marks: &[bool], scratch: &mut [u16], n: usize, end: End) -> bool
+    requires { ⌜ Half (side end) (now a) (now marks) (now scratch) × (n ≡ conditionsOf (now a)) × LineIn (now a) at × (getD (now a) (at + 1) 0 ≤ 5) ⌝ }
+    ensures { λ r. ⌜ Raised (side end) (now (a .entry)) (now (marks .entry)) at (now (scratch .entry)) (now (scratch .exit)) r ⌝ }
 {
     let h = a[at] as usize;
-    if scratch[4 * n + h] == 0 {
+    if !marks[h] {
         return false;
     }
     let base = base_of(n, end);
@@ -44,21 +44,21 @@ fn raise_head(a: &[u16], at: usize, scratch: &mut [u16], n: usize, end: End) -> 
 }
 
 // The same for any line: a query raises nothing.
-fn raise(a: &[u16], at: usize, scratch: &mut [u16], n: usize, end: End) -> bool
-    requires { ⌜ Half (side end) (now a) (now scratch) × (n ≡ conditionsOf (now a)) × LineIn (now a) at ⌝ }
-    ensures { λ r. ⌜ Raised (side end) (now (a .entry)) at (now (scratch .entry)) (now (scratch .exit)) r ⌝ }
+fn raise(a: &[u16], at: usize, marks: &[bool], scratch: &mut [u16], n: usize, end: End) -> bool
+    requires { ⌜ Half (side end) (now a) (now marks) (now scratch) × (n ≡ conditionsOf (now a)) × LineIn (now a) at ⌝ }
+    ensures { λ r. ⌜ Raised (side end) (now (a .entry)) (now (marks .entry)) at (now (scratch .entry)) (now (scratch .exit)) r ⌝ }
 {
     let k = a[at + 1];
     match k {
-        0..=5 => raise_head(a, at, scratch, n, end),
+        0..=5 => raise_head(a, at, marks, scratch, n, end),
         _ => false,
     }
 }
 
 // Looks at all lines in page order and raises the ends of their heads; whether any rose.
-fn sweep(a: &[u16], scratch: &mut [u16], n: usize, end: End) -> bool
-    requires { ⌜ Half (side end) (now a) (now scratch) × (n ≡ conditionsOf (now a)) ⌝ }
-    ensures { λ r. ⌜ Looked (side end) (now (a .entry)) (placeOf (now (a .entry))) 0 (countOf (now (a .entry))) (now (scratch .entry)) (now (scratch .exit)) r ⌝ }
+fn sweep(a: &[u16], marks: &[bool], scratch: &mut [u16], n: usize, end: End) -> bool
+    requires { ⌜ Half (side end) (now a) (now marks) (now scratch) × (n ≡ conditionsOf (now a)) ⌝ }
+    ensures { λ r. ⌜ Looked (side end) (now (a .entry)) (now (marks .entry)) (placeOf (now (a .entry))) 0 (countOf (now (a .entry))) (now (scratch .entry)) (now (scratch .exit)) r ⌝ }
 {
     let used = a[3] as usize;
     let line = page::Cursor::first(a);
@@ -67,7 +67,7 @@ fn sweep(a: &[u16], scratch: &mut [u16], n: usize, end: End) -> bool
     while at < used {
         let line = at;
         at += page::span_of(a[line + 1], a[line + 3]);
-        if raise(a, line, scratch, n, end) {
+        if raise(a, line, marks, scratch, n, end) {
             rose = true;
         }
     }
@@ -75,13 +75,13 @@ fn sweep(a: &[u16], scratch: &mut [u16], n: usize, end: End) -> bool
 }
 
 // Settles the ends by sweeps, until one raises none; whether any rose.
-fn settle_sweeping(a: &[u16], scratch: &mut [u16], end: End) -> bool
-    requires { ⌜ Half (side end) (now a) (now scratch) ⌝ }
-    ensures { λ r. ⌜ Settled (side end) (now (a .entry)) (now (scratch .entry)) (now (scratch .exit)) r ⌝ }
+fn settle_sweeping(a: &[u16], marks: &[bool], scratch: &mut [u16], end: End) -> bool
+    requires { ⌜ Half (side end) (now a) (now marks) (now scratch) ⌝ }
+    ensures { λ r. ⌜ Settled (side end) (now (a .entry)) (now (marks .entry)) (now (scratch .entry)) (now (scratch .exit)) r ⌝ }
 {
     let n = a[1] as usize;
     let mut changed = false;
-    while sweep(a, scratch, n, end) {
+    while sweep(a, marks, scratch, n, end) {
         changed = true;
     }
     changed
@@ -93,17 +93,18 @@ fn look(
     places: &[u16],
     from: usize,
     to: usize,
+    marks: &[bool],
     scratch: &mut [u16],
     n: usize,
     end: End,
 ) -> bool
-    requires { ⌜ Half (side end) (now a) (now scratch) × (n ≡ conditionsOf (now a)) × Lookable (now a) (now places) from to ⌝ }
-    ensures { λ r. ⌜ Looked (side end) (now (a .entry)) (λ i. getD (now (places .entry)) i 0) from to (now (scratch .entry)) (now (scratch .exit)) r ⌝ }
+    requires { ⌜ Half (side end) (now a) (now marks) (now scratch) × (n ≡ conditionsOf (now a)) × Lookable (now a) (now places) from to ⌝ }
+    ensures { λ r. ⌜ Looked (side end) (now (a .entry)) (now (marks .entry)) (λ i. getD (now (places .entry)) i 0) from to (now (scratch .entry)) (now (scratch .exit)) r ⌝ }
 {
     let mut rose = false;
     let mut i = from;
     while i < to {
-        if raise(a, places[i] as usize, scratch, n, end) {
+        if raise(a, places[i] as usize, marks, scratch, n, end) {
             rose = true;
         }
         i += 1;
@@ -140,12 +141,13 @@ fn drain(
     a: &[u16],
     lines: &[u16],
     users: &[u16],
+    marks: &[bool],
     scratch: &mut [u16],
     words: &mut [u64],
     end: End,
 ) -> bool
-    requires { ⌜ Half (side end) (now a) (now scratch) × Lines (now a) (now lines) × Users (now a) (now users) × Waiting (side end) (now a) (now scratch) (now words) ⌝ }
-    ensures { λ r. ⌜ Settled (side end) (now (a .entry)) (now (scratch .entry)) (now (scratch .exit)) r × WaitSet (conditionsOf (now (a .entry))) (now (words .exit)) ⌝ }
+    requires { ⌜ Half (side end) (now a) (now marks) (now scratch) × Lines (now a) (now lines) × Users (now a) (now users) × Waiting (side end) (now a) (now marks) (now scratch) (now words) ⌝ }
+    ensures { λ r. ⌜ Settled (side end) (now (a .entry)) (now (marks .entry)) (now (scratch .entry)) (now (scratch .exit)) r × WaitSet (conditionsOf (now (a .entry))) (now (words .exit)) ⌝ }
 {
     let n = a[1] as usize;
     let k = n + 1;
@@ -158,7 +160,7 @@ fn drain(
         let t = c as usize;
         let from = first[t] as usize;
         let to = first[t + 1] as usize;
-        if look(a, places, from, to, scratch, n, end) {
+        if look(a, places, from, to, marks, scratch, n, end) {
             changed = true;
             wake(a, users, words, 2 * c);
         }
@@ -172,15 +174,16 @@ pub fn settle(
     a: &[u16],
     lines: &[u16],
     users: &[u16],
+    marks: &[bool],
     scratch: &mut [u16],
     words: &mut [u64],
     end: End,
 ) -> bool
-    requires { ⌜ Half (side end) (now a) (now scratch) × MaybeIndexed (side end) (now a) (now lines) (now users) (now scratch) (now words) × WaitSet (conditionsOf (now a)) (now words) ⌝ }
-    ensures { λ r. ⌜ Settled (side end) (now (a .entry)) (now (scratch .entry)) (now (scratch .exit)) r × WaitSet (conditionsOf (now (a .entry))) (now (words .exit)) ⌝ }
+    requires { ⌜ Half (side end) (now a) (now marks) (now scratch) × MaybeIndexed (side end) (now a) (now marks) (now lines) (now users) (now scratch) (now words) × WaitSet (conditionsOf (now a)) (now words) ⌝ }
+    ensures { λ r. ⌜ Settled (side end) (now (a .entry)) (now (marks .entry)) (now (scratch .entry)) (now (scratch .exit)) r × WaitSet (conditionsOf (now (a .entry))) (now (words .exit)) ⌝ }
 {
     if users.len() == 0 {
-        return settle_sweeping(a, scratch, end);
+        return settle_sweeping(a, marks, scratch, end);
     }
-    drain(a, lines, users, scratch, words, end)
+    drain(a, lines, users, marks, scratch, words, end)
 }

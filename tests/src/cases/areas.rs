@@ -2,6 +2,7 @@
 
 use crate::answer::*;
 use crate::area::{decode, encode, run_is_sound};
+use crate::closed::scratch_length;
 use crate::gen::{self, Size};
 use crate::page::{Line, Literal, Op, Page};
 use crate::runner::Case;
@@ -87,7 +88,7 @@ fn each_operation(trial: &mut Trial, page: &Page, area: &[u16]) -> Check<Vec<Opt
     let allowance = trial.rng.below(30) as u32;
     codes.push(trial.drive(area, &mut run.clone(), allowance)?.err());
     codes.push(trial.value(area, &run, cond)?.err());
-    let mut scratch = trial.rubbish(6 * usize::from(page.count));
+    let mut scratch = trial.rubbish(scratch_length(page.count));
     let mut answers = trial.rubbish(2 * queries.len());
     let code = trial.closed(area, &queries, &mut scratch, &mut answers)?;
     codes.push(code.err());
@@ -259,7 +260,7 @@ fn past_the_parts(trial: &mut Trial, item: u64) -> Check {
     let _ = trial.drive(&area, &mut run, allowance)?;
     let _ = trial.drive(&area, &mut run, u32::MAX)?;
     let _ = trial.value(&area, &run, cond)?;
-    let mut scratch = trial.rubbish(6 * usize::from(page.count));
+    let mut scratch = trial.rubbish(scratch_length(page.count));
     let mut answers = trial.rubbish(2 * queries.len());
     let closed = trial.closed(&area, &queries, &mut scratch, &mut answers)?;
     figure("the closed reading's success", closed.is_ok(), true)?;

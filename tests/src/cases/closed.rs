@@ -1,6 +1,6 @@
 //! The closed reading against its definition.
 
-use crate::answer::Refusal;
+use crate::answer::{Refusal, SCRATCH_SHORT};
 use crate::area::{encode, PAGE_MAX};
 use crate::body::Pair;
 use crate::closed;
@@ -50,6 +50,18 @@ pub fn cases() -> Vec<Case> {
             must_see: &[("closed", 0)],
         },
         Case {
+            name: "closed_reading_takes_4c_of_the_scratch_and_leaves_the_rest",
+            items: 600,
+            each: parts_of_the_scratch,
+            must_see: &[
+                ("closed", 0),
+                ("closed", SCRATCH_SHORT),
+                ("closed_indexed", 0),
+                ("closed_indexed", SCRATCH_SHORT),
+                ("closed_indexed without room", 0),
+            ],
+        },
+        Case {
             name: "closed_answers_lie_inside_the_plain_ones",
             items: 1_500,
             each: inside_plain,
@@ -91,7 +103,7 @@ fn all_answers(trial: &mut Trial, page: &Page) -> Check<Vec<Pair>> {
     let mut pairs = Vec::new();
     for queries in conditions.chunks(QUERIES_MAX) {
         let extra = trial.rng.index(5);
-        let mut scratch = trial.rubbish(6 * usize::from(page.count) + extra);
+        let mut scratch = trial.rubbish(closed::scratch_length(page.count) + extra);
         let mut answers = trial.rubbish(2 * queries.len() + extra);
         let code = trial.closed(&area, queries, &mut scratch, &mut answers)?;
         figure("the closed reading's success", code, Ok(()))?;
@@ -112,7 +124,7 @@ fn some_lists(trial: &mut Trial, page: &Page, times: usize) -> Check {
         let area = trial.with_tail(&encoded);
         let queries = gen::queries(&mut trial.rng, page.count);
         let extra = trial.rng.index(5);
-        let mut scratch = trial.rubbish(6 * usize::from(page.count) + extra);
+        let mut scratch = trial.rubbish(closed::scratch_length(page.count) + extra);
         let mut answers = trial.rubbish(2 * queries.len() + extra);
         let _ = trial.closed(&area, &queries, &mut scratch, &mut answers)?;
     }
@@ -165,6 +177,35 @@ fn at_the_limits(trial: &mut Trial, _: u64) -> Check {
     let area = encode(&page);
     figure("the used length", area.len(), PAGE_MAX)?;
     some_lists(trial, &page, 1)
+}
+
+/// A scratch of 4 * C is enough. Of 6 * C the last 2 * C stay, and are not looked at: the call does not notice if they are no memory.
+fn parts_of_the_scratch(trial: &mut Trial, item: u64) -> Check {
+    trial.pages += 1;
+    let size = match item % 20 {
+        0 => Size::Medium,
+        _ => Size::Small,
+    };
+    let page = gen::page(&mut trial.rng, size);
+    let area = encode(&page);
+    let queries = gen::queries(&mut trial.rng, page.count);
+    let count = usize::from(page.count);
+    for (lent, announced) in [(4, 4), (6, 6), (4, 6)] {
+        let before = trial.rubbish(lent * count);
+        let (mut scratch, mut answers) = (before.clone(), trial.rubbish(2 * queries.len()));
+        trial.engine.overstate = (announced - lent) * count;
+        let code = trial.closed(&area, &queries, &mut scratch, &mut answers)?;
+        figure("the closed reading's success", code, Ok(()))?;
+        let (taken, rest) = scratch.split_at(4 * count);
+        figure("the zeros", taken.iter().all(|number| *number == 0), true)?;
+        figure("the rest", rest, &before[4 * count..])?;
+    }
+    trial.engine.overstate = 0;
+    let before = trial.rubbish(4 * count - 1);
+    let (mut scratch, mut answers) = (before.clone(), trial.rubbish(2 * queries.len()));
+    let code = trial.closed(&area, &queries, &mut scratch, &mut answers)?;
+    figure("one number short", code, Err(SCRATCH_SHORT))?;
+    figure("the refused scratch", scratch, before)
 }
 
 fn inside_plain(trial: &mut Trial, item: u64) -> Check {

@@ -107,7 +107,7 @@ fn plain_of(trial: &mut Trial, area: &[u16], cond: u16) -> Check<(Pair, u32)> {
 }
 
 fn closed_of(trial: &mut Trial, area: &[u16], cond: u16) -> Check<Pair> {
-    let mut scratch = trial.rubbish(6 * usize::from(area[1]));
+    let mut scratch = trial.rubbish(closed::scratch_length(area[1]));
     let mut answers = trial.rubbish(2);
     let code = trial.closed(area, &[cond], &mut scratch, &mut answers)?;
     figure("the closed reading's code", code, Ok(()))?;

@@ -3,6 +3,7 @@
 
 use crate::answer::Driven;
 use crate::body::End;
+use crate::closed::scratch_length;
 use crate::ffi::Call;
 use crate::page::{OPS, TOP_MAX};
 use crate::runner::Case;
@@ -137,7 +138,7 @@ fn readings(trial: &mut Trial, text: &str) -> Check<([u16; 2], [u16; 2])> {
     let bound = opened.map_err(|number| format!("refused {number}"))?.bound;
     let driven: Result<Driven, _> = trial.drive(&area, &mut run, bound)?;
     figure("at rest", driven.map(|driven| driven.rest), Ok(true))?;
-    let mut scratch = trial.rubbish(6 * usize::from(area[1]));
+    let mut scratch = trial.rubbish(scratch_length(area[1]));
     let mut answers = [0; 2];
     let code = trial.closed(&area, &[0], &mut scratch, &mut answers)?;
     figure("closed", code, Ok(()))?;
@@ -363,7 +364,7 @@ fn closed_values(trial: &mut Trial, top: u16, rules: &[PointRule]) -> Check<Vec<
     }
     area[3] = area.len() as u16;
     let queries: Vec<u16> = (0..n).collect();
-    let mut scratch = [0; 6 * 3 * ASKED];
+    let mut scratch = [0; 4 * 3 * ASKED];
     let mut workspace = [0; 400];
     let mut answers = [[0; 2 * ASKED]; 2];
     let [one, other] = &mut answers;

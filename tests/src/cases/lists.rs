@@ -3,6 +3,7 @@
 use crate::area::{encode, PAGE_MAX};
 use crate::body::Pair;
 use crate::book::Book;
+use crate::closed::scratch_length;
 use crate::gen::{self, Size};
 use crate::input::{Input, Slice};
 use crate::page::{Page, LINES_MAX};
@@ -267,7 +268,7 @@ fn two_runs(trial: &mut Trial, _: u64) -> Check {
         if trial.rng.percent(10) {
             // A call of another kind in between.
             let queries = gen::queries(&mut trial.rng, one.count);
-            let mut scratch = trial.rubbish(6 * usize::from(one.count));
+            let mut scratch = trial.rubbish(scratch_length(one.count));
             let mut answers = trial.rubbish(2 * queries.len());
             let area = runs[0].area.clone();
             let code = trial.closed(&area, &queries, &mut scratch, &mut answers)?;

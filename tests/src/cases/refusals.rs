@@ -3,6 +3,7 @@
 use crate::answer::*;
 use crate::area::{encode, NOT_REACHED_MARK, REACHED_MARK, WAITING_MARK};
 use crate::cases::reader::EVERY_READ;
+use crate::closed::scratch_length;
 use crate::gen::{self, Size};
 use crate::page::Page;
 use crate::runner::Case;
@@ -132,7 +133,7 @@ fn open_order(trial: &mut Trial, _: u64) -> Check {
 fn closed_order(trial: &mut Trial, _: u64) -> Check {
     let page = gen::page(&mut trial.rng, Size::Small);
     trial.pages += 1;
-    let length = 6 * usize::from(page.count);
+    let length = scratch_length(page.count);
     let list = [
         PAGE_UNSOUND,
         QUERY_COUNT,

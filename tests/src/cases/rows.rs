@@ -344,7 +344,7 @@ fn read_closed(
     queries: &[u16],
 ) -> Check<Result<Vec<(u16, u16)>, Refusal>> {
     trial.pages += 1;
-    let (mut scratch, mut answers) = ([9; 36], [9; 32]);
+    let (mut scratch, mut answers) = ([9; 24], [9; 32]);
     let code = trial.closed(page, queries, &mut scratch, &mut answers)?;
     Ok(code.map(|()| {
         answers[..2 * queries.len()]

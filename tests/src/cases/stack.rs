@@ -4,6 +4,7 @@ use std::sync::atomic::{AtomicUsize, Ordering::SeqCst};
 
 use crate::answer::*;
 use crate::area::encode;
+use crate::closed::scratch_length;
 use crate::ffi::{stands_in, Call};
 use crate::gen;
 use crate::page::Page;
@@ -446,7 +447,7 @@ fn on_a_large_page(trial: &mut Trial, item: u64) -> Check {
     figure("the opening's success", opened.is_ok(), true)?;
     bench.runs(&lent)?;
     bench.indexed_runs(&lent)?;
-    lent.area = vec![7; 6 * 512];
+    lent.area = vec![7; scratch_length(512)];
     bench.closeds(&lent)?;
     lent.area = vec![7; 512];
     bench.layered(&lent)?;

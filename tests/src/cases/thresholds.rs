@@ -3,6 +3,7 @@
 
 use crate::answer::*;
 use crate::area::{encode, PAGE_MAX, REACHED_MARK, WAITING_MARK};
+use crate::closed::scratch_length;
 use crate::gen;
 use crate::page::{Page, CONDITIONS_MAX, TOP_MAX};
 use crate::runner::Case;
@@ -141,7 +142,7 @@ fn workspace_lengths(trial: &mut Trial, area: &[u16], count: u16) -> Check {
 }
 
 fn closed_lengths(trial: &mut Trial, area: &[u16], count: u16) -> Check {
-    let needed = 6 * usize::from(count);
+    let needed = scratch_length(count);
     for (scratch, answers, wanted) in [
         (needed, 4, None),
         (needed - 1, 4, Some(SCRATCH_SHORT)),
@@ -342,7 +343,7 @@ fn queries_inside(trial: &mut Trial, item: u64) -> Check {
     let mut run = trial.rubbish(3 * usize::from(page.count));
     trial.engine.queries_at = Some(at);
     let _ = trial.open(&area, &queries, &mut run)?;
-    let mut scratch = trial.rubbish(6 * usize::from(page.count));
+    let mut scratch = trial.rubbish(scratch_length(page.count));
     let mut answers = trial.rubbish(2 * length);
     let _ = trial.closed(&area, &queries, &mut scratch, &mut answers)?;
     trial.engine.queries_at = None;

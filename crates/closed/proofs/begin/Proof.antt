@@ -1,61 +1,42 @@
--- `begin` stores a low end and a mark for one condition after the other (`Beginning`).
+-- `begin` stores a low end for one condition after the other (`Beginning`).
 use native.Mathlib.Omega.{arith}
 use Prim.Native.Nat.{_-_}
-use lib.ListN.{length-set}
-use Rattle.closed.proofs.Answering.{Beginning, beginning-first, beginning-next, beginning-last, byte-is}
+use Rattle.closed.proofs.Answering.{Beginning, beginning-first, beginning-next, beginning-last}
 use Rattle.closed.proofs.begin.Statement.{statement}
 use Rattle.closed.proofs.begin.Tie as tie
 
 abbrev Inv-loop : tie.InvT-loop
-Inv-loop scratch₀ n marks base c₀ scratch c = Beginning n marks scratch₀ scratch c
+Inv-loop scratch₀ n c₀ scratch c = Beginning n scratch₀ scratch c
 
 abbrev μ-loop : tie.MeasureT-loop
-μ-loop scratch₀ n marks base c₀ scratch c = n - c
-
-mul-base : tie.Need-mul-base Inv-loop μ-loop
-mul-base c = omega (arith, c .pre .1)
+μ-loop scratch₀ n c₀ scratch c = n - c
 
 loop-holds : tie.Need-loop-holds Inv-loop μ-loop
-loop-holds c = beginning-first _ _ _ (c .pre .0)
+loop-holds c = beginning-first _ _ (c .pre .0)
 
 mul-scratch : tie.Need-mul-scratch Inv-loop μ-loop
-mul-scratch c = let i = c .before .loop .inv in omega (arith, i .long, i .same-length, c .before .before .pre .1, c .before .before .pre .2)
+mul-scratch c = let i = c .before .loop .inv in omega (arith, i .long, i .same-length, c .before .before .pre .1)
 
 mul-scratch-2 : tie.Need-mul-scratch-2 Inv-loop μ-loop
-mul-scratch-2 c = let i = c .before .loop .inv in omega (arith, i .long, i .same-length, c .before .before .pre .1, c .before .before .pre .2)
+mul-scratch-2 c = let i = c .before .loop .inv in omega (arith, i .long, i .same-length, c .before .before .pre .1)
 
 slice-write-scratch : tie.Need-slice-write-scratch Inv-loop μ-loop
-slice-write-scratch c = let i = c .before .loop .inv in omega (arith, i .long, i .same-length, c .before .before .pre .1, c .before .before .pre .2)
-
-shared-slice-read-scratch : tie.Need-shared-slice-read-scratch Inv-loop μ-loop
-shared-slice-read-scratch c = let i = c .before .before .loop .inv in omega (arith, i .long, i .same-length, c .before .before .before .pre .1, c .before .before .before .pre .2)
-
-cast-scratch : tie.Need-cast-scratch Inv-loop μ-loop
-cast-scratch c = tt
-
-add-scratch : tie.Need-add-scratch Inv-loop μ-loop
-add-scratch c = let i = c .before .before .loop .inv in omega (arith, i .long, i .same-length, c .before .before .before .pre .1, c .before .before .before .pre .2)
-
-mul-scratch-3 : tie.Need-mul-scratch-3 Inv-loop μ-loop
-mul-scratch-3 c = let i = c .before .before .loop .inv in omega (arith, i .long, i .same-length, c .before .before .before .pre .1, c .before .before .before .pre .2)
-
-slice-write-scratch-2 : tie.Need-slice-write-scratch-2 Inv-loop μ-loop
-slice-write-scratch-2 c = let i = c .before .before .loop .inv in rw length-set (omega (arith, i .long, i .same-length, c .before .before .before .pre .1))
+slice-write-scratch c = let i = c .before .loop .inv in omega (arith, i .long, i .same-length, c .before .before .pre .1)
 
 add-c : tie.Need-add-c Inv-loop μ-loop
-add-c c = let i = c .before .before .loop .inv in omega (arith, i .long, i .same-length, c .before .before .before .pre .1, c .before .before .before .pre .2)
+add-c c = let i = c .before .loop .inv in omega (arith, i .long, i .same-length, c .before .before .pre .1)
 
 loop-less : tie.Need-loop-less Inv-loop μ-loop
 loop-less c = omega arith
 
 loop-again : tie.Need-loop-again Inv-loop μ-loop
-loop-again c = beginning-next _ _ _ _ (c .before .before .loop .inv) (omega arith) (byte-is _)
+loop-again c = beginning-next _ _ (c .before .loop .inv) (omega arith)
 
 same-length : tie.Need-same-length Inv-loop μ-loop
 same-length c = c .before .loop .inv .same-length
 
 returns : tie.Need-returns Inv-loop μ-loop
-returns c = beginning-last _ _ _ (c .before .loop .inv) (omega arith)
+returns c = beginning-last _ _ (c .before .loop .inv) (omega arith)
 
 pub begin-spec : {M : Type 1} → statement M
 begin-spec =
@@ -63,16 +44,10 @@ begin-spec =
     (tie.spec
     Inv-loop
     μ-loop
-    mul-base
     loop-holds
     mul-scratch
     mul-scratch-2
     slice-write-scratch
-    shared-slice-read-scratch
-    cast-scratch
-    add-scratch
-    mul-scratch-3
-    slice-write-scratch-2
     add-c
     loop-less
     loop-again

@@ -13,10 +13,10 @@ use Rattle.rounds.proofs.alternate.Statement.{statement}
 use Rattle.rounds.proofs.alternate.Tie as tie
 
 abbrev Inv-loop : tie.InvT-loop
-Inv-loop a lines users scratch₀ tops₀ lows₀ scratch tops lows = Alternating a scratch₀ scratch × WaitSet (conditionsOf a) tops × LowsWait a users scratch lows
+Inv-loop a lines users marks scratch₀ tops₀ lows₀ scratch tops lows = Alternating a marks scratch₀ scratch × WaitSet (conditionsOf a) tops × LowsWait a marks users scratch lows
 
 abbrev μ-loop : tie.MeasureT-loop
-μ-loop a lines users scratch₀ tops₀ lows₀ scratch tops lows = roomAt lower a scratch
+μ-loop a lines users marks scratch₀ tops₀ lows₀ scratch tops lows = roomAt lower a scratch
 
 shared-slice-read-wait-all : tie.Need-shared-slice-read-wait-all Inv-loop μ-loop
 shared-slice-read-wait-all c = let s = c .before .before .before .before .before .before in omega (arith, head-of (s .args .a .now) (s .pre .0 .page-sound))
@@ -25,10 +25,10 @@ slice-aggregate-wait-all : tie.Need-slice-aggregate-wait-all Inv-loop μ-loop
 slice-aggregate-wait-all c = refl
 
 wait-all-requires : tie.Need-wait-all-requires Inv-loop μ-loop
-wait-all-requires c κs = let s = c .before .before .before .before .before .before .before in (s .pre .0 .long, head-of (s .args .a .now) (s .pre .0 .page-sound) .few, nobody-waits _)
+wait-all-requires c κs = let s = c .before .before .before .before .before .before .before in (s .pre .0 .marked, head-of (s .args .a .now) (s .pre .0 .page-sound) .few, nobody-waits _)
 
 loop-holds : tie.Need-loop-holds Inv-loop μ-loop
-loop-holds c = let s = c .before .before .before .before .before .before .before .before .before in (alternating-first _ _ (s .pre .0), nobody-waits _, all-lows _ _ _ _ (c .before .wait-all .ensures .0) (c .before .wait-all .ensures .1))
+loop-holds c = let s = c .before .before .before .before .before .before .before .before .before in (alternating-first _ _ _ (s .pre .0), nobody-waits _, all-lows _ _ _ _ _ (c .before .wait-all .ensures .0) (c .before .wait-all .ensures .1))
 
 slice-aggregate-round : tie.Need-slice-aggregate-round Inv-loop μ-loop
 slice-aggregate-round c = sym (c .before .before .loop .inv .1 .size)
@@ -43,13 +43,13 @@ loop-less : tie.Need-loop-less Inv-loop μ-loop
 loop-less c = c .before .before .before .before .before .round .ensures .0 .moves (c .if1 .taken)
 
 loop-again : tie.Need-loop-again Inv-loop μ-loop
-loop-again c = (alternating-next _ _ (c .before .before .before .before .before .before .before .before .before .loop .inv .0) (c .before .before .before .before .before .round .ensures .0), c .before .before .before .before .before .round .ensures .1, c .before .before .before .before .before .round .ensures .2)
+loop-again c = (alternating-next _ _ _ (c .before .before .before .before .before .before .before .before .before .loop .inv .0) (c .before .before .before .before .before .round .ensures .0), c .before .before .before .before .before .round .ensures .1, c .before .before .before .before .before .round .ensures .2)
 
 same-length : tie.Need-same-length Inv-loop μ-loop
 same-length c = c .before .before .before .before .before .round .ensures .0 .same-length ∙ c .before .before .before .before .before .before .before .before .before .loop .inv .0 .same-length
 
 returns : tie.Need-returns Inv-loop μ-loop
-returns c = alternating-last _ _ (c .before .before .before .before .before .before .before .before .before .loop .inv .0) (c .before .before .before .before .before .round .ensures .0) (c .if1 .left)
+returns c = alternating-last _ _ _ (c .before .before .before .before .before .before .before .before .before .loop .inv .0) (c .before .before .before .before .before .round .ensures .0) (c .if1 .left)
 
 pub alternate-spec : {M : Type 1} → statement M
 alternate-spec =

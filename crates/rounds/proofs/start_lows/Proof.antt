@@ -14,16 +14,16 @@ abbrev μ-loop : tie.MeasureT-loop
 μ-loop a users scratch₀ words₀ n c₀ scratch words c = n - c
 
 shared-slice-read-n : tie.Need-shared-slice-read-n Inv-loop μ-loop
-shared-slice-read-n c = let s = c .before .before .before .before .before in omega (arith, head-of (s .args .a .now) (s .pre .0 .page-sound))
+shared-slice-read-n c = let s = c .before .before .before .before .before in omega (arith, head-of (s .args .a .now) (s .pre .0 .0))
 
 loop-holds : tie.Need-loop-holds Inv-loop μ-loop
 loop-holds c = let s = c .before .before .before .before .before in lows-first _ _ _ _ (s .pre .0) (s .pre .1) (s .pre .2)
 
 negate-requires : tie.Need-negate-requires Inv-loop μ-loop
-negate-requires c κs = let l = c .before .before .before .loop in (l .inv .half .page-sound, l .inv .users-in, omega (arith, l .inv .half .long, l .inv .same-length), omega arith, high-read _ _ _ _ (l .inv) (omega arith), l .inv .set-in)
+negate-requires c κs = let l = c .before .before .before .loop in (l .inv .half .0, l .inv .users-in, omega (arith, l .inv .half .1, l .inv .same-length), omega arith, high-read _ _ _ _ (l .inv) (omega arith), l .inv .set-in)
 
 add-c : tie.Need-add-c Inv-loop μ-loop
-add-c c = let l = c .before .before .before .before .before .before .before .before .loop in omega (arith, head-of _ (l .inv .half .page-sound) .few)
+add-c c = let l = c .before .before .before .before .before .before .before .before .loop in omega (arith, head-of _ (l .inv .half .0) .few)
 
 loop-less : tie.Need-loop-less Inv-loop μ-loop
 loop-less c = omega arith

@@ -8,28 +8,19 @@ use Rattle.rounds.proofs.wait_all.Statement.{statement}
 use Rattle.rounds.proofs.wait_all.Tie as tie
 
 abbrev Inv-loop : tie.InvT-loop
-Inv-loop scratch users n words₀ base c₀ words c = WaitingAll n scratch words c
+Inv-loop marks users n words₀ c₀ words c = WaitingAll n marks words c
 
 abbrev μ-loop : tie.MeasureT-loop
-μ-loop scratch users n words₀ base c₀ words c = n - c
+μ-loop marks users n words₀ c₀ words c = n - c
 
 returns : tie.Need-returns Inv-loop μ-loop
 returns c = (c .before .before .before .before .pre .2, inl (c .if1 .taken))
-
-mul-base : tie.Need-mul-base Inv-loop μ-loop
-mul-base c = omega (arith, c .before .before .before .before .pre .1)
 
 loop-holds : tie.Need-loop-holds Inv-loop μ-loop
 loop-holds c = waiting-first _ _ (c .before .before .before .before .pre .1) (c .before .before .before .before .pre .2)
 
 cast-if2 : tie.Need-cast-if2 Inv-loop μ-loop
 cast-if2 c = omega (arith, c .before .loop .inv .few, c .before .before .before .before .before .before .pre .0)
-
-add-if2 : tie.Need-add-if2 Inv-loop μ-loop
-add-if2 c = omega (arith, c .before .loop .inv .few, c .before .before .before .before .before .before .pre .0)
-
-mul-if2 : tie.Need-mul-if2 Inv-loop μ-loop
-mul-if2 c = omega (arith, c .before .loop .inv .few, c .before .before .before .before .before .before .pre .0)
 
 shared-slice-read-if2 : tie.Need-shared-slice-read-if2 Inv-loop μ-loop
 shared-slice-read-if2 c = omega (arith, c .before .before .loop .inv .few, c .before .before .before .before .before .before .before .pre .0)
@@ -44,7 +35,7 @@ loop-less : tie.Need-loop-less Inv-loop μ-loop
 loop-less c = omega arith
 
 loop-again : tie.Need-loop-again Inv-loop μ-loop
-loop-again c = ⊎-elim (λ w. rw (w .5) (waiting-joins _ _ (c .before .before .before .loop .inv) (omega arith) (w .2 .ensures))) (λ w. waiting-passed _ _ (c .before .before .before .loop .inv) (omega arith) (omega (arith, w .0 .left)) (w .1)) (c .if2 .came)
+loop-again c = ⊎-elim (λ w. rw (w .5) (waiting-joins _ _ (c .before .before .before .loop .inv) (omega arith) (w .2 .ensures))) (λ w. waiting-passed _ _ (c .before .before .before .loop .inv) (omega arith) (w .0 .left) (w .1)) (c .if2 .came)
 
 same-length : tie.Need-same-length Inv-loop μ-loop
 same-length c = c .before .loop .inv .set .size ∙ sym (c .before .before .before .before .before .before .pre .2 .size)
@@ -59,11 +50,8 @@ wait-all-spec =
     Inv-loop
     μ-loop
     returns
-    mul-base
     loop-holds
     cast-if2
-    add-if2
-    mul-if2
     shared-slice-read-if2
     insert-requires
     add-c

@@ -14,7 +14,7 @@ returns : tie.Need-returns
 returns c = search needs
 
 drain-requires : tie.Need-drain-requires
-drain-requires c κs = let i = indexed (c .before .before .before .before .before .before .before .before .pre .1) (c .before .before .if1 .left) in (c .before .before .before .before .before .before .before .before .pre .0, i .lines-in, i .users-in, i .waiting)
+drain-requires c κs = let i = indexed (c .before .before .before .before .before .before .before .before .before .pre .1) (c .before .before .if1 .left) in (c .before .before .before .before .before .before .before .before .before .pre .0, i .lines-in, i .users-in, i .waiting)
 
 same-length-2 : tie.Need-same-length-2
 same-length-2 c = search needs

@@ -9,19 +9,19 @@ use Rattle.settle.proofs.settle_sweeping.Statement.{statement}
 use Rattle.settle.proofs.settle_sweeping.Tie as tie
 
 abbrev Inv-loop : tie.InvT-loop
-Inv-loop a scratch₀ end n changed₀ scratch changed = Settling (side end) a scratch₀ scratch changed
+Inv-loop a marks scratch₀ end n changed₀ scratch changed = Settling (side end) a marks scratch₀ scratch changed
 
 abbrev μ-loop : tie.MeasureT-loop
-μ-loop a scratch₀ end n changed₀ scratch changed = roomAt (side end) a scratch
+μ-loop a marks scratch₀ end n changed₀ scratch changed = roomAt (side end) a scratch
 
 shared-slice-read-n : tie.Need-shared-slice-read-n Inv-loop μ-loop
-shared-slice-read-n c = let s = c .before .before .before in omega (arith, head-of (s .args .a .now) (s .pre .page-sound))
+shared-slice-read-n c = let s = c .before .before .before .before in omega (arith, head-of (s .args .a .now) (s .pre .page-sound))
 
 cast-n : tie.Need-cast-n Inv-loop μ-loop
-cast-n c = omega (arith, c .shared-slice-known2 .given 1)
+cast-n c = omega (arith, c .shared-slice-known3 .given 1)
 
 loop-holds : tie.Need-loop-holds Inv-loop μ-loop
-loop-holds c = settling-first _ _ (c .before .before .before .pre)
+loop-holds c = settling-first _ _ _ (c .before .before .before .before .pre)
 
 sweep-requires : tie.Need-sweep-requires Inv-loop μ-loop
 sweep-requires c κs = (c .before .loop .inv .half, refl)
@@ -30,13 +30,13 @@ loop-less : tie.Need-loop-less Inv-loop μ-loop
 loop-less c = c .before .before .before .sweep .ensures .moves (c .if1 .taken)
 
 loop-again : tie.Need-loop-again Inv-loop μ-loop
-loop-again c = settling-next _ _ (c .before .before .before .before .before .loop .inv) (rw (c .if1 .taken) at (c .before .before .before .sweep .ensures))
+loop-again c = settling-next _ _ _ (c .before .before .before .before .before .loop .inv) (rw (c .if1 .taken) at (c .before .before .before .sweep .ensures))
 
 same-length : tie.Need-same-length Inv-loop μ-loop
 same-length c = c .before .before .before .sweep .ensures .steady .same-length ∙ c .before .before .before .before .before .loop .inv .steady .same-length
 
 returns : tie.Need-returns Inv-loop μ-loop
-returns c = let w = swept _ _ (rw (c .if1 .left) at (c .before .before .before .sweep .ensures)) in rw (w .0) (settling-last _ _ (c .before .before .before .before .before .loop .inv) (w .1))
+returns c = let w = swept _ _ _ (rw (c .if1 .left) at (c .before .before .before .sweep .ensures)) in rw (w .0) (settling-last _ _ _ (c .before .before .before .before .before .loop .inv) (w .1))
 
 pub settle-sweeping-spec : {M : Type 1} → statement M
 settle-sweeping-spec =
