@@ -718,7 +718,7 @@ static void falling(void)
     uint32_t line, place;
     int used = at->read((const uint8_t *)text, length, page, SIMJORAD_PAGE_MAX, &line, &place);
 
-    open_one(used, 0, 512, 4054, 811312, 65);
+    open_one(used, 0, 512, 4054, 811312, 66);
     driven(used, 811112, 0, 811112);
     driven(used, UINT32_MAX, 1, 1);
     held(used, 0, 1, 0, 0);
