@@ -38,9 +38,11 @@ store-requires c κs =
 
 first-line-requires : tie.Need-first-line-requires
 first-line-requires c κs =
-    let z = c .before .before .before .before .before .before .before .before .before .before .before in
-    (z .pre .0, subst (λ (v : List ℕ). Mirrored (topOf (z .args .a .now)) (conditionsOf (z .args .a .now)) v) (sym (c .before .before .before .store .ensures))
-    (restored-grades (z .args .a .now) (z .args .run .now) (z .args .values .now) (z .args .before .condition) (z .args .before .low) (z .args .before .high) (z .pre .4) (z .pre .2) (z .pre .3) (z .pre .0) (z .pre .1) (z .pre .5) (z .pre .6)))
+    let z = c .before .before .before .before .before .before .before .before .before .before .before in (
+      z .pre .0,
+      subst (λ (v : List ℕ). Mirrored (topOf (z .args .a .now)) (conditionsOf (z .args .a .now)) v) (sym (c .before .before .before .store .ensures))
+          (restored-grades (z .args .a .now) (z .args .run .now) (z .args .values .now) (z .args .before .condition) (z .args .before .low) (z .args .before .high) (z .pre .4) (z .pre .2) (z .pre .3) (z .pre .0) (z .pre .1) (z .pre .5) (z .pre .6)),
+    )
 
 same-length : tie.Need-same-length
 same-length c = search needs
