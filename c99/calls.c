@@ -31,7 +31,7 @@ struct call {
 
 #ifdef RECORD
 #define NAME(f) engine_##f
-int32_t engine_read(const uint8_t *, size_t, uint16_t *, size_t, uint32_t *);
+int32_t engine_read(const uint8_t *, size_t, uint16_t *, size_t, uint32_t *, uint32_t *);
 size_t engine_show_line(const uint8_t *, size_t, size_t, size_t *);
 int32_t engine_open(const uint16_t *, size_t, const uint16_t *, size_t, uint16_t *, size_t, uint32_t *, uint32_t *, uint32_t *, uint32_t *);
 int32_t engine_evaluate(const uint16_t *, size_t, uint16_t *, size_t, uint32_t);
@@ -55,7 +55,7 @@ static void make(struct call *c)
     uint16_t low = (uint16_t)c->outs[0], high = (uint16_t)c->outs[1];
     switch (c->function) {
     case READ:
-        c->answer = (uint32_t)NAME(read)(s[0].at, s[0].length, s[1].at, s[1].length, &c->outs[0]);
+        c->answer = (uint32_t)NAME(read)(s[0].at, s[0].length, s[1].at, s[1].length, &c->outs[0], &c->outs[1]);
         break;
     case SHOW_LINE:
         c->answer = (uint32_t)NAME(show_line)(s[0].at, s[0].length, c->number, &start);
