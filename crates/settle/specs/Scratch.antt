@@ -40,9 +40,9 @@ settledAt e a s c = settledEnd e (conditionsOf a) (topOf a) (T (pageOf a)) (unkn
 abbrev pub roomAt : End → (a s : List ℕ) → ℕ
 roomAt e a s = room e (conditionsOf a) (topOf a) (held (conditionsOf a) s)
 
--- how many conditions there are, and what the end e adds before a division
-abbrev pub FiguresOf : End → (a : List ℕ) (n add : ℕ) → Type 0
-FiguresOf e a n add = (n ≡ conditionsOf a) × (add ≡ rounding e (topOf a))
+-- how many conditions there are, where the table of the end e begins, and what e adds before a division
+abbrev pub FiguresOf : End → (a : List ℕ) (n base add : ℕ) → Type 0
+FiguresOf e a n base add = (n ≡ conditionsOf a) × (base ≡ baseOf n e) × (add ≡ rounding e (topOf a))
 
 -- a half under way: grades, the negations of the other ends, and no end above what it comes to
 pub record Half (e : End) (a : List ℕ) (m : List Bool) (s : List ℕ) : Type 0 where

@@ -22,19 +22,22 @@ fn base_of(n: usize, end: End) -> usize
     }
 }
 
-// How many conditions there are, and what an end adds before a division.
+// How many conditions there are, where the table of an end begins, and what the end adds before a division.
 struct Figures {
     n: usize,
+    base: usize,
     add: u16,
 }
 
 // The figures of a page at an end.
 fn figures_of(a: &[u16], end: End) -> Figures
     requires { ⌜ sound (now a) ≡ true ⌝ }
-    ensures { λ r. ⌜ FiguresOf (side end) (now (a .entry)) (r .n) (r .add) ⌝ }
+    ensures { λ r. ⌜ FiguresOf (side end) (now (a .entry)) (r .n) (r .base) (r .add) ⌝ }
 {
+    let n = a[1] as usize;
     Figures {
-        n: a[1] as usize,
+        n,
+        base: base_of(n, end),
         add: value::rounding(a[0], end),
     }
 }
@@ -48,7 +51,7 @@ fn raise_head(
     figures: Figures,
     end: End,
 ) -> bool
-    requires { ⌜ Half (side end) (now a) (now marks) (now scratch) × FiguresOf (side end) (now a) (figures .n) (figures .add) × LineIn (now a) at × (getD (now a) (at + 1) 0 ≤ 5) ⌝ }
+    requires { ⌜ Half (side end) (now a) (now marks) (now scratch) × FiguresOf (side end) (now a) (figures .n) (figures .base) (figures .add) × LineIn (now a) at × (getD (now a) (at + 1) 0 ≤ 5) ⌝ }
     ensures { λ r. ⌜ Raised (side end) (now (a .entry)) (now (marks .entry)) at (now (scratch .entry)) (now (scratch .exit)) r ⌝ }
 {
     let h = a[at] as usize;
@@ -56,7 +59,7 @@ fn raise_head(
         return false;
     }
     let n = figures.n;
-    let base = base_of(n, end);
+    let base = figures.base;
     let to = base + 2 * n;
     let values = &scratch[base..to];
     let v = value::line_end(a, at, values, end, figures.add);
@@ -77,7 +80,7 @@ fn raise(
     figures: Figures,
     end: End,
 ) -> bool
-    requires { ⌜ Half (side end) (now a) (now marks) (now scratch) × FiguresOf (side end) (now a) (figures .n) (figures .add) × LineIn (now a) at ⌝ }
+    requires { ⌜ Half (side end) (now a) (now marks) (now scratch) × FiguresOf (side end) (now a) (figures .n) (figures .base) (figures .add) × LineIn (now a) at ⌝ }
     ensures { λ r. ⌜ Raised (side end) (now (a .entry)) (now (marks .entry)) at (now (scratch .entry)) (now (scratch .exit)) r ⌝ }
 {
     let k = a[at + 1];
@@ -89,7 +92,7 @@ fn raise(
 
 // Looks at all lines in page order and raises the ends of their heads; whether any rose.
 fn sweep(a: &[u16], marks: &[bool], scratch: &mut [u16], figures: Figures, end: End) -> bool
-    requires { ⌜ Half (side end) (now a) (now marks) (now scratch) × FiguresOf (side end) (now a) (figures .n) (figures .add) ⌝ }
+    requires { ⌜ Half (side end) (now a) (now marks) (now scratch) × FiguresOf (side end) (now a) (figures .n) (figures .base) (figures .add) ⌝ }
     ensures { λ r. ⌜ Looked (side end) (now (a .entry)) (now (marks .entry)) (placeOf (now (a .entry))) 0 (countOf (now (a .entry))) (now (scratch .entry)) (now (scratch .exit)) r ⌝ }
 {
     let used = a[3] as usize;
@@ -130,7 +133,7 @@ fn look(
     figures: Figures,
     end: End,
 ) -> bool
-    requires { ⌜ Half (side end) (now a) (now marks) (now scratch) × FiguresOf (side end) (now a) (figures .n) (figures .add) × Lookable (now a) (now places) from to ⌝ }
+    requires { ⌜ Half (side end) (now a) (now marks) (now scratch) × FiguresOf (side end) (now a) (figures .n) (figures .base) (figures .add) × Lookable (now a) (now places) from to ⌝ }
     ensures { λ r. ⌜ Looked (side end) (now (a .entry)) (now (marks .entry)) (λ i. getD (now (places .entry)) i 0) from to (now (scratch .entry)) (now (scratch .exit)) r ⌝ }
 {
     let mut rose = false;

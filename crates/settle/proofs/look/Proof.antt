@@ -27,7 +27,7 @@ cast-raise : tie.Need-cast-raise Inv-loop μ-loop
 cast-raise c = omega (arith, c .shared-slice-known4 .given (c .before .before .loop .i))
 
 raise-requires : tie.Need-raise-requires Inv-loop μ-loop
-raise-requires c κs = (c .before .before .before .loop .inv .looked .half, (c .before .before .before .loop .inv .size, c .before .before .before .before .before .before .before .before .pre .1 .1), line-here (c .before .before .before .loop .inv) (omega arith))
+raise-requires c κs = (c .before .before .before .loop .inv .looked .half, c .before .before .before .before .before .before .before .before .pre .1, line-here (c .before .before .before .loop .inv) (omega arith))
 
 add-i : tie.Need-add-i Inv-loop μ-loop
 add-i c = omega (arith, c .before .before .before .before .before .before .before .before .before .before .before .before .pre .2 .inside, c .before .before .before .before .before .before .before .before .before .before .before .before .good)

@@ -51,7 +51,7 @@ add-at : tie.Need-add-at Inv-loop μ-loop
 add-at c = omega (arith, sweep-less (c .before .before .before .before .loop .inv) (omega arith) _ (c .span-of .ensures), c .before .before .before .before .before .before .before .before .before .before .good)
 
 raise-requires : tie.Need-raise-requires Inv-loop μ-loop
-raise-requires c κs = (c .before .before .before .before .before .loop .inv .looked .half, (c .before .before .before .before .before .loop .inv .size, c .before .before .before .before .before .before .before .before .before .before .before .pre .1 .1), sweep-line (c .before .before .before .before .before .loop .inv) (omega arith))
+raise-requires c κs = (c .before .before .before .before .before .loop .inv .looked .half, c .before .before .before .before .before .before .before .before .before .before .before .pre .1, sweep-line (c .before .before .before .before .before .loop .inv) (omega arith))
 
 loop-less : tie.Need-loop-less Inv-loop μ-loop
 loop-less c = omega (arith, sweep-less (c .before .before .before .before .before .before .before .before .before .loop .inv) (omega arith) _ (c .before .before .before .before .before .span-of .ensures))
