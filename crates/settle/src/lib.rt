@@ -159,16 +159,23 @@ fn wake_heads(words: &mut [u64], heads: &[u16], from: usize, to: usize)
     }
 }
 
-// The heads of the rules that have the literal `code` wait.
-pub fn wake(a: &[u16], users: &[u16], words: &mut [u64], code: u16)
-    requires { ⌜ (sound (now a) ≡ true) × Users (now a) (now users) × (code < 2 * conditionsOf (now a)) × WaitSet (conditionsOf (now a)) (now words) ⌝ }
+// The heads of the rules that have the literal `code` wait; the first `base` numbers of the index say where each group begins.
+fn wake_group(a: &[u16], users: &[u16], base: usize, words: &mut [u64], code: u16)
+    requires { ⌜ (sound (now a) ≡ true) × Users (now a) (now users) × (code < 2 * conditionsOf (now a)) × WaitSet (conditionsOf (now a)) (now words) × (base ≡ 2 * conditionsOf (now a) + 1) ⌝ }
     ensures { λ _. ⌜ Woken (now (a .entry)) code (now (words .entry)) (now (words .exit)) ⌝ }
 {
-    let base = 2 * a[1] as usize + 1;
     let start = &users[0..base];
     let heads = &users[base..];
     let t = code as usize;
     wake_heads(words, heads, start[t] as usize, start[t + 1] as usize);
+}
+
+// The same, where `base` is not at hand.
+pub fn wake(a: &[u16], users: &[u16], words: &mut [u64], code: u16)
+    requires { ⌜ (sound (now a) ≡ true) × Users (now a) (now users) × (code < 2 * conditionsOf (now a)) × WaitSet (conditionsOf (now a)) (now words) ⌝ }
+    ensures { λ _. ⌜ Woken (now (a .entry)) code (now (words .entry)) (now (words .exit)) ⌝ }
+{
+    wake_group(a, users, 2 * a[1] as usize + 1, words, code);
 }
 
 // Takes out one that waits after the other and looks at its lines; if it rose, whoever names it plainly waits. Whether any rose.
@@ -188,6 +195,7 @@ fn drain(
     let k = n + 1;
     let first = &lines[0..k];
     let places = &lines[k..];
+    let base = 2 * n + 1;
     let figures = figures_of(a, end);
     let mut changed = false;
     let mut c = bits::any_in(words, 0);
@@ -198,7 +206,7 @@ fn drain(
         let to = first[t + 1] as usize;
         if look(a, places, from, to, marks, scratch, figures, end) {
             changed = true;
-            wake(a, users, words, 2 * c);
+            wake_group(a, users, base, words, 2 * c);
         }
         c = bits::any_in(words, c);
     }

@@ -13,10 +13,10 @@ use Rattle.settle.proofs.drain.Statement.{statement}
 use Rattle.settle.proofs.drain.Tie as tie
 
 abbrev Inv-loop : tie.InvT-loop
-Inv-loop a lines users marks scratch₀ words₀ end n k first places figures changed₀ c₀ scratch words changed c = Drains (side end) a marks first places users n scratch₀ scratch words changed c
+Inv-loop a lines users marks scratch₀ words₀ end n k first places base figures changed₀ c₀ scratch words changed c = Drains (side end) a marks first places users n scratch₀ scratch words changed c
 
 abbrev μ-loop : tie.MeasureT-loop
-μ-loop a lines users marks scratch₀ words₀ end n k first places figures changed₀ c₀ scratch words changed c = left (side end) a scratch words
+μ-loop a lines users marks scratch₀ words₀ end n k first places base figures changed₀ c₀ scratch words changed c = left (side end) a scratch words
 
 shared-slice-read-n : tie.Need-shared-slice-read-n Inv-loop μ-loop
 shared-slice-read-n c = let s = c .before .before .before .before .before .before .before in omega (arith, head-of (s .args .a .now) (s .pre .0 .page-sound))
@@ -47,6 +47,12 @@ part-places-start c = c .before .before .before .before .before .before .before 
 
 part-places-end : tie.Need-part-places-end Inv-loop μ-loop
 part-places-end c = search needs
+
+mul-base : tie.Need-mul-base Inv-loop μ-loop
+mul-base c = let s = c .before .before .before .before .before .before .before .before .before in omega (arith, head-of (s .args .a .now) (s .pre .0 .page-sound))
+
+add-base : tie.Need-add-base Inv-loop μ-loop
+add-base c = let s = c .before .before .before .before .before .before .before .before .before in omega (arith, head-of (s .args .a .now) (s .pre .0 .page-sound))
 
 figures-of-requires : tie.Need-figures-of-requires Inv-loop μ-loop
 figures-of-requires c κs = search needs
@@ -87,11 +93,11 @@ cast-to c = omega (arith, c .shared-slice-known7 .given (c .before .before .befo
 look-requires : tie.Need-look-requires Inv-loop μ-loop
 look-requires c κs = let l = c .before .before .before .before .before .before .before .before .loop in (l .inv .draining .settling .half, c .before .before .before .before .before .before .before .before .before .before .before .figures-of .ensures, drains-group (l .inv) (omega arith))
 
-mul-wake : tie.Need-mul-wake Inv-loop μ-loop
-mul-wake c = let l = c .before .before .before .before .before .before .before .before .before .before .before .before .before .loop in omega (arith, drains-few (l .inv) (omega arith), drains-real (l .inv) (omega arith))
+mul-wake-group : tie.Need-mul-wake-group Inv-loop μ-loop
+mul-wake-group c = let l = c .before .before .before .before .before .before .before .before .before .before .before .before .before .loop in omega (arith, drains-few (l .inv) (omega arith), drains-real (l .inv) (omega arith))
 
-wake-requires : tie.Need-wake-requires Inv-loop μ-loop
-wake-requires c κs = let l = c .before .before .before .before .before .before .before .before .before .before .before .before .before .loop in (l .inv .draining .settling .half .page-sound, l .inv .users-in, omega (arith, drains-real (l .inv) (omega arith)), drains-set (l .inv) (omega arith) _ (c .before .before .before .before .before .before .before .before .before .before .remove .ensures))
+wake-group-requires : tie.Need-wake-group-requires Inv-loop μ-loop
+wake-group-requires c κs = let l = c .before .before .before .before .before .before .before .before .before .before .before .before .before .loop in (l .inv .draining .settling .half .page-sound, l .inv .users-in, omega (arith, drains-real (l .inv) (omega arith)), drains-set (l .inv) (omega arith) _ (c .before .before .before .before .before .before .before .before .before .before .remove .ensures), refl)
 
 any-in-requires-2 : tie.Need-any-in-requires-2 Inv-loop μ-loop
 any-in-requires-2 c κs = (⊎-elim (λ w. ap length (w .5) ∙ w .2 .ensures .set .size) (λ w. ap length (w .1) ∙ c .before .before .before .before .before .before .before .before .before .before .remove .ensures .0) (c .before .if1 .came), omega arith)
@@ -127,6 +133,8 @@ drain-spec =
     sub-places
     part-places-start
     part-places-end
+    mul-base
+    add-base
     figures-of-requires
     any-in-requires
     loop-holds
@@ -140,8 +148,8 @@ drain-spec =
     shared-slice-read-to
     cast-to
     look-requires
-    mul-wake
-    wake-requires
+    mul-wake-group
+    wake-group-requires
     any-in-requires-2
     loop-less
     loop-again
