@@ -111,6 +111,7 @@ fn lines_ok(a: &[u16], used: usize, count: u16, top: u16, n: u16) -> bool
     requires { ⌜ (used ≤ length (now a)) × (firstLine (now a) ≤ used) × (n ≤ 512) ⌝ }
     ensures { λ r. ⌜ r ≡ linesOk top n count (used - firstLine (now (a .entry))) (drop (firstLine (now (a .entry))) (now (a .entry))) ⌝ }
 {
+    let codes = 2 * n;
     let mut line = Cursor::first(a);
     'lines: while line.passed < count {
         let at = line.at;
@@ -126,7 +127,7 @@ fn lines_ok(a: &[u16], used: usize, count: u16, top: u16, n: u16) -> bool
                 }
                 let mut j: u16 = 0;
                 while j < y {
-                    if 2 * n <= a[at + 4 + j as usize] {
+                    if codes <= a[at + 4 + j as usize] {
                         break 'lines;
                     }
                     j += 1;

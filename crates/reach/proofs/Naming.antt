@@ -9,11 +9,15 @@ use lib.Dec.{eqb, ltb}
 use lib.ListN.{length, getD, take, drop, drop-of-length-le}
 use lib.Seq.{drop-cons}
 use borrow.Author.Tests.{ltb-true, lt-ltb}
-use Rattle.semantics.specs.Area.{sound, conditionsOf, literalOf, allUnder}
+use Rattle.semantics.specs.Area.{sound, topOf, conditionsOf, literalOf, allUnder}
 use Rattle.semantics.specs.Page.{positive, negative, conditionOf, mentions}
 use Rattle.semantics.specs.Table.{listed}
 use Rattle.semantics.proofs.Soundness.{both-true}
+use Rattle.page.specs.Graded.{RuleAt}
+use Rattle.page.proofs.Entries.{code-in}
 use Rattle.page.proofs.Head.{head-of}
+use Rattle.reach.specs.Sets.{Inserts}
+use Rattle.reach.proofs.Inserting.{Inserting, inserting-next}
 
 -- the queries
 pub under-at : (m : ℕ) (xs : List ℕ) → allUnder m xs ≡ true → (i : ℕ) → i < length xs → getD xs i 0 < m
@@ -68,6 +72,25 @@ module _ (a : List ℕ) (x b : ℕ) where
   pub mentions-none : (r : ℕ) → r ≡ 0 → mentions (map literalOf (take r (drop x a))) b ≡ false
   unfolding mentions
   mentions-none r e = rw e
+
+-- a loop over the literals of the rule at a place puts what they name into a set: the conditions of the literals from j on are still to come
+module _ (a : List ℕ) (at : ℕ) where
+  abbrev y : ℕ
+  y = getD a (at + 3) 0
+
+  abbrev pub literalsFrom : ℕ → ℕ → Bool
+  literalsFrom j = mentions (map literalOf (take (y - j) (drop (at + 4 + j) a)))
+
+  pub literal-small : RuleAt (topOf a) (conditionsOf a) a at → conditionsOf a ≤ 512 → (j : ℕ) → j < y → getD a (at + 4 + j) 0 / 2 < 512
+  literal-small r few j l = omega (arith, code-in (topOf a) (conditionsOf a) a at r j l)
+
+  module _ (r : RuleAt (topOf a) (conditionsOf a) a at) {A : Type 0} {holds : List A → ℕ → Bool} {n : ℕ} {f : ℕ → Bool} {words₀ words words′ : List A} {new added j : ℕ}
+      (s : Inserting holds n f (literalsFrom j) words₀ words new) (l : j < y) where
+    pub literal-next : Inserts holds n (eqb (getD a (at + 4 + j) 0 / 2)) words words′ added → Inserting holds n f (literalsFrom (j + 1)) words₀ words′ (new + added)
+    literal-next one =
+        let e : y - j - 1 ≡ y - (j + 1) = omega arith in
+        let d : at + 4 + j + 1 ≡ at + 4 + (j + 1) = omega arith in
+        inserting-next s one (λ b. rw (e, d) at (mentions-on a (at + 4 + j) b (omega (arith, r .fits)) (y - j) (omega arith)))
 
 pub iff-eq : (a b : Bool) → (a ≡ true → b ≡ true) → (b ≡ true → a ≡ true) → a ≡ b
 iff-eq true b f g = sym (f refl)

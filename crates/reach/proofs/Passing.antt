@@ -218,7 +218,7 @@ module _ (page : Page) (qs : List ℕ) where
     beyond : (k c : ℕ) → n ≤ c → member (at page qs k) c ≡ false
     beyond k c l = List·getD-eq-default (at page qs k) false (omega (arith, at-length page qs k))
 
-    pub finding-first : {blank found : List ℕ} → Cleared blank → Joins (λ c. listed c qs) blank found → Finding found found 0 0 0
+    pub finding-first : {blank found : List ℕ} → Cleared blank → Joins has 8 (λ c. listed c qs) blank found → Finding found found 0 0 0
     finding-first {found = found} z h =
         record {
           found-size = h .size;

@@ -3,7 +3,7 @@ use mathlib.Core.Path.{_≡_, refl, sym, _∙_, ap}
 use mathlib.Core.Logic.{_≢_}
 use mathlib.Core.Bool.{Bool, true, false, not, _&&_, _||_}
 use mathlib.Core.List.{List}
-use Prim.Native.Nat.{ℕ, zero, suc, _+_, _-_, _/_, _≤_, _<_}
+use Prim.Native.Nat.{ℕ, zero, suc, _+_, _/_, _≤_, _<_}
 use native.Mathlib.Decide.{decLe}
 use native.Mathlib.Omega.{arith}
 use lib.Dec.{eqb}
@@ -11,14 +11,13 @@ use lib.ListN.{length, getD, drop}
 use borrow.Author.Tests.{eq-eqb, ne-eqb}
 use Rattle.fixpoint.specs.Sum.{sum, bit, count}
 use Rattle.fixpoint.proofs.Sum.{sum-eq, sum-zero}
-use Rattle.semantics.specs.Area.{sound, firstLine, pageOf, lineAt, topOf, conditionsOf, countOf, usedOf}
+use Rattle.semantics.specs.Area.{sound, firstLine, pageOf, lineAt, topOf, conditionsOf, countOf}
 use Rattle.semantics.specs.Page.{Line, names, linesName}
 use Rattle.semantics.proofs.Readings.{names-inside}
 use Rattle.semantics.proofs.Soundness.{sound-proper}
-use Rattle.page.specs.Graded.{SoundEntry}
 use Rattle.page.specs.Lines.{Next, lineNames}
 use Rattle.page.proofs.Naming.{lines-name}
-use Rattle.page.proofs.Scan.{entry-four, entry-head}
+use Rattle.page.proofs.Scan.{entry-head}
 use Rattle.page.proofs.Scanning.{Scanning, linesLeft, scanning-first, lines-first, scanning-moved, lines-moved, lines-none, entry-ok}
 use Rattle.index.specs.Groups.{Cleared}
 use Rattle.bits.specs.Words.{has, Absorbed}
@@ -26,13 +25,7 @@ use Rattle.bits.proofs.Sets.{word-none}
 use Rattle.reach.specs.Sets.{Inserts, Followed}
 use Rattle.reach.proofs.Inserting.{Inserting, inserting-first, inserting-next, inserting-skip, inserting-last}
 
--- the entry where a scan stands
-pub scanned-entry : (a : List ℕ) {at k : ℕ} → Scanning a at k → k < countOf a → SoundEntry (topOf a) (conditionsOf a) (usedOf a - at) a at
-scanned-entry a {at} s l =
-    let e = entry-ok a s l in
-    record { fits = omega (arith, s .in-used, s .in-area); four = entry-four (topOf a) (conditionsOf a) (usedOf a - at) a at e; tests = e }
-
--- and its head is a condition
+-- the head of the line where a scan stands is a condition
 pub scanned-head : (a : List ℕ) {at k : ℕ} → Scanning a at k → k < countOf a → getD a at 0 < pageOf a .conditions
 unfolding pageOf
 scanned-head a {at} s l = entry-head (topOf a) (conditionsOf a) _ a at (entry-ok a s l)
@@ -41,7 +34,7 @@ scanned-head a {at} s l = entry-head (topOf a) (conditionsOf a) _ a at (entry-ok
 module _ (a : List ℕ) (c : ℕ) (words₀ : List ℕ) where
   pub record Gathering (words : List ℕ) (at k new : ℕ) : Type 0 where
     pub scan : Scanning a at k
-    pub inserting : Inserting (names (pageOf a) c) (λ b. linesName (linesLeft a at k) c b) words₀ words new
+    pub inserting : Inserting has 8 (names (pageOf a) c) (λ b. linesName (linesLeft a at k) c b) words₀ words new
 
   pub gathering-first : sound a ≡ true → length words₀ ≡ 8 → {at k : ℕ} → (at ≡ firstLine a) × (k ≡ 0) → Gathering words₀ at k 0
   gathering-first e s {at} {k} z =
@@ -56,7 +49,7 @@ module _ (a : List ℕ) (c : ℕ) (words₀ : List ℕ) where
     rest-is b = ap (λ (ls : List Line). linesName ls c b) (lines-moved a (s .scan) l e) ∙ lines-name a at c b (linesLeft a at′ k′)
 
     -- a line of c, and one of another condition
-    pub gathering-next : {words′ : List ℕ} {added : ℕ} → getD a at 0 ≡ c → Inserts (lineNames (lineAt (drop at a))) words words′ added → Gathering words′ at′ k′ (new + added)
+    pub gathering-next : {words′ : List ℕ} {added : ℕ} → getD a at 0 ≡ c → Inserts has 8 (lineNames (lineAt (drop at a))) words words′ added → Gathering words′ at′ k′ (new + added)
     gathering-next q h =
         record {
           scan = scanning-moved a (s .scan) l e;
@@ -70,7 +63,7 @@ module _ (a : List ℕ) (c : ℕ) (words₀ : List ℕ) where
           inserting = inserting-skip (s .inserting) (λ b. rest-is b ∙ ap (λ (t : Bool). (t && lineNames (lineAt (drop at a)) b) || linesName (linesLeft a at′ k′) c b) (ne-eqb (getD a at 0) c q));
         }
 
-  pub gathering-last : {words : List ℕ} {at k new : ℕ} → Gathering words at k new → countOf a ≤ k → Inserts (names (pageOf a) c) words₀ words new
+  pub gathering-last : {words : List ℕ} {at k new : ℕ} → Gathering words at k new → countOf a ≤ k → Inserts has 8 (names (pageOf a) c) words₀ words new
   unfolding linesName
   gathering-last {at = at} {k = k} s l = inserting-last (s .inserting) (λ b. ap (λ (ls : List Line). linesName ls c b) (lines-none a at k l))
 
@@ -93,7 +86,7 @@ count-past n (suc k) s l h =
     ]
 
 -- the conditions named are gathered in an empty set: how many they are
-module _ (a : List ℕ) (ok : sound a ≡ true) (c : ℕ) {blank named : List ℕ} {edges : ℕ} (empty : Cleared blank) (h : Inserts (names (pageOf a) c) blank named edges) where
+module _ (a : List ℕ) (ok : sound a ≡ true) (c : ℕ) {blank named : List ℕ} {edges : ℕ} (empty : Cleared blank) (h : Inserts has 8 (names (pageOf a) c) blank named edges) where
   named-is : (k : ℕ) → k < 512 → has named k ≡ names (pageOf a) c k
   named-is k l = h .joins .is k l ∙ ap (λ (t : Bool). t || names (pageOf a) c k) (blank-none blank empty k)
 

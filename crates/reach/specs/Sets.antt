@@ -1,4 +1,4 @@
--- Sets of conditions as words, and what a scan over a page's lines does to them. Assumes nothing.
+-- Sets of conditions as words or as marks, and what a scan over a page's lines does to them. Assumes nothing.
 use mathlib.Core.Path.{_≡_}
 use mathlib.Core.Bool.{Bool, true, cond, not, _&&_, _||_}
 use mathlib.Core.List.{List}
@@ -12,15 +12,15 @@ use Rattle.semantics.specs.Reading.{closure, IsPassCount}
 use Rattle.semantics.specs.Table.{member, anyBelow}
 use Rattle.bits.specs.Words.{has}
 
--- the set with the conditions of f
-pub record Joins (f : ℕ → Bool) (before after : List ℕ) : Type 0 where
-  pub size : length after ≡ 8
-  pub is : (c : ℕ) → c < 512 → has after c ≡ (has before c || f c)
+-- A list of the length n holds a set: of words (`has`, 8) or of marks (`member`, 512). The set with the conditions of f
+pub record Joins {A : Type 0} (holds : List A → ℕ → Bool) (n : ℕ) (f : ℕ → Bool) (before after : List A) : Type 0 where
+  pub size : length after ≡ n
+  pub is : (c : ℕ) → c < 512 → holds after c ≡ (holds before c || f c)
 
 -- the same, and `added` of them are new
-pub record Inserts (f : ℕ → Bool) (before after : List ℕ) (added : ℕ) : Type 0 where
-  pub joins : Joins f before after
-  pub counted : count 512 (has after) ≡ count 512 (has before) + added
+pub record Inserts {A : Type 0} (holds : List A → ℕ → Bool) (n : ℕ) (f : ℕ → Bool) (before after : List A) (added : ℕ) : Type 0 where
+  pub joins : Joins holds n f before after
+  pub counted : count 512 (holds after) ≡ count 512 (holds before) + added
 
 -- eight words whose conditions are below n
 abbrev pub Inside : ℕ → List ℕ → Type 0
@@ -60,13 +60,13 @@ pub record Counted (page : Page) (words : List ℕ) (reached edges : ℕ) : Type
   pub reached-is : reached ≡ count (page .conditions) (has words)
   pub edges-is : edges ≡ sum (page .conditions) (λ c. cond (has words c) (count (page .conditions) (names page c)) 0)
 
--- the set grows by `new` conditions that its own name, directly or not; with none new it names only itself
-pub record Swept (page : Page) (before after : List ℕ) (new : ℕ) : Type 0 where
-  pub size : length after ≡ 8
-  pub grows : (c : ℕ) → c < 512 → has before c ≡ true → has after c ≡ true
-  pub inside : (s : ℕ → Bool) → DependencyClosed (page .conditions) (names page) s → ((c : ℕ) → c < 512 → has before c ≡ true → s c ≡ true) → (c : ℕ) → c < 512 → has after c ≡ true → s c ≡ true
-  pub counted : count 512 (has after) ≡ count 512 (has before) + new
-  pub settled : new ≡ 0 → DependencyClosed (page .conditions) (names page) (has after)
+-- the marked set grows by `new` conditions that its own name, directly or not; with none new it names only itself
+pub record Swept (page : Page) (before after : List Bool) (new : ℕ) : Type 0 where
+  pub size : length after ≡ 512
+  pub grows : (c : ℕ) → c < 512 → member before c ≡ true → member after c ≡ true
+  pub inside : (s : ℕ → Bool) → DependencyClosed (page .conditions) (names page) s → ((c : ℕ) → c < 512 → member before c ≡ true → s c ≡ true) → (c : ℕ) → c < 512 → member after c ≡ true → s c ≡ true
+  pub counted : count 512 (member after) ≡ count 512 (member before) + new
+  pub settled : new ≡ 0 → DependencyClosed (page .conditions) (names page) (member after)
 
 -- the marks of those of the set that are below n
 pub record MarksBelow (n : ℕ) (words : List ℕ) (marks : List Bool) : Type 0 where

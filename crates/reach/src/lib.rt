@@ -8,18 +8,19 @@ ghost use Rattle.semantics.specs.Area.{sound, lineAt, allUnder, literalOf, page
 ghost use Rattle.semantics.specs.Operation.{openOf};
 ghost use Rattle.semantics.specs.Page.{mentions, names};
 ghost use Rattle.semantics.specs.RunArea.{markOf};
-ghost use Rattle.semantics.specs.Table.{listed};
+ghost use Rattle.semantics.specs.Table.{member, listed};
+ghost use Rattle.bits.specs.Words.{has};
 ghost use Rattle.index.specs.Groups.{Cleared};
 ghost use Rattle.page.specs.Graded.{RuleAt, SoundEntry};
 ghost use Rattle.page.specs.Lines.{lineNames};
 ghost use Rattle.reach.specs.Opening.{openingOf, accepted, Written};
 ghost use Rattle.reach.specs.Marks.{Unmarked, ClosureMarks};
-ghost use Rattle.reach.specs.Sets.{Joins, Inserts, Inside, Followed, Passed, ClosureSet, FoundIn, Counted, Swept, MarksBelow};
+ghost use Rattle.reach.specs.Sets.{Joins, Inserts, Inside, Followed, Passed, FoundIn, Counted, Swept, MarksBelow};
 
 // Puts the queries into the set.
 fn insert_queries(queries: &[u16], words: &mut [u64])
     requires { ⌜ (allUnder 512 (now queries) ≡ true) × (length (now words) ≡ 8) ⌝ }
-    ensures { λ _. ⌜ Joins (λ c. listed c (now (queries .entry))) (now (words .entry)) (now (words .exit)) ⌝ }
+    ensures { λ _. ⌜ Joins has 8 (λ c. listed c (now (queries .entry))) (now (words .entry)) (now (words .exit)) ⌝ }
 {
     let mut i: usize = 0;
     while i < queries.len() {
@@ -31,7 +32,7 @@ fn insert_queries(queries: &[u16], words: &mut [u64])
 // Puts the conditions that the literals of the rule at `at` name into the set; answers how many are new.
 fn insert_literals(a: &[u16], at: usize, words: &mut [u64]) -> u32
     requires { ⌜ RuleAt (topOf (now a)) (conditionsOf (now a)) (now a) at × (conditionsOf (now a) ≤ 512) × (length (now words) ≡ 8) ⌝ }
-    ensures { λ r. ⌜ Inserts (mentions (map literalOf (take (getD (now (a .entry)) (at + 3) 0) (drop (at + 4) (now (a .entry)))))) (now (words .entry)) (now (words .exit)) r ⌝ }
+    ensures { λ r. ⌜ Inserts has 8 (mentions (map literalOf (take (getD (now (a .entry)) (at + 3) 0) (drop (at + 4) (now (a .entry)))))) (now (words .entry)) (now (words .exit)) r ⌝ }
 {
     let y = a[at + 3];
     let mut new: u32 = 0;
@@ -46,7 +47,7 @@ fn insert_literals(a: &[u16], at: usize, words: &mut [u64]) -> u32
 // Puts the conditions that the line at `at` names into the set, if it is an R line; answers how many are new.
 fn insert_line(a: &[u16], at: usize, words: &mut [u64]) -> u32
     requires { ⌜ SoundEntry (topOf (now a)) (conditionsOf (now a)) (usedOf (now a) - at) (now a) at × (conditionsOf (now a) ≤ 512) × (length (now words) ≡ 8) ⌝ }
-    ensures { λ r. ⌜ Inserts (lineNames (lineAt (drop at (now (a .entry))))) (now (words .entry)) (now (words .exit)) r ⌝ }
+    ensures { λ r. ⌜ Inserts has 8 (lineNames (lineAt (drop at (now (a .entry))))) (now (words .entry)) (now (words .exit)) r ⌝ }
 {
     let k = a[at + 1];
     match k {
@@ -58,7 +59,7 @@ fn insert_line(a: &[u16], at: usize, words: &mut [u64]) -> u32
 // Puts the conditions that the R lines of c name into the set, in one scan over the lines; answers how many are new.
 fn insert_named(a: &[u16], c: u16, words: &mut [u64]) -> u32
     requires { ⌜ (sound (now a) ≡ true) × (length (now words) ≡ 8) ⌝ }
-    ensures { λ r. ⌜ Inserts (names (pageOf (now (a .entry))) c) (now (words .entry)) (now (words .exit)) r ⌝ }
+    ensures { λ r. ⌜ Inserts has 8 (names (pageOf (now (a .entry))) c) (now (words .entry)) (now (words .exit)) r ⌝ }
 {
     let mut left = a[2];
     let mut line = page::Cursor::first(a);
@@ -160,18 +161,61 @@ fn mark_set(words: &[u64], n: u16, marks: &mut [bool])
     }
 }
 
-// One pass over the lines: what a line of a condition of the set names is put into the set; answers how many are new.
-fn sweep(a: &[u16], set: &mut [u64]) -> u32
-    requires { ⌜ (sound (now a) ≡ true) × (length (now set) ≡ 8) ⌝ }
-    ensures { λ r. ⌜ Swept (pageOf (now (a .entry))) (now (set .entry)) (now (set .exit)) r ⌝ }
+// Marks the queries.
+fn mark_queries(queries: &[u16], marks: &mut [bool])
+    requires { ⌜ (allUnder 512 (now queries) ≡ true) × (length (now marks) ≡ 512) ⌝ }
+    ensures { λ _. ⌜ Joins member 512 (λ c. listed c (now (queries .entry))) (now (marks .entry)) (now (marks .exit)) ⌝ }
+{
+    let mut i: usize = 0;
+    while i < queries.len() {
+        marks[queries[i] as usize] = true;
+        i += 1;
+    }
+}
+
+// Marks the conditions that the literals of the rule at `at` name; answers how many are new.
+fn mark_literals(a: &[u16], at: usize, marks: &mut [bool]) -> u32
+    requires { ⌜ RuleAt (topOf (now a)) (conditionsOf (now a)) (now a) at × (conditionsOf (now a) ≤ 512) × (length (now marks) ≡ 512) ⌝ }
+    ensures { λ r. ⌜ Inserts member 512 (mentions (map literalOf (take (getD (now (a .entry)) (at + 3) 0) (drop (at + 4) (now (a .entry)))))) (now (marks .entry)) (now (marks .exit)) r ⌝ }
+{
+    let y = a[at + 3];
+    let mut new: u32 = 0;
+    let mut j: u16 = 0;
+    while j < y {
+        let c = (a[at + 4 + j as usize] / 2) as usize;
+        if !marks[c] {
+            marks[c] = true;
+            new += 1;
+        }
+        j += 1;
+    }
+    new
+}
+
+// Marks the conditions that the line at `at` names, if it is an R line; answers how many are new.
+fn mark_line(a: &[u16], at: usize, marks: &mut [bool]) -> u32
+    requires { ⌜ SoundEntry (topOf (now a)) (conditionsOf (now a)) (usedOf (now a) - at) (now a) at × (conditionsOf (now a) ≤ 512) × (length (now marks) ≡ 512) ⌝ }
+    ensures { λ r. ⌜ Inserts member 512 (lineNames (lineAt (drop at (now (a .entry))))) (now (marks .entry)) (now (marks .exit)) r ⌝ }
+{
+    let k = a[at + 1];
+    match k {
+        1..=5 => mark_literals(a, at, marks),
+        _ => 0,
+    }
+}
+
+// One pass over the lines: what a line of a marked condition names is marked; answers how many are new.
+fn sweep(a: &[u16], marks: &mut [bool]) -> u32
+    requires { ⌜ (sound (now a) ≡ true) × (length (now marks) ≡ 512) ⌝ }
+    ensures { λ r. ⌜ Swept (pageOf (now (a .entry))) (now (marks .entry)) (now (marks .exit)) r ⌝ }
 {
     let mut left = a[2];
     let mut line = page::Cursor::first(a);
     let mut new: u32 = 0;
     while 0 < left {
         let at = line.at;
-        if bits::contains(set, a[at]) {
-            new += insert_line(a, at, set);
+        if marks[a[at] as usize] {
+            new += mark_line(a, at, marks);
         }
         line = line.next(a);
         left -= 1;
@@ -179,27 +223,14 @@ fn sweep(a: &[u16], set: &mut [u64]) -> u32
     new
 }
 
-// The closure of the queries, by passes over all lines until one adds nothing: fewer scans, where E is not asked for.
-fn spread(a: &[u16], queries: &[u16]) -> [u64; 8]
-    requires { ⌜ (sound (now a) ≡ true) × (allUnder (conditionsOf (now a)) (now queries) ≡ true) ⌝ }
-    ensures { λ r. ⌜ ClosureSet (pageOf (now (a .entry))) (now (queries .entry)) r ⌝ }
-{
-    let mut set = [0u64; 8];
-    insert_queries(queries, &mut set);
-    loop {
-        if sweep(a, &mut set) == 0 {
-            return set;
-        }
-    }
-}
-
-// Marks the closure of the queries, where nothing is marked yet.
+// Marks the closure of the queries, where nothing is marked yet, by passes over all lines until one adds nothing: fewer scans, where E is
+// not asked for.
 pub fn mark_closure(a: &[u16], queries: &[u16], marks: &mut [bool])
     requires { ⌜ (sound (now a) ≡ true) × (allUnder (conditionsOf (now a)) (now queries) ≡ true) × Unmarked (now marks) ⌝ }
     ensures { λ _. ⌜ ClosureMarks (pageOf (now (a .entry))) (now (queries .entry)) (now (marks .exit)) ⌝ }
 {
-    let set = spread(a, queries);
-    mark_set(&set, a[1], marks);
+    mark_queries(queries, marks);
+    while 0 < sweep(a, marks) {}
 }
 
 // R + top × E.

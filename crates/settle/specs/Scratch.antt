@@ -13,7 +13,7 @@ use Rattle.fixpoint.specs.Interval.{Interval, Within, Assign}
 use Rattle.fixpoint.specs.ChaoticIteration.{DependencyClosed}
 use Rattle.semantics.specs.Area.{sound, lineAt, pageOf, topOf, conditionsOf}
 use Rattle.semantics.specs.Body.{lineBody, T, unknownByDefault}
-use Rattle.semantics.specs.Grade.{End, lower, upper}
+use Rattle.semantics.specs.Grade.{End, lower, upper, rounding}
 use Rattle.semantics.specs.Page.{names}
 use Rattle.semantics.specs.Table.{member}
 use Rattle.index.specs.Readers.{linesRead}
@@ -39,6 +39,10 @@ settledAt e a s c = settledEnd e (conditionsOf a) (topOf a) (T (pageOf a)) (unkn
 
 abbrev pub roomAt : End → (a s : List ℕ) → ℕ
 roomAt e a s = room e (conditionsOf a) (topOf a) (held (conditionsOf a) s)
+
+-- how many conditions there are, where the table of the end e begins, and what e adds before a division
+abbrev pub FiguresOf : End → (a : List ℕ) (n base add : ℕ) → Type 0
+FiguresOf e a n base add = (n ≡ conditionsOf a) × (base ≡ baseOf n e) × (add ≡ rounding e (topOf a))
 
 -- a half under way: grades, the negations of the other ends, and no end above what it comes to
 pub record Half (e : End) (a : List ℕ) (m : List Bool) (s : List ℕ) : Type 0 where

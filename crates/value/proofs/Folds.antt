@@ -8,7 +8,7 @@ use native.Mathlib.Omega.{arith}
 use lib.ListN.{length, getD, drop, drop-of-length-le, length-take, length-drop}
 use lib.Seq.{drop-cons, getD-take, getD-drop}
 use Rattle.semantics.specs.Area.{kind, ruleKind}
-use Rattle.semantics.specs.Grade.{End, Op, M, X, L, B, P, combine}
+use Rattle.semantics.specs.Grade.{End, Op, M, X, L, B, P, combine, divided, rounding}
 use Rattle.semantics.proofs.Ops.{combine-bounded}
 use Rattle.value.specs.LineEnds.{slice, numbersOf, Listed, Foldable, Folded, excess, bounded, product}
 
@@ -102,9 +102,9 @@ module _ (top k : ℕ) (e : End) (codes values : List ℕ) (first r : ℕ) where
   unfolding kind combine
   folded-b h = folded-as B (rw h)
 
-  pub folded-p : k ≡ 5 → Folded (product e top) codes values first r → OfKind
-  unfolding kind combine
-  folded-p h = folded-as P (rw h)
+  pub folded-p : {add : ℕ} → k ≡ 5 → add ≡ rounding e top → Folded (product add top) codes values first r → OfKind
+  unfolding kind combine divided
+  folded-p h a f = folded-as P (rw h) (subst (λ (x : ℕ). Folded (product x top) codes values first r) a f)
 
   pub folded-in : Foldable top codes values first → (op : Op) → Folded (combine top op e) codes values first r → r ≤ top
   folded-in w op h = rw (h .is) (fold-bounded top op e values codes first (w .start) (w .grades))

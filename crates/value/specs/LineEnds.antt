@@ -2,12 +2,12 @@
 -- Assumes nothing.
 use mathlib.Core.Path.{_≡_}
 use mathlib.Core.List.{List, [], _∷_, map, foldl}
-use Prim.Native.Nat.{ℕ, _+_, _*_, _-_, _≤_, _<_, min, max}
+use Prim.Native.Nat.{ℕ, _+_, _*_, _-_, _/_, _≤_, _<_, min, max}
 use lib.ListN.{length, getD, take, drop}
 use Rattle.fixpoint.specs.Interval.{Interval, Assign}
 use Rattle.semantics.specs.Area.{kind, ruleKind, literalOf, lineAt, topOf, conditionsOf}
 use Rattle.semantics.specs.Body.{ruleValue, lineBody}
-use Rattle.semantics.specs.Grade.{End, Op, divided}
+use Rattle.semantics.specs.Grade.{End, Op, rounding}
 use Rattle.value.specs.Table.{endOf, EndTable}
 
 -- the numbers of a list from one place up to another
@@ -45,8 +45,17 @@ excess top p q = max 0 ((p + q) - top)
 abbrev pub bounded : ℕ → ℕ → ℕ → ℕ
 bounded top p q = min top (p + q)
 
-abbrev pub product : End → ℕ → ℕ → ℕ → ℕ
-product e top p q = divided e (p * q) top
+-- P, with what is added before the division
+abbrev pub product : ℕ → ℕ → ℕ → ℕ → ℕ
+product add top p q = (p * q + add) / top
+
+-- `add` is what one of the ends adds before a division
+abbrev pub Adds : ℕ → ℕ → Type 0
+Adds top add = (e : End) × (add ≡ rounding e top)
+
+-- f holds of the end that adds it
+abbrev pub EndAdding : ℕ → ℕ → (End → Type 0) → Type 0
+EndAdding top add f = (e : End) → add ≡ rounding e top → f e
 
 -- r is the end e of the value of the rule at a place, for every assignment whose table it is
 pub record RuleEnd (e : End) (a values : List ℕ) (at r : ℕ) : Type 0 where

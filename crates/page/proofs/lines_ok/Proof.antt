@@ -12,16 +12,19 @@ use Rattle.page.proofs.lines_ok.Statement.{statement}
 use Rattle.page.proofs.lines_ok.Tie as tie
 
 abbrev Inv-loop : tie.InvT-loop
-Inv-loop a used count top n line at k y j₀ j = Remaining (allUnder (2 * n)) a (at + 4) y j
+Inv-loop a used count top n codes line at k y j₀ j = Remaining (allUnder (2 * n)) a (at + 4) y j
 
 abbrev μ-loop : tie.MeasureT-loop
-μ-loop a used count top n line at k y j₀ j = y - j
+μ-loop a used count top n codes line at k y j₀ j = y - j
 
 abbrev Inv-lines : tie.InvT-lines
-Inv-lines a used count top n line₀ line = Checking a used count top n (line .at) (line .passed)
+Inv-lines a used count top n codes line₀ line = Checking a used count top n (line .at) (line .passed)
 
 abbrev μ-lines : tie.MeasureT-lines
-μ-lines a used count top n line₀ line = count - line .passed
+μ-lines a used count top n codes line₀ line = count - line .passed
+
+mul-codes : tie.Need-mul-codes Inv-loop μ-loop Inv-lines μ-lines
+mul-codes c = omega (arith, c .before .pre .2)
 
 first-requires : tie.Need-first-requires Inv-loop μ-loop Inv-lines μ-lines
 first-requires c κs = tt
@@ -68,9 +71,6 @@ loop-holds c =
     let h = x .before .before in
     literals-first _ _ _ _ _ (h .before .before .lines .inv) (h .if1 .taken) (told-true (x .before .head-passes .ensures) (x .if2 .left)) (omega arith) (omega arith) (told-true (r .rule-passes .ensures) (c .if5 .left))
 
-mul-if6 : tie.Need-mul-if6 Inv-loop μ-loop Inv-lines μ-lines
-mul-if6 c = omega (arith, c .before .before .before .before .before .before .before .before .before .before .before .before .lines .inv .few)
-
 add-if6 : tie.Need-add-if6 Inv-loop μ-loop Inv-lines μ-lines
 add-if6 c = omega (arith, c .before .loop .inv .in-area)
 
@@ -80,8 +80,8 @@ cast-if6 c = omega (arith, c .before .loop .inv .in-area)
 add-if6-2 : tie.Need-add-if6-2 Inv-loop μ-loop Inv-lines μ-lines
 add-if6-2 c = omega (arith, c .before .loop .inv .in-area)
 
-mul-if6-2 : tie.Need-mul-if6-2 Inv-loop μ-loop Inv-lines μ-lines
-mul-if6-2 c = omega (arith, c .before .loop .inv .in-area)
+mul-if6 : tie.Need-mul-if6 Inv-loop μ-loop Inv-lines μ-lines
+mul-if6 c = omega (arith, c .before .loop .inv .in-area)
 
 shared-slice-read-if6 : tie.Need-shared-slice-read-if6 Inv-loop μ-loop Inv-lines μ-lines
 shared-slice-read-if6 c = omega (arith, c .before .before .loop .inv .in-area)
@@ -124,8 +124,8 @@ short-ok-requires c κs = short (c .before)
 add-to-3 : tie.Need-add-to-3 Inv-loop μ-loop Inv-lines μ-lines
 add-to-3 c = let x = c .before .before .before .before .before .before in omega (arith, four x, x .before .before .before .before .lines .inv .in-area)
 
-add-t17 : tie.Need-add-t17 Inv-loop μ-loop Inv-lines μ-lines
-add-t17 c = omega arith
+add-t18 : tie.Need-add-t18 Inv-loop μ-loop Inv-lines μ-lines
+add-t18 c = omega arith
 
 lines-less : tie.Need-lines-less Inv-loop μ-loop Inv-lines μ-lines
 lines-less c = omega arith
@@ -168,6 +168,7 @@ lines-ok-spec =
     μ-loop
     Inv-lines
     μ-lines
+    mul-codes
     first-requires
     lines-holds
     head-passes-requires
@@ -179,11 +180,10 @@ lines-ok-spec =
     shared-slice-read-y
     rule-passes-requires
     loop-holds
-    mul-if6
     add-if6
     cast-if6
     add-if6-2
-    mul-if6-2
+    mul-if6
     shared-slice-read-if6
     add-j
     loop-less
@@ -196,7 +196,7 @@ lines-ok-spec =
     shared-slice-read-short-ok
     short-ok-requires
     add-to-3
-    add-t17
+    add-t18
     lines-less
     lines-again
     returns

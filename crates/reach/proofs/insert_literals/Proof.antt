@@ -5,17 +5,17 @@ use Prim.Native.Nat.{_+_, _-_, _/_, _≤_}
 use native.Mathlib.Omega.{arith}
 use borrow.Author.Needs.{needs}
 use lib.ListN.{getD, take, drop}
-use Rattle.semantics.specs.Area.{literalOf, topOf, conditionsOf}
+use Rattle.semantics.specs.Area.{literalOf}
 use Rattle.semantics.specs.Page.{mentions}
-use Rattle.page.proofs.Entries.{code-in}
-use Rattle.reach.proofs.Inserting.{Inserting, inserting-first, inserting-next, inserting-last, inserting-few, inserts-few, inserts-one}
-use Rattle.reach.proofs.Naming.{mentions-on, mentions-none}
+use Rattle.bits.specs.Words.{has}
+use Rattle.reach.proofs.Inserting.{Inserting, inserting-first, inserting-last, inserting-few, inserts-few, inserts-one}
+use Rattle.reach.proofs.Naming.{mentions-none, literalsFrom, literal-small, literal-next}
 use Rattle.reach.proofs.insert_literals.Statement.{statement}
 use Rattle.reach.proofs.insert_literals.Tie as tie
 
 abbrev Inv-loop : tie.InvT-loop
 Inv-loop a at words₀ y new₀ j₀ words new j = (j ≤ y)
-    × Inserting (mentions (map literalOf (take y (drop (at + 4) a)))) (mentions (map literalOf (take (y - j) (drop (at + 4 + j) a)))) words₀ words new
+    × Inserting has 8 (mentions (map literalOf (take y (drop (at + 4) a)))) (literalsFrom a at j) words₀ words new
 
 abbrev μ-loop : tie.MeasureT-loop
 μ-loop a at words₀ y new₀ j₀ words new j = y - j
@@ -55,13 +55,13 @@ insert-new-requires : tie.Need-insert-new-requires Inv-loop μ-loop
 insert-new-requires c κs =
     let z = c .before .before .before .before .before .before .before in
     let h = c .before .before .before .loop in
-    (h .inv .1 .joining .size, omega (arith, z .pre .1, code-in (topOf (z .args .a .now)) (conditionsOf (z .args .a .now)) (z .args .a .now) (z .args .at) (z .pre .0) (h .j) (omega arith)))
+    (h .inv .1 .joining .size, literal-small (z .args .a .now) (z .args .at) (z .pre .0) (z .pre .1) (h .j) (omega arith))
 
 add-new : tie.Need-add-new Inv-loop μ-loop
 add-new c =
     let z = c .before .before .before .before .before .before .before .before .before .before in
     let h = c .before .before .before .before .before .before .loop in
-    let one = inserts-one (h .words) (c .before .before .insert-new .last .0) (getD (z .args .a .now) (z .args .at + 4 + h .j) 0 / 2) (c .before .before .insert-new .ensures .0) (omega (arith, z .pre .1, code-in (topOf (z .args .a .now)) (conditionsOf (z .args .a .now)) (z .args .a .now) (z .args .at) (z .pre .0) (h .j) (omega arith))) (c .before .before .insert-new .ensures .1) in
+    let one = inserts-one has (h .words) (c .before .before .insert-new .last .0) (getD (z .args .a .now) (z .args .at + 4 + h .j) 0 / 2) (c .before .before .insert-new .ensures .0) (literal-small (z .args .a .now) (z .args .at) (z .pre .0) (z .pre .1) (h .j) (omega arith)) (c .before .before .insert-new .ensures .1) in
     omega (arith, inserting-few (h .inv .1), inserts-few one)
 
 add-j : tie.Need-add-j Inv-loop μ-loop
@@ -74,11 +74,8 @@ loop-again : tie.Need-loop-again Inv-loop μ-loop
 loop-again c =
     let z = c .before .before .before .before .before .before .before .before .before .before in
     let h = c .before .before .before .before .before .before .loop in
-    let one = inserts-one (h .words) (c .before .before .insert-new .last .0) (getD (z .args .a .now) (z .args .at + 4 + h .j) 0 / 2) (c .before .before .insert-new .ensures .0) (omega (arith, z .pre .1, code-in (topOf (z .args .a .now)) (conditionsOf (z .args .a .now)) (z .args .a .now) (z .args .at) (z .pre .0) (h .j) (omega arith))) (c .before .before .insert-new .ensures .1) in
-    let y = getD (z .args .a .now) (z .args .at + 3) 0 in
-    let e : y - h .j - 1 ≡ y - (h .j + 1) = omega arith in
-    let d : z .args .at + 4 + h .j + 1 ≡ z .args .at + 4 + (h .j + 1) = omega arith in
-    (omega arith, inserting-next (h .inv .1) one (λ b. rw (e, d) at (mentions-on (z .args .a .now) (z .args .at + 4 + h .j) b (omega (arith, z .pre .0 .fits)) (y - h .j) (omega arith))))
+    let one = inserts-one has (h .words) (c .before .before .insert-new .last .0) (getD (z .args .a .now) (z .args .at + 4 + h .j) 0 / 2) (c .before .before .insert-new .ensures .0) (literal-small (z .args .a .now) (z .args .at) (z .pre .0) (z .pre .1) (h .j) (omega arith)) (c .before .before .insert-new .ensures .1) in
+    (omega arith, literal-next (z .args .a .now) (z .args .at) (z .pre .0) (h .inv .1) (omega arith) one)
 
 same-length : tie.Need-same-length Inv-loop μ-loop
 same-length c = c .before .loop .inv .1 .joining .size ∙ sym (c .before .before .before .before .before .pre .2)

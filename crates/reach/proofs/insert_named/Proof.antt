@@ -5,9 +5,9 @@ use Prim.Native.Nat.{_+_}
 use native.Mathlib.Omega.{arith}
 use Rattle.semantics.specs.Area.{countOf}
 use Rattle.page.proofs.Head.{head-of}
-use Rattle.page.proofs.Scanning.{entry-here}
+use Rattle.page.proofs.Scanning.{entry-here, entry-sound}
 use Rattle.reach.proofs.Inserting.{inserting-few, inserts-few}
-use Rattle.reach.proofs.Visiting.{Gathering, gathering-first, gathering-next, gathering-skip, gathering-last, scanned-entry}
+use Rattle.reach.proofs.Visiting.{Gathering, gathering-first, gathering-next, gathering-skip, gathering-last}
 use Rattle.reach.proofs.insert_named.Statement.{statement}
 use Rattle.reach.proofs.insert_named.Tie as tie
 
@@ -36,7 +36,7 @@ insert-line-requires : tie.Need-insert-line-requires Inv-loop μ-loop
 insert-line-requires c κs =
     let z = c .before .before .before .before .before .before .before .before .before in
     let h = c .before .before .before .before .loop .inv in
-    (scanned-entry (z .args .a .now) (h .1 .scan) (omega (arith, h .0)), head-of (z .args .a .now) (z .pre .0) .few, h .1 .inserting .joining .size)
+    (entry-sound (z .args .a .now) (h .1 .scan) (omega (arith, h .0)), head-of (z .args .a .now) (z .pre .0) .few, h .1 .inserting .joining .size)
 
 add-new : tie.Need-add-new Inv-loop μ-loop
 add-new c = omega (arith, inserting-few (c .before .before .before .before .before .before .before .loop .inv .1 .inserting), inserts-few (c .before .before .insert-line .ensures))

@@ -5,13 +5,14 @@ use native.Mathlib.Omega.{arith}
 use borrow.Author.Needs.{needs}
 use lib.ListN.{length, drop}
 use Rattle.semantics.specs.Table.{listed}
+use Rattle.bits.specs.Words.{has}
 use Rattle.reach.proofs.Inserting.{Joining, joining-first, joining-next, joining-last, joins-one}
 use Rattle.reach.proofs.Naming.{under-at, listed-on, listed-none}
 use Rattle.reach.proofs.insert_queries.Statement.{statement}
 use Rattle.reach.proofs.insert_queries.Tie as tie
 
 abbrev Inv-loop : tie.InvT-loop
-Inv-loop queries words₀ i₀ words i = (i ≤ length queries) × Joining (λ c. listed c queries) (λ c. listed c (drop i queries)) words₀ words
+Inv-loop queries words₀ i₀ words i = (i ≤ length queries) × Joining has 8 (λ c. listed c queries) (λ c. listed c (drop i queries)) words₀ words
 
 abbrev μ-loop : tie.MeasureT-loop
 μ-loop queries words₀ i₀ words i = length queries - i
@@ -41,7 +42,7 @@ loop-again : tie.Need-loop-again Inv-loop μ-loop
 loop-again c =
     let q = c .before .before .before .before .before .before .before .before .before .args .queries .now in
     let h = c .before .before .before .before .before .before .loop in
-    (omega arith, joining-next (h .inv .1) (joins-one _ _ _ (c .before .before .insert .ensures)) (λ x. listed-on q (h .i) x (omega arith)))
+    (omega arith, joining-next (h .inv .1) (joins-one has _ _ _ (c .before .before .insert .ensures)) (λ x. listed-on q (h .i) x (omega arith)))
 
 same-length : tie.Need-same-length Inv-loop μ-loop
 same-length c = c .before .loop .inv .1 .size ∙ sym (c .before .before .before .before .pre .1)

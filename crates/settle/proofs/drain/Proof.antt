@@ -13,10 +13,10 @@ use Rattle.settle.proofs.drain.Statement.{statement}
 use Rattle.settle.proofs.drain.Tie as tie
 
 abbrev Inv-loop : tie.InvT-loop
-Inv-loop a lines users marks scratch₀ words₀ end n k first places changed₀ c₀ scratch words changed c = Drains (side end) a marks first places users n scratch₀ scratch words changed c
+Inv-loop a lines users marks scratch₀ words₀ end n k first places base figures changed₀ c₀ scratch words changed c = Drains (side end) a marks first places users n scratch₀ scratch words changed c
 
 abbrev μ-loop : tie.MeasureT-loop
-μ-loop a lines users marks scratch₀ words₀ end n k first places changed₀ c₀ scratch words changed c = left (side end) a scratch words
+μ-loop a lines users marks scratch₀ words₀ end n k first places base figures changed₀ c₀ scratch words changed c = left (side end) a scratch words
 
 shared-slice-read-n : tie.Need-shared-slice-read-n Inv-loop μ-loop
 shared-slice-read-n c = let s = c .before .before .before .before .before .before .before in omega (arith, head-of (s .args .a .now) (s .pre .0 .page-sound))
@@ -48,47 +48,56 @@ part-places-start c = c .before .before .before .before .before .before .before 
 part-places-end : tie.Need-part-places-end Inv-loop μ-loop
 part-places-end c = search needs
 
+mul-base : tie.Need-mul-base Inv-loop μ-loop
+mul-base c = let s = c .before .before .before .before .before .before .before .before .before in omega (arith, head-of (s .args .a .now) (s .pre .0 .page-sound))
+
+add-base : tie.Need-add-base Inv-loop μ-loop
+add-base c = let s = c .before .before .before .before .before .before .before .before .before in omega (arith, head-of (s .args .a .now) (s .pre .0 .page-sound))
+
+figures-of-requires : tie.Need-figures-of-requires Inv-loop μ-loop
+figures-of-requires c κs = search needs
+
 any-in-requires : tie.Need-any-in-requires Inv-loop μ-loop
-any-in-requires c κs = (c .before .before .before .before .before .before .before .before .before .before .pre .3 .set .size, omega arith)
+any-in-requires c κs = (c .before .before .before .before .before .before .before .before .before .before .before .pre .3 .set .size, omega arith)
 
 loop-holds : tie.Need-loop-holds Inv-loop μ-loop
-loop-holds c = let p = c .before .before .before .before .before .before .before .before .before .before .before .pre in record { users-in = p .2; size = refl; draining = draining-first _ _ _ _ _ _ (line-groups _ (p .0 .page-sound) _ (p .1)) (p .0) (p .3); any = c .any-in .ensures }
+loop-holds c = let p = c .before .before .before .before .before .before .before .before .before .before .before .before .pre in record { users-in = p .2; size = refl; draining = draining-first _ _ _ _ _ _ (line-groups _ (p .0 .page-sound) _ (p .1)) (p .0) (p .3); any = c .any-in .ensures }
 
 remove-requires : tie.Need-remove-requires Inv-loop μ-loop
 remove-requires c κs = (c .before .before .loop .inv .draining .waiting .set .size, omega arith)
 
 cast-t : tie.Need-cast-t Inv-loop μ-loop
-cast-t c = let l = c .before .before .before .before .before .loop in omega (arith, drains-few (l .inv) (omega arith), drains-real (l .inv) (omega arith), l .inv .draining .groups .long, c .before .before .before .before .before .before .before .before .before .before .before .before .before .before .before .before .before .good)
+cast-t c = let l = c .before .before .before .before .before .loop in omega (arith, drains-few (l .inv) (omega arith), drains-real (l .inv) (omega arith), l .inv .draining .groups .long, c .before .before .before .before .before .before .before .before .before .before .before .before .before .before .before .before .before .before .good)
 
 mul-from : tie.Need-mul-from Inv-loop μ-loop
-mul-from c = let l = c .before .before .before .before .before .loop in omega (arith, drains-few (l .inv) (omega arith), drains-real (l .inv) (omega arith), l .inv .draining .groups .long, c .before .before .before .before .before .before .before .before .before .before .before .before .before .before .before .before .before .good)
+mul-from c = let l = c .before .before .before .before .before .loop in omega (arith, drains-few (l .inv) (omega arith), drains-real (l .inv) (omega arith), l .inv .draining .groups .long, c .before .before .before .before .before .before .before .before .before .before .before .before .before .before .before .before .before .before .good)
 
 shared-slice-read-from : tie.Need-shared-slice-read-from Inv-loop μ-loop
-shared-slice-read-from c = let l = c .before .before .before .before .before .before .loop in omega (arith, drains-few (l .inv) (omega arith), drains-real (l .inv) (omega arith), l .inv .draining .groups .long, c .before .before .before .before .before .before .before .before .before .before .before .before .before .before .before .before .before .before .good)
+shared-slice-read-from c = let l = c .before .before .before .before .before .before .loop in omega (arith, drains-few (l .inv) (omega arith), drains-real (l .inv) (omega arith), l .inv .draining .groups .long, c .before .before .before .before .before .before .before .before .before .before .before .before .before .before .before .before .before .before .before .good)
 
 cast-from : tie.Need-cast-from Inv-loop μ-loop
 cast-from c = omega (arith, c .shared-slice-known6 .given (c .before .before .before .before .before .before .loop .c))
 
 add-to : tie.Need-add-to Inv-loop μ-loop
-add-to c = let l = c .before .before .before .before .before .before .loop in omega (arith, drains-few (l .inv) (omega arith), drains-real (l .inv) (omega arith), l .inv .draining .groups .long, c .before .before .before .before .before .before .before .before .before .before .before .before .before .before .before .before .before .before .good)
+add-to c = let l = c .before .before .before .before .before .before .loop in omega (arith, drains-few (l .inv) (omega arith), drains-real (l .inv) (omega arith), l .inv .draining .groups .long, c .before .before .before .before .before .before .before .before .before .before .before .before .before .before .before .before .before .before .before .good)
 
 mul-to : tie.Need-mul-to Inv-loop μ-loop
-mul-to c = let l = c .before .before .before .before .before .before .loop in omega (arith, drains-few (l .inv) (omega arith), drains-real (l .inv) (omega arith), l .inv .draining .groups .long, c .before .before .before .before .before .before .before .before .before .before .before .before .before .before .before .before .before .before .good)
+mul-to c = let l = c .before .before .before .before .before .before .loop in omega (arith, drains-few (l .inv) (omega arith), drains-real (l .inv) (omega arith), l .inv .draining .groups .long, c .before .before .before .before .before .before .before .before .before .before .before .before .before .before .before .before .before .before .before .good)
 
 shared-slice-read-to : tie.Need-shared-slice-read-to Inv-loop μ-loop
-shared-slice-read-to c = let l = c .before .before .before .before .before .before .before .loop in omega (arith, drains-few (l .inv) (omega arith), drains-real (l .inv) (omega arith), l .inv .draining .groups .long, c .before .before .before .before .before .before .before .before .before .before .before .before .before .before .before .before .before .before .before .good)
+shared-slice-read-to c = let l = c .before .before .before .before .before .before .before .loop in omega (arith, drains-few (l .inv) (omega arith), drains-real (l .inv) (omega arith), l .inv .draining .groups .long, c .before .before .before .before .before .before .before .before .before .before .before .before .before .before .before .before .before .before .before .before .good)
 
 cast-to : tie.Need-cast-to Inv-loop μ-loop
 cast-to c = omega (arith, c .shared-slice-known7 .given (c .before .before .before .before .before .before .before .loop .c + 1))
 
 look-requires : tie.Need-look-requires Inv-loop μ-loop
-look-requires c κs = let l = c .before .before .before .before .before .before .before .before .loop in (l .inv .draining .settling .half, l .inv .size, drains-group (l .inv) (omega arith))
+look-requires c κs = let l = c .before .before .before .before .before .before .before .before .loop in (l .inv .draining .settling .half, c .before .before .before .before .before .before .before .before .before .before .before .figures-of .ensures, drains-group (l .inv) (omega arith))
 
-mul-wake : tie.Need-mul-wake Inv-loop μ-loop
-mul-wake c = let l = c .before .before .before .before .before .before .before .before .before .before .before .before .before .loop in omega (arith, drains-few (l .inv) (omega arith), drains-real (l .inv) (omega arith))
+mul-wake-group : tie.Need-mul-wake-group Inv-loop μ-loop
+mul-wake-group c = let l = c .before .before .before .before .before .before .before .before .before .before .before .before .before .loop in omega (arith, drains-few (l .inv) (omega arith), drains-real (l .inv) (omega arith))
 
-wake-requires : tie.Need-wake-requires Inv-loop μ-loop
-wake-requires c κs = let l = c .before .before .before .before .before .before .before .before .before .before .before .before .before .loop in (l .inv .draining .settling .half .page-sound, l .inv .users-in, omega (arith, drains-real (l .inv) (omega arith)), drains-set (l .inv) (omega arith) _ (c .before .before .before .before .before .before .before .before .before .before .remove .ensures))
+wake-group-requires : tie.Need-wake-group-requires Inv-loop μ-loop
+wake-group-requires c κs = let l = c .before .before .before .before .before .before .before .before .before .before .before .before .before .loop in (l .inv .draining .settling .half .page-sound, l .inv .users-in, omega (arith, drains-real (l .inv) (omega arith)), drains-set (l .inv) (omega arith) _ (c .before .before .before .before .before .before .before .before .before .before .remove .ensures), refl)
 
 any-in-requires-2 : tie.Need-any-in-requires-2 Inv-loop μ-loop
 any-in-requires-2 c κs = (⊎-elim (λ w. ap length (w .5) ∙ w .2 .ensures .set .size) (λ w. ap length (w .1) ∙ c .before .before .before .before .before .before .before .before .before .before .remove .ensures .0) (c .before .if1 .came), omega arith)
@@ -103,7 +112,7 @@ same-length : tie.Need-same-length Inv-loop μ-loop
 same-length c = c .before .loop .inv .draining .settling .steady .same-length
 
 same-length-2 : tie.Need-same-length-2 Inv-loop μ-loop
-same-length-2 c = c .before .loop .inv .draining .waiting .set .size ∙ sym (c .before .before .before .before .before .before .before .before .before .before .before .before .before .pre .3 .set .size)
+same-length-2 c = c .before .loop .inv .draining .waiting .set .size ∙ sym (c .before .before .before .before .before .before .before .before .before .before .before .before .before .before .pre .3 .set .size)
 
 returns : tie.Need-returns Inv-loop μ-loop
 returns c = drains-last (c .before .loop .inv) (omega arith)
@@ -124,6 +133,9 @@ drain-spec =
     sub-places
     part-places-start
     part-places-end
+    mul-base
+    add-base
+    figures-of-requires
     any-in-requires
     loop-holds
     remove-requires
@@ -136,8 +148,8 @@ drain-spec =
     shared-slice-read-to
     cast-to
     look-requires
-    mul-wake
-    wake-requires
+    mul-wake-group
+    wake-group-requires
     any-in-requires-2
     loop-less
     loop-again

@@ -9,13 +9,13 @@ use Rattle.settle.proofs.look.Statement.{statement}
 use Rattle.settle.proofs.look.Tie as tie
 
 abbrev Inv-loop : tie.InvT-loop
-Inv-loop a places from to marks scratch₀ n end rose₀ i₀ scratch rose i = Looking (side end) a marks places from to n scratch₀ scratch rose i
+Inv-loop a places from to marks scratch₀ figures end rose₀ i₀ scratch rose i = Looking (side end) a marks places from to (figures .n) scratch₀ scratch rose i
 
 abbrev μ-loop : tie.MeasureT-loop
-μ-loop a places from to marks scratch₀ n end rose₀ i₀ scratch rose i = to - i
+μ-loop a places from to marks scratch₀ figures end rose₀ i₀ scratch rose i = to - i
 
 loop-holds : tie.Need-loop-holds Inv-loop μ-loop
-loop-holds c = looking-first (c .before .before .before .before .pre .0) (c .before .before .before .before .pre .1) (c .before .before .before .before .pre .2)
+loop-holds c = looking-first (c .before .before .before .before .pre .0) (c .before .before .before .before .pre .1 .0) (c .before .before .before .before .pre .2)
 
 mul-raise : tie.Need-mul-raise Inv-loop μ-loop
 mul-raise c = omega (arith, c .before .before .before .before .before .before .pre .2 .inside, c .before .before .before .before .before .before .good)
@@ -27,7 +27,7 @@ cast-raise : tie.Need-cast-raise Inv-loop μ-loop
 cast-raise c = omega (arith, c .shared-slice-known4 .given (c .before .before .loop .i))
 
 raise-requires : tie.Need-raise-requires Inv-loop μ-loop
-raise-requires c κs = (c .before .before .before .loop .inv .looked .half, c .before .before .before .loop .inv .size, line-here (c .before .before .before .loop .inv) (omega arith))
+raise-requires c κs = (c .before .before .before .loop .inv .looked .half, c .before .before .before .before .before .before .before .before .pre .1, line-here (c .before .before .before .loop .inv) (omega arith))
 
 add-i : tie.Need-add-i Inv-loop μ-loop
 add-i c = omega (arith, c .before .before .before .before .before .before .before .before .before .before .before .before .pre .2 .inside, c .before .before .before .before .before .before .before .before .before .before .before .before .good)

@@ -1,7 +1,6 @@
 -- `settle_sweeping` looks at all lines until nothing rises (`Settling`).
-use mathlib.Core.Path.{refl, _∙_}
-use native.Mathlib.Omega.{arith}
-use Rattle.page.proofs.Head.{head-of}
+use mathlib.Core.Path.{_∙_}
+use borrow.Author.Needs.{needs}
 use Rattle.value.specs.Table.{side}
 use Rattle.settle.specs.Scratch.{roomAt}
 use Rattle.settle.proofs.Settling.{Settling, settling-first, settling-next, settling-last, swept}
@@ -9,22 +8,19 @@ use Rattle.settle.proofs.settle_sweeping.Statement.{statement}
 use Rattle.settle.proofs.settle_sweeping.Tie as tie
 
 abbrev Inv-loop : tie.InvT-loop
-Inv-loop a marks scratch₀ end n changed₀ scratch changed = Settling (side end) a marks scratch₀ scratch changed
+Inv-loop a marks scratch₀ end figures changed₀ scratch changed = Settling (side end) a marks scratch₀ scratch changed
 
 abbrev μ-loop : tie.MeasureT-loop
-μ-loop a marks scratch₀ end n changed₀ scratch changed = roomAt (side end) a scratch
+μ-loop a marks scratch₀ end figures changed₀ scratch changed = roomAt (side end) a scratch
 
-shared-slice-read-n : tie.Need-shared-slice-read-n Inv-loop μ-loop
-shared-slice-read-n c = let s = c .before .before .before .before in omega (arith, head-of (s .args .a .now) (s .pre .page-sound))
-
-cast-n : tie.Need-cast-n Inv-loop μ-loop
-cast-n c = omega (arith, c .shared-slice-known3 .given 1)
+figures-of-requires : tie.Need-figures-of-requires Inv-loop μ-loop
+figures-of-requires c κs = search needs
 
 loop-holds : tie.Need-loop-holds Inv-loop μ-loop
 loop-holds c = settling-first _ _ _ (c .before .before .before .before .pre)
 
 sweep-requires : tie.Need-sweep-requires Inv-loop μ-loop
-sweep-requires c κs = (c .before .loop .inv .half, refl)
+sweep-requires c κs = (c .before .loop .inv .half, c .before .before .figures-of .ensures)
 
 loop-less : tie.Need-loop-less Inv-loop μ-loop
 loop-less c = c .before .before .before .sweep .ensures .moves (c .if1 .taken)
@@ -44,8 +40,7 @@ settle-sweeping-spec =
     (tie.spec
     Inv-loop
     μ-loop
-    shared-slice-read-n
-    cast-n
+    figures-of-requires
     loop-holds
     sweep-requires
     loop-less

@@ -9,10 +9,10 @@ use Rattle.settle.proofs.sweep.Statement.{statement}
 use Rattle.settle.proofs.sweep.Tie as tie
 
 abbrev Inv-loop : tie.InvT-loop
-Inv-loop a marks scratch₀ n end used at₀ rose₀ scratch at rose = Sweeping (side end) a marks n scratch₀ scratch at rose
+Inv-loop a marks scratch₀ figures end used at₀ rose₀ scratch at rose = Sweeping (side end) a marks (figures .n) scratch₀ scratch at rose
 
 abbrev μ-loop : tie.MeasureT-loop
-μ-loop a marks scratch₀ n end used at₀ rose₀ scratch at rose = used - at
+μ-loop a marks scratch₀ figures end used at₀ rose₀ scratch at rose = used - at
 
 shared-slice-read-used : tie.Need-shared-slice-read-used Inv-loop μ-loop
 shared-slice-read-used c = let s = c .before .before .before .before in omega (arith, head-of (s .args .a .now) (s .pre .0 .page-sound))
@@ -24,7 +24,7 @@ first-requires : tie.Need-first-requires Inv-loop μ-loop
 first-requires c κs = tt
 
 loop-holds : tie.Need-loop-holds Inv-loop μ-loop
-loop-holds c = sweeping-first (c .before .before .before .before .before .pre .0) (c .before .before .before .before .before .pre .1) (c .first .ensures)
+loop-holds c = sweeping-first (c .before .before .before .before .before .pre .0) (c .before .before .before .before .before .pre .1 .0) (c .first .ensures)
 
 add-span-of : tie.Need-add-span-of Inv-loop μ-loop
 add-span-of c = let s = c .before .before .before .before .before .before .before in let f = line-entry _ (s .pre .0 .page-sound) (sweep-line (c .before .loop .inv) (omega arith)) in omega (arith, s .good)
@@ -51,7 +51,7 @@ add-at : tie.Need-add-at Inv-loop μ-loop
 add-at c = omega (arith, sweep-less (c .before .before .before .before .loop .inv) (omega arith) _ (c .span-of .ensures), c .before .before .before .before .before .before .before .before .before .before .good)
 
 raise-requires : tie.Need-raise-requires Inv-loop μ-loop
-raise-requires c κs = (c .before .before .before .before .before .loop .inv .looked .half, c .before .before .before .before .before .loop .inv .size, sweep-line (c .before .before .before .before .before .loop .inv) (omega arith))
+raise-requires c κs = (c .before .before .before .before .before .loop .inv .looked .half, c .before .before .before .before .before .before .before .before .before .before .before .pre .1, sweep-line (c .before .before .before .before .before .loop .inv) (omega arith))
 
 loop-less : tie.Need-loop-less Inv-loop μ-loop
 loop-less c = omega (arith, sweep-less (c .before .before .before .before .before .before .before .before .before .loop .inv) (omega arith) _ (c .before .before .before .before .before .span-of .ensures))

@@ -1,97 +1,16 @@
--- `wake` inserts the group of the literal.
-use Prim.Native.Nat.{_+_}
+-- `wake` finds where the groups begin. Assumes nothing.
+use mathlib.Core.Path.{refl}
 use native.Mathlib.Omega.{arith}
 use borrow.Author.Needs.{needs}
 use Rattle.page.proofs.Head.{head-of}
-use Rattle.settle.proofs.Waking.{code-ordered, code-within, heads-small, woken-by}
 use Rattle.settle.proofs.wake.Statement.{statement}
 use Rattle.settle.proofs.wake.Tie as tie
 
-shared-slice-read-base : tie.Need-shared-slice-read-base
-shared-slice-read-base c = let s = c .before .before .before .before in omega (arith, head-of (s .args .a .now) (s .pre .0))
+shared-slice-read-wake-group : tie.Need-shared-slice-read-wake-group
+shared-slice-read-wake-group c = let s = c .before .before .before .before in omega (arith, head-of (s .args .a .now) (s .pre .0))
 
-cast-base : tie.Need-cast-base
-cast-base c = search needs
-
-mul-base : tie.Need-mul-base
-mul-base c = search needs
-
-add-base : tie.Need-add-base
-add-base c = search needs
-
-sub-start : tie.Need-sub-start
-sub-start c = search needs
-
-part-start-start : tie.Need-part-start-start
-part-start-start c = search needs
-
-part-start-end : tie.Need-part-start-end
-part-start-end c = search needs
-
-mul-heads : tie.Need-mul-heads
-mul-heads c = search needs
-
-sub-heads : tie.Need-sub-heads
-sub-heads c = search needs
-
-part-heads-start : tie.Need-part-heads-start
-part-heads-start c = search needs
-
-part-heads-end : tie.Need-part-heads-end
-part-heads-end c = search needs
-
-mul-wake-heads : tie.Need-mul-wake-heads
-mul-wake-heads c = search needs
-
-shared-slice-read-wake-heads : tie.Need-shared-slice-read-wake-heads
-shared-slice-read-wake-heads c = search needs
-
-cast-wake-heads : tie.Need-cast-wake-heads
-cast-wake-heads c = omega (arith, c .shared-slice-known4 .given (c .before .before .before .before .before .before .before .before .args .code))
-
-add-wake-heads : tie.Need-add-wake-heads
-add-wake-heads c = search needs
-
-mul-wake-heads-2 : tie.Need-mul-wake-heads-2
-mul-wake-heads-2 c = search needs
-
-shared-slice-read-wake-heads-2 : tie.Need-shared-slice-read-wake-heads-2
-shared-slice-read-wake-heads-2 c = search needs
-
-cast-wake-heads-2 : tie.Need-cast-wake-heads-2
-cast-wake-heads-2 c = omega (arith, c .shared-slice-known5 .given (c .before .before .before .before .before .before .before .before .before .args .code + 1))
-
-wake-heads-requires : tie.Need-wake-heads-requires
-wake-heads-requires c κs = let s = c .before .before .before .before .before .before .before .before .before in (s .pre .3 .size, code-ordered _ (s .pre .0) _ (s .pre .1) _ (s .pre .2), code-within _ (s .pre .0) _ (s .pre .1) _ (s .pre .2), heads-small _ (s .pre .0) _ (s .pre .1) _ (s .pre .2))
-
-same-length : tie.Need-same-length
-same-length c = search needs
-
-returns : tie.Need-returns
-returns c = let s = c .before .before .before .before .before .before .before .before .before .before .before .before in woken-by _ (s .pre .0) _ (s .pre .1) _ (s .pre .2) (s .pre .3) (c .before .before .wake-heads .ensures)
+wake-group-requires : tie.Need-wake-group-requires
+wake-group-requires c κs = let s = c .before .before .before .before .before in (s .pre .0, s .pre .1, s .pre .2, s .pre .3, refl)
 
 pub wake-spec : {M : Type 1} → statement M
-wake-spec =
-    tie.close
-    (tie.spec
-    shared-slice-read-base
-    cast-base
-    mul-base
-    add-base
-    sub-start
-    part-start-start
-    part-start-end
-    mul-heads
-    sub-heads
-    part-heads-start
-    part-heads-end
-    mul-wake-heads
-    shared-slice-read-wake-heads
-    cast-wake-heads
-    add-wake-heads
-    mul-wake-heads-2
-    shared-slice-read-wake-heads-2
-    cast-wake-heads-2
-    wake-heads-requires
-    same-length
-    returns)
+wake-spec = tie.close (tie.spec shared-slice-read-wake-group (search needs) (search needs) (search needs) wake-group-requires (search needs) (λ c. c .before .before .wake-group .ensures))

@@ -1,43 +1,20 @@
--- `divided` rounds the low end down and the high end up.
-use mathlib.Core.Path.{sym}
+-- `divided` divides with what the end adds. Assumes nothing.
+use mathlib.Core.Path.{ap, _∙_}
+use Prim.Native.Nat.{ℕ, _+_, _/_}
+use native.Mathlib.Omega.{arith}
 use borrow.Author.Needs.{needs}
-use Rattle.semantics.proofs.Ops.{divided-down, divided-up}
+use Rattle.semantics.specs.Grade.{divided}
+use Rattle.value.specs.Table.{side}
+use Rattle.value.proofs.Dividing.{adds-small}
 use Rattle.value.proofs.divided.Statement.{statement}
 use Rattle.value.proofs.divided.Tie as tie
 
-enum-told : tie.Need-enum-told
-enum-told c = search needs
-
-div-result : tie.Need-div-result
-div-result c = search needs
-
-enum-told-2 : tie.Need-enum-told-2
-enum-told-2 c = search needs
-
-sub-result : tie.Need-sub-result
-sub-result c = search needs
-
-add-result : tie.Need-add-result
-add-result c = search needs
-
-div-result-2 : tie.Need-div-result-2
-div-result-2 c = search needs
+quotient-requires : tie.Need-quotient-requires
+quotient-requires c κs = let s = c .before in (s .pre .0, omega (arith, s .pre .1, adds-small (s .pre .0) (side (s .args .end), c .rounding .ensures)))
 
 returns : tie.Need-returns
-returns c = rw (c .enum-told .given .1) (sym (divided-down _ _))
-
-returns-2 : tie.Need-returns-2
-returns-2 c = rw (c .enum-told2 .given .1) (sym (divided-up _ _))
+unfolding divided
+returns c = let s = c .before .before in c .quotient .ensures ∙ ap (λ (add : ℕ). (s .args .x + add) / s .args .top) (c .before .rounding .ensures)
 
 pub divided-spec : {M : Type 1} → statement M
-divided-spec =
-    tie.close
-    (tie.spec
-    enum-told
-    div-result
-    enum-told-2
-    sub-result
-    add-result
-    div-result-2
-    returns
-    returns-2)
+divided-spec = tie.close (tie.spec (search needs) quotient-requires returns)

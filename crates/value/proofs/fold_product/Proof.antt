@@ -1,20 +1,18 @@
--- `fold_product`: the product divided by top, literal by literal (`FoldingAt`).
+-- `fold_product`: the product divided by top, literal by literal (`FoldingAt`). Assumes nothing.
 use Prim.Native.Nat.{_-_, _≤_}
 use native.Mathlib.Omega.{arith}
-use Rattle.semantics.proofs.Ops.{divided-bounded}
 use Rattle.page.proofs.Entries.{small-product}
-use Rattle.value.specs.Table.{side}
 use Rattle.value.specs.LineEnds.{product}
-use Rattle.value.proofs.Dividing.{product-divides}
+use Rattle.value.proofs.Dividing.{product-adds, product-bounded}
 use Rattle.value.proofs.Folds.{FoldingAt, folding-at-first, listed-here, grade-here, folding-at-next, folding-at-last}
 use Rattle.value.proofs.fold_product.Statement.{statement}
 use Rattle.value.proofs.fold_product.Tie as tie
 
 abbrev Inv-loop : tie.InvT-loop
-Inv-loop a from to values first top end r₀ j₀ r j = FoldingAt (product (side end) top) a from to values first r j × (r ≤ top)
+Inv-loop a from to values first top add r₀ j₀ r j = FoldingAt (product add top) a from to values first r j × (r ≤ top)
 
 abbrev μ-loop : tie.MeasureT-loop
-μ-loop a from to values first top end r₀ j₀ r j = to - j
+μ-loop a from to values first top add r₀ j₀ r j = to - j
 
 loop-holds : tie.Need-loop-holds Inv-loop μ-loop
 loop-holds c = (folding-at-first _ _ _ _ _ _ (c .before .before .pre .0) (c .before .before .pre .1), c .before .before .pre .2 .start)
@@ -34,22 +32,22 @@ mul-q-2 c = omega (arith, listed-here _ _ _ _ _ _ (c .before .before .loop .inv 
 shared-slice-read-q-2 : tie.Need-shared-slice-read-q-2 Inv-loop μ-loop
 shared-slice-read-q-2 c = listed-here _ _ _ _ _ _ (c .before .before .before .loop .inv .0) (c .before .before .before .before .before .before .pre .2 .listed) (omega arith)
 
-mul-divided : tie.Need-mul-divided Inv-loop μ-loop
-mul-divided c = record { fits = small-product (omega (arith, c .before .before .before .loop .inv .1, c .before .before .before .before .before .before .pre .2 .small)) (omega (arith, grade-here _ _ _ _ _ _ (c .before .before .before .loop .inv .0) (c .before .before .before .before .before .before .pre .2) (omega arith), c .before .before .before .before .before .before .pre .2 .small)) }
+mul-quotient : tie.Need-mul-quotient Inv-loop μ-loop
+mul-quotient c = record { fits = small-product (omega (arith, c .before .before .before .loop .inv .1, c .before .before .before .before .before .before .pre .2 .small)) (omega (arith, grade-here _ _ _ _ _ _ (c .before .before .before .loop .inv .0) (c .before .before .before .before .before .before .pre .2) (omega arith), c .before .before .before .before .before .before .pre .2 .small)) }
 
-divided-requires : tie.Need-divided-requires Inv-loop μ-loop
-divided-requires c κs = let g = c .before .before .before .before .before .before .pre .2 in product-divides (g .some) (g .small) (c .before .before .before .loop .inv .1) (grade-here _ _ _ _ _ _ (c .before .before .before .loop .inv .0) g (omega arith))
+quotient-requires : tie.Need-quotient-requires Inv-loop μ-loop
+quotient-requires c κs = let g = c .before .before .before .before .before .before .pre .2 in product-adds (g .some) (g .small) (c .before .before .before .loop .inv .1) (grade-here _ _ _ _ _ _ (c .before .before .before .loop .inv .0) g (omega arith)) (c .before .before .before .before .before .before .pre .3)
 
 add-j : tie.Need-add-j Inv-loop μ-loop
 add-j c = omega (arith, c .before .before .before .before .before .before .before .pre .1, c .before .before .before .before .before .before .before .good)
 
 loop-again : tie.Need-loop-again Inv-loop μ-loop
-loop-again c = (folding-at-next _ _ _ _ _ _ (c .before .before .before .before .loop .inv .0) (omega arith) (c .divided .ensures), rw (c .divided .ensures) (divided-bounded _ _ (c .before .before .before .before .loop .inv .1) (grade-here _ _ _ _ _ _ (c .before .before .before .before .loop .inv .0) (c .before .before .before .before .before .before .before .pre .2) (omega arith))))
+loop-again c = (folding-at-next _ _ _ _ _ _ (c .before .before .before .before .loop .inv .0) (omega arith) (c .quotient .ensures), rw (c .quotient .ensures) (product-bounded (c .before .before .before .before .loop .inv .1) (grade-here _ _ _ _ _ _ (c .before .before .before .before .loop .inv .0) (c .before .before .before .before .before .before .before .pre .2) (omega arith)) (c .before .before .before .before .before .before .before .pre .3)))
 
 returns : tie.Need-returns Inv-loop μ-loop
 returns c = folding-at-last _ _ _ _ _ _ (c .before .loop .inv .0) (omega arith)
 
 pub fold-product-spec : {M : Type 1} → statement M
 fold-product-spec =
-    tie.close (tie.spec Inv-loop μ-loop loop-holds mul-q shared-slice-read-q cast-q mul-q-2 shared-slice-read-q-2 mul-divided divided-requires add-j
+    tie.close (tie.spec Inv-loop μ-loop loop-holds mul-q shared-slice-read-q cast-q mul-q-2 shared-slice-read-q-2 mul-quotient quotient-requires add-j
     (omega arith) loop-again returns)
