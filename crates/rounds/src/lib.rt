@@ -129,7 +129,7 @@ fn line_stale(a: &[u16], at: usize, scratch: &[u16]) -> bool
 }
 
 // Whether a literal of the page is: only then can a high end come out as another.
-fn negation_stale(a: &[u16], scratch: &[u16]) -> bool
+pub fn negation_stale(a: &[u16], scratch: &[u16]) -> bool
     requires { ⌜ Comparable (now a) (now scratch) ⌝ }
     ensures { λ r. ⌜ Searched (now (a .entry)) (now (scratch .entry)) (LinesHave (pageOf (now (a .entry)) .lines)) r ⌝ }
 {

@@ -6,10 +6,8 @@ use mathlib.Core.List.{List}
 use Prim.Native.Nat.{ℕ, suc, _+_, _*_, _-_, _≤_, _<_}
 use native.Mathlib.Decide.{ℕ-discrete}
 use native.Mathlib.Omega.{arith}
-use lib.ListN.{length, getD, take, drop, length-take}
+use lib.ListN.{length, getD, take, length-take}
 use lib.Seq.{getD-take}
-use Rattle.fixpoint.specs.Interval.{Interval, Within, Assign}
-use Rattle.fixpoint.proofs.Cond.{by-bool}
 use Rattle.fixpoint.proofs.KnowledgeOrder.{pair-eq}
 use Rattle.fixpoint.proofs.Sum.{sum-drop}
 use Rattle.semantics.specs.Area.{sound, pageOf, topOf, conditionsOf}
@@ -19,17 +17,17 @@ use Rattle.semantics.specs.Table.{member}
 use Rattle.page.proofs.Head.{head-of}
 use Rattle.bits.specs.Words.{has, AnyIn}
 use Rattle.index.specs.Parts.{MaybeUsers}
-use Rattle.value.specs.Table.{EndTable, Grades}
+use Rattle.value.specs.Table.{EndTable}
 use Rattle.value.proofs.Tables.{table-of, grades-of}
 use Rattle.settle.specs.Ends.{reads, room}
 use Rattle.settle.specs.Scratch.{held, roomAt}
 use Rattle.settle.specs.Waiting.{WaitSet}
 use Rattle.settle.proofs.Raising.{S, E}
-use Rattle.rounds.specs.Round.{past, LowsWait}
+use Rattle.rounds.specs.Round.{AllWait, past, Comparable, Fresh, LinesHave}
 use Rattle.rounds.proofs.AllWaiting.{nobody-waits}
-use Rattle.stages.specs.Steps.{ahead, seen, Notable, Noting, AllNoted, LowsRest, TakeReady, AllTaken}
-use Rattle.stages.specs.Stages.{stageAt, Tables, Older, AtStage, AtSupport, Advanced}
-use Rattle.stages.proofs.Assignments.{low-eq, high-eq}
+use Rattle.stages.specs.Steps.{Nobody, ahead, seen, Notable, AllNoted, LowsRest, TakeReady, AllTaken, LookedAgain}
+use Rattle.stages.specs.Stages.{stageAt, Tables, Older, AtSupport, Advanced}
+use Rattle.stages.proofs.Assignments.{low-eq}
 use Rattle.stages.proofs.Notes.{no-later}
 use Rattle.stages.proofs.PageStages.{stage-rises, next-at}
 use Rattle.stages.proofs.Supporting.{zeros, none-in}
@@ -122,6 +120,19 @@ module _ {a : List ℕ} {m : List Bool} {users : List ℕ} {k : ℕ} {s lows : L
           still = λ z c i r. sym (ahead₁ c i r) ∙ unmoved₁ c i (y .none (omega (arith, y .within)) c (omega (arith, few))) ∙ b .floors c i r;
         }
 
+    pub advance-comparable : Comparable a s₁
+    advance-comparable =
+        record {
+          page-sound = ok;
+          long = omega (arith, b .tables .long, v .noting .same-length);
+          within = λ c l. omega (arith, table₁ (2 * c) (omega arith), b .tables .within c l .low-in);
+        }
+
+    pub again-in : (look look₁ : List ℕ) → WaitSet n look → ((length users ≡ 0 → ⊥) × (look₁ ≡ look)) ⊎ LookedAgain a m s₁ look look₁ → WaitSet n look₁
+    again-in look look₁ w (inl d) = subst (WaitSet n) (sym (d .1)) w
+    again-in look look₁ w (inr (inl q)) = q .set
+    again-in look look₁ w (inr (inr q)) = subst (WaitSet n) (sym (q .0)) w
+
     pub take-ready : {look lows₁ : List ℕ} → MaybeUsers a users → WaitSet n look → WaitSet n lows₁ → TakeReady a users s₁ moved lows₁ look
     take-ready u w z =
         record {
@@ -136,7 +147,8 @@ module _ {a : List ℕ} {m : List Bool} {users : List ℕ} {k : ℕ} {s lows : L
         }
 
     -- some moved
-    module _ {c₀ : ℕ} (y : AnyIn moved c₀) (small : c₀ < 512) {s₂ look′ lows′ : List ℕ} (t : AllTaken a users s₁ s₂ lows′ look′) where
+    module _ {c₀ : ℕ} (y : AnyIn moved c₀) (small : c₀ < 512) {s₂ look₁ look′ lows′ : List ℕ} (t : AllTaken a users s₁ s₂ lows′ look₁ look′)
+        (look : List ℕ) (drained : Nobody look) (again : ((length users ≡ 0 → ⊥) × (look₁ ≡ look)) ⊎ LookedAgain a m s₁ look look₁) where
       real : c₀ < n
       real = v .noting .set-in .inside c₀ small (y .found small)
 
@@ -169,16 +181,32 @@ module _ {a : List ℕ} {m : List Bool} {users : List ℕ} {k : ℕ} {s lows : L
           }
 
       -- who is not looked at negates nobody that moved
-      older : ((c : ℕ) → c < n → getD s₁ (2 * c) 0 ≢ ahead a s₁ c → (h : ℕ) → reads (pageOf a) true h c ≡ true → has look′ h ≡ true) → Older a m (suc k) look′
+      older : ((c d : ℕ) → d < n → has look′ c ≡ false → reads (pageOf a) true c d ≡ true → getD s₁ (2 * d) 0 ≡ ahead a s₁ d) → Older a m (suc k) look′
       older f =
           record {
             before = k;
             is = refl;
-            same = λ c d l i r q e. elim (ℕ-discrete (getD s₁ (2 * d) 0) (ahead a s₁ d)) [
-              | yes z ↦ let w = named c d l i r e in sym (b .floors d i w) ∙ sym (table₁ (2 * d) (omega arith)) ∙ z ∙ ahead₁ d i w
-              | no z ↦ absurd (true≢false (sym (f d i z c e) ∙ q))
-            ];
+            same = λ c d l i r q e. let w = named c d l i r e in sym (b .floors d i w) ∙ sym (table₁ (2 * d) (omega arith)) ∙ f c d i q e ∙ ahead₁ d i w;
           }
+
+      older-woken : ((c : ℕ) → c < n → getD s₁ (2 * c) 0 ≢ ahead a s₁ c → (h : ℕ) → reads (pageOf a) true h c ≡ true → has look′ h ≡ true) → Older a m (suc k) look′
+      older-woken f =
+          older (λ c d i q e. elim (ℕ-discrete (getD s₁ (2 * d) 0) (ahead a s₁ d)) [
+            | yes z ↦ z
+            | no z ↦ absurd (true≢false (sym (f d i z c e) ∙ q))
+          ])
+
+      older-fresh : ((c : ℕ) → LinesHave (pageOf a .lines) (2 * c + 1) → Fresh a s₁ c) → Older a m (suc k) look′
+      older-fresh f = older (λ c d i q e. omega (arith, f d (c, e), table₁ (2 * d) (omega arith), b .tables .within d i .low-in))
+
+      -- without an index
+      all-or-none : length users ≡ 0 → AllWait n m look′ ⊎ (Nobody look′ × Older a m (suc k) look′)
+      all-or-none z =
+          elim again [
+            | inl d ↦ absurd (d .0 z)
+            | inr (inl w) ↦ inl (rw (t .look-same z) w)
+            | inr (inr w) ↦ inr (subst Nobody (sym (t .look-same z ∙ w .0)) drained, older-fresh (w .1))
+          ]
 
       rests₂ : (length users ≡ 0 → ⊥) → (c : ℕ) → c < n → member m c ≡ true → has lows′ c ≡ false → T (pageOf a) (past a s₂) c .low ≤ getD s₂ (2 * c) 0
       unfolding pageOf
@@ -212,7 +240,8 @@ module _ {a : List ℕ} {m : List Bool} {users : List ℕ} {k : ℕ} {s lows : L
               tables = tables₂;
               staged = λ c l r. pair-eq (lows₂ c l ∙ ahead₁ c l r) (highs₂ c l ∙ b .tops c l r);
               look-in = t .look-in;
-              spread = ⊎-elim (λ e. inl e) (λ f. inr (inr (older f))) (t .look-woken);
+              spread = ⊎-elim (λ e. ⊎-elim (λ w. inl w) (λ w. inr (w .1)) (all-or-none e)) (λ f. inr (older-woken f)) (t .look-woken);
+              whole = λ e. ⊎-elim (λ w. inl w) (λ w. inr (w .0)) (all-or-none e);
               lows-wait = record { set-in = t .lows-in; rests = rests₂ };
             };
             moves = λ z. less-room;

@@ -2,15 +2,15 @@
 --
 -- No condition is free. The high ends of assignment k + 1 are those of the support of assignment k.
 use mathlib.Core.Path.{_≡_, refl, sym, _∙_, ap, subst}
-use mathlib.Core.Logic.{_⊎_, inl, inr, ⊎-elim}
+use mathlib.Core.Logic.{_⊎_, ⊎-elim}
 use mathlib.Core.Bool.{Bool, true, false, not, _||_, cond, or-true, true≢false, false≢true}
-use Prim.Native.Nat.{ℕ, zero, suc, _*_, _≤_, _<_}
+use Prim.Native.Nat.{ℕ, suc, _≤_, _<_}
 use native.Mathlib.Decide.{ℕ-discrete}
 use native.Mathlib.Omega.{arith}
 use lib.Dec.{eqb}
 use borrow.Author.Tests.{eq-eqb, eqb-true}
 use Rattle.fixpoint.specs.Interval.{Interval, Within, Assign}
-use Rattle.fixpoint.specs.KnowledgeOrder.{Under, Alike, bottom}
+use Rattle.fixpoint.specs.KnowledgeOrder.{Alike, bottom}
 use Rattle.fixpoint.specs.System.{System}
 use Rattle.fixpoint.specs.LeastFixpoint.{Operator, iter}
 use Rattle.fixpoint.specs.ChaoticIteration.{DependencyClosed}
@@ -24,7 +24,7 @@ use Rattle.fixpoint.proofs.AlternatingHalves.{highs-least}
 use Rattle.fixpoint.proofs.WellFounded.{stage-within, stage-grows, stage-under}
 use Rattle.fixpoint.proofs.ClosedRounds.{stage-high, stage-next, stage-closed}
 use Rattle.fixpoint.proofs.Reachable.{T-alike, highs-alike}
-use Rattle.semantics.specs.Grade.{lower, upper}
+use Rattle.semantics.specs.Grade.{upper}
 use Rattle.semantics.specs.Rounds.{IsRoundCount}
 use Rattle.semantics.proofs.RoundsReached.{stage-stages}
 use Rattle.settle.specs.Ends.{EndLocal, settledEnd}

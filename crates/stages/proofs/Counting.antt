@@ -1,5 +1,5 @@
 -- The loop over the rounds: every assignment so far was changed by the next. Assumes nothing.
-use mathlib.Core.Path.{_≡_, refl, sym, _∙_, ap, subst}
+use mathlib.Core.Path.{_≡_, refl, sym, _∙_, ap}
 use mathlib.Core.Logic.{inl, inr}
 use mathlib.Core.Bool.{Bool, true, false}
 use mathlib.Core.List.{List}
@@ -20,10 +20,10 @@ use Rattle.settle.specs.Waiting.{WaitSet}
 use Rattle.rounds.specs.Round.{AllWait, closedAt}
 use Rattle.rounds.proofs.Rounding.{all-lows}
 use Rattle.stages.specs.Counted.{CountReady, Counted}
-use Rattle.stages.specs.Steps.{firstHigh, Begun, TopsCopied}
+use Rattle.stages.specs.Steps.{Nobody, firstHigh, Begun, TopsCopied}
 use Rattle.stages.specs.Stages.{stageAt, Tables, Tops, AtStage, AtSupport, Supported, Advanced}
 use Rattle.stages.proofs.Assignments.{high-eq}
-use Rattle.stages.proofs.PageStages.{stage-first, closed-in, MovingAt, moving-low, rounds-few, counted-here, counted-after, moving-after}
+use Rattle.stages.proofs.PageStages.{stage-first, closed-in, MovingAt, moving-low, rounds-few, counted-here, counted-after}
 
 -- before the first round
 module _ {a : List ℕ} {m : List Bool} {s : List ℕ} (b : CountReady a m s) where
@@ -60,7 +60,8 @@ module _ {a : List ℕ} {m : List Bool} {s : List ℕ} (b : CountReady a m s) wh
           tables = tables;
           staged = λ c l r. pair-eq (v .each c l .low) (v .each c l .high ∙ cond-true (topOf a) 0 r) ∙ sym (stage-first a (b .page-sound) m (b .shut) c);
           look-in = w .set;
-          spread = inr (inl w);
+          spread = inl w;
+          whole = λ e. inl w;
           lows-wait = all-lows a m users s₁ lows (z .set) (inr z);
         }
 
@@ -70,6 +71,7 @@ pub record Rounds (a : List ℕ) (m : List Bool) (users tops s₀ s look lows : 
   pub beyond : drop (4 * conditionsOf a) s ≡ drop (4 * conditionsOf a) s₀
   pub tops-in : Tops a m tops
   pub look-in : WaitSet (conditionsOf a) look
+  pub drained : Nobody look
   pub at : AtSupport a m users k s lows
   pub moving : MovingAt a (at .tables .page-sound) m (at .tables .shut) k
   pub none : fell ≡ false → (c : ℕ) → c < conditionsOf a → member m c ≡ true → stageAt a (suc k) c .high ≡ stageAt a k c .high
@@ -83,6 +85,7 @@ rounds-first p v =
       beyond = refl;
       tops-in = p;
       look-in = v .look-in;
+      drained = v .drained;
       at = v .at;
       moving = λ j l. absurd (omega arith);
       none = v .none;
@@ -117,6 +120,7 @@ module _ {a : List ℕ} {m : List Bool} {users tops s₀ s look lows : List ℕ}
             beyond = x .beyond ∙ t .beyond ∙ v .beyond;
             tops-in = v .tops-in;
             look-in = x .look-in;
+            drained = x .drained;
             at = x .at;
             moving = moving-on;
             none = x .none;

@@ -1,7 +1,7 @@
 -- The negations of the conditions that were lowered have their numbers over the high ends, one after the other. Assumes nothing.
 use mathlib.Core.Path.{_≡_, refl, sym, _∙_, ap, subst}
 use mathlib.Core.Logic.{_≢_, _⊎_, inl, inr, ⊎-elim}
-use mathlib.Core.Bool.{Bool, true, false, true≢false}
+use mathlib.Core.Bool.{true, false, true≢false}
 use mathlib.Core.List.{List}
 use Prim.Native.Nat.{ℕ, _+_, _*_, _-_, _≤_, _<_}
 use native.Mathlib.Decide.{ℕ-discrete}
@@ -18,7 +18,7 @@ use Rattle.index.proofs.Readers.{reads-below}
 use Rattle.settle.specs.Waiting.{WaitSet}
 use Rattle.rounds.specs.Round.{LowsBegun, Renegated, Woke}
 use Rattle.stages.specs.Steps.{FollowReady}
-use Rattle.stages.proofs.Removing.{waiters, else-same, gone, rest-in, fewer, any-real}
+use Rattle.settle.proofs.Members.{waiters, else-same, gone, rest-in, fewer, any-real}
 
 -- the number of a negation
 abbrev overHigh : (a s : List ℕ) → ℕ → ℕ

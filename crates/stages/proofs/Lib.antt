@@ -1,7 +1,5 @@
 -- the assignments of the closed reading
 pub mod Assignments
--- one is taken out of a set
-pub mod Removing
 -- the next low ends
 pub mod Notes
 pub mod Taking

@@ -3,7 +3,7 @@ use mathlib.Core.Path.{_≡_, refl, sym, _∙_, ap, subst}
 use mathlib.Core.Logic.{_≢_, _⊎_, inl, inr, ⊎-elim}
 use mathlib.Core.Bool.{Bool, true, false, true≢false, false≢true}
 use mathlib.Core.List.{List}
-use Prim.Native.Nat.{ℕ, _+_, _*_, _-_, _≤_, _<_}
+use Prim.Native.Nat.{ℕ, _+_, _*_, _≤_, _<_}
 use native.Mathlib.Decide.{ℕ-discrete}
 use native.Mathlib.Omega.{arith}
 use lib.ListN.{length, getD, set, drop, length-set}
@@ -11,16 +11,14 @@ use lib.Seq.{getD-set-same, getD-set-other, drop-set-lt}
 use Rattle.fixpoint.specs.Sum.{sum}
 use Rattle.fixpoint.proofs.Cond.{by-bool}
 use Rattle.fixpoint.proofs.Sum.{sum-drop}
-use Rattle.semantics.specs.Area.{pageOf, topOf, conditionsOf}
+use Rattle.semantics.specs.Area.{pageOf, conditionsOf}
 use Rattle.semantics.specs.Table.{member}
 use Rattle.page.proofs.Head.{head-of}
 use Rattle.bits.specs.Words.{has, Inserted, Removed, AnyIn}
-use Rattle.index.specs.Readers.{linesRead}
 use Rattle.settle.specs.Ends.{reads}
 use Rattle.settle.specs.Waiting.{WaitSet, Woken}
-use Rattle.stages.specs.Steps.{Nobody, FellTop, KeptTop, LoweredTop, LowerReady, FallsAt, StaysAt, Unlooked, Lowered}
-use Rattle.stages.proofs.Removing.{waiters, few-wait, else-same, rest-in, fewer, any-real}
-use Rattle.stages.proofs.Notes.{joined, joins, joined-else}
+use Rattle.stages.specs.Steps.{Nobody, FellTop, KeptTop, LoweredTop, LowerReady, FallsAt, StaysAt, Unlooked, Lowered, Whole}
+use Rattle.settle.proofs.Members.{waiters, few-wait, was-in, else-same, rest-in, fewer, any-real, joined, joins, joined-else}
 
 -- one condition
 module _ {a users : List ℕ} {m : List Bool} {tops s look lowered : List ℕ} {c : ℕ} where
@@ -32,10 +30,10 @@ module _ {a users : List ℕ} {m : List Bool} {tops s look lowered : List ℕ} {
 
   module _ (r : member m c ≡ true) (over : getD tops c 0 < getD s (2 * conditionsOf a + 2 * c) 0) (lowered′ : List ℕ) (x : Inserted c lowered lowered′) where
     pub fell-short : length users ≡ 0 → WaitSet (conditionsOf a) look → LoweredTop a users m tops c s (set s (2 * conditionsOf a + 2 * c) (getD tops c 0)) look look lowered lowered′ true
-    fell-short z w = inr (record { told = refl; reached = r; over = over; stored = refl; lowered-in = x; look-in = w; kept = λ d l q. q; woken = inl z })
+    fell-short z w = inr (record { told = refl; reached = r; over = over; stored = refl; lowered-in = x; look-in = w; kept = λ d l q. q; woken = inl z; look-same = λ y. refl })
 
-    pub fell-woken : {look′ : List ℕ} → Woken a (2 * c) look look′ → LoweredTop a users m tops c s (set s (2 * conditionsOf a + 2 * c) (getD tops c 0)) look look′ lowered lowered′ true
-    fell-woken w = inr (record { told = refl; reached = r; over = over; stored = refl; lowered-in = x; look-in = w .set; kept = w .kept; woken = inr (w .woken) })
+    pub fell-woken : {look′ : List ℕ} → (length users ≡ 0 → ⊥) → Woken a (2 * c) look look′ → LoweredTop a users m tops c s (set s (2 * conditionsOf a + 2 * c) (getD tops c 0)) look look′ lowered lowered′ true
+    fell-woken d w = inr (record { told = refl; reached = r; over = over; stored = refl; lowered-in = x; look-in = w .set; kept = w .kept; woken = inr (w .woken); look-same = λ z. absurd (d z) })
 
 -- the high ends, all together
 abbrev pub tall : (a s : List ℕ) → ℕ
@@ -46,7 +44,8 @@ toLower a s look = tall a s * 513 + waiters look
 
 pub record Lowering (a users : List ℕ) (m : List Bool) (tops s₀ s look₀ look lowered : List ℕ) (fell : Bool) (c : ℕ) : Type 0 where
   pub ready : LowerReady a users m tops s look lowered
-  pub whole : length users ≡ 0 → (d : ℕ) → d < conditionsOf a → member m d ≡ true → has look₀ d ≡ true
+  pub whole : Whole users (conditionsOf a) m look₀
+  pub inside : length users ≡ 0 → (d : ℕ) → d < 512 → has look d ≡ true → has look₀ d ≡ true
   pub same-length : length s ≡ length s₀
   pub table : (i : ℕ) → i < 2 * conditionsOf a → getD s i 0 ≡ getD s₀ i 0
   pub negations : (d : ℕ) → d < conditionsOf a → getD s (2 * conditionsOf a + (2 * d + 1)) 0 ≡ getD s₀ (2 * conditionsOf a + (2 * d + 1)) 0
@@ -58,12 +57,13 @@ pub record Lowering (a users : List ℕ) (m : List Bool) (tops s₀ s look₀ lo
   pub any : AnyIn look c
 
 pub lowering-first : {a users : List ℕ} {m : List Bool} {tops s look lowered : List ℕ} {c : ℕ} → LowerReady a users m tops s look lowered → Nobody lowered
-    → (length users ≡ 0 → (d : ℕ) → d < conditionsOf a → member m d ≡ true → has look d ≡ true) → AnyIn look c → Lowering a users m tops s s look look lowered false c
+    → Whole users (conditionsOf a) m look → AnyIn look c → Lowering a users m tops s s look look lowered false c
 lowering-first {a} h z w y =
     let few = head-of a (h .page-sound) .few in
     record {
       ready = h;
       whole = w;
+      inside = λ e d l q. q;
       same-length = refl;
       table = λ i l. refl;
       negations = λ d l. refl;
@@ -91,6 +91,7 @@ module _ {a users : List ℕ} {m : List Bool} {tops s₀ s look₀ look lowered 
         beyond = v .beyond;
         look-in = v .ready .look-in;
         lowered-in = v .ready .lowered-in;
+        drained = v .any .none (omega (arith, v .any .within));
         each = v .each;
         out = λ d k r q. v .out d k r (v .any .none (omega (arith, v .any .within)) d (omega (arith, few)));
         none = v .none;
@@ -124,6 +125,7 @@ module _ {a users : List ℕ} {m : List Bool} {tops s₀ s look₀ look lowered 
             record {
               ready = lowering-ready;
               whole = v .whole;
+              inside = λ e d l q. v .inside e d l (was-in look look₁ c x d l q);
               same-length = v .same-length;
               table = v .table;
               negations = v .negations;
@@ -174,7 +176,7 @@ module _ {a users : List ℕ} {m : List Bool} {tops s₀ s look₀ look lowered 
 
         -- who was not looked at does not read c
         unread : (d : ℕ) → d < n → member m d ≡ true → has look′ d ≡ false → Unlooked a look₀ lowered d → reads (pageOf a) false d c ≡ true → ⊥
-        unread d l r q u f = ⊎-elim (λ z. true≢false (sym (v .whole z d l r) ∙ u .out)) (λ w. true≢false (sym (w d f) ∙ q)) (k .woken)
+        unread d l r q u f = ⊎-elim (λ z. ⊎-elim (λ w. true≢false (sym (w .waits d l r) ∙ u .out)) (λ w. true≢false (sym (v .inside z c small (v .any .found small)) ∙ w c small)) (v .whole z)) (λ w. true≢false (sym (w d f) ∙ q)) (k .woken)
 
         out′ : (d : ℕ) → d < n → member m d ≡ true → has look′ d ≡ false → (getD s′ (2 * n + 2 * d) 0 ≤ getD tops d 0) ⊎ Unlooked a look₀ lowered′ d
         out′ d l r q =
@@ -204,6 +206,7 @@ module _ {a users : List ℕ} {m : List Bool} {tops s₀ s look₀ look lowered 
                 lowered-in = joined (v .ready .lowered-in) lowering-real (k .lowered-in);
               };
               whole = v .whole;
+              inside = λ z d l q. v .inside z d l (was-in look look₁ c x d l (sym (ap (λ (w : List ℕ). has w d) (k .look-same z)) ∙ q));
               same-length = same-long ∙ v .same-length;
               table = λ i l. else′ i (λ z. omega arith) ∙ v .table i l;
               negations = λ d l. else′ (2 * n + (2 * d + 1)) (λ z. omega arith) ∙ v .negations d l;

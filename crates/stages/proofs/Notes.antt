@@ -1,21 +1,18 @@
 -- The next low ends, noted line by line over the low ends held. Assumes nothing.
 use mathlib.Core.Path.{_≡_, refl, sym, _∙_, ap, subst}
-use mathlib.Core.Logic.{_≢_, _⊎_, inl, inr, ⊎-elim}
-use mathlib.Core.Bool.{Bool, true, false, or-true, or-false, true≢false}
+use mathlib.Core.Logic.{inl, inr, ⊎-elim}
+use mathlib.Core.Bool.{Bool, true, false, true≢false}
 use mathlib.Core.List.{List, [], _∷_}
 use Prim.Native.Nat.{ℕ, suc, _+_, _*_, _-_, _≤_, _<_}
 use native.Mathlib.Decide.{ℕ-discrete}
 use native.Mathlib.Omega.{arith}
-use lib.Dec.{eqb}
-use lib.ListN.{length, getD, set, take, drop, length-set, length-take}
+use lib.ListN.{length, getD, set, take, drop, length-set}
 use lib.Seq.{getD-set-same, getD-set-other, drop-set-lt, take-set-le}
-use borrow.Author.Tests.{eq-eqb, ne-eqb, eqb-true}
 use Rattle.fixpoint.specs.Interval.{Interval, Assign}
 use Rattle.semantics.specs.Area.{sound, firstLine, lineAt, pageOf, topOf, conditionsOf, countOf}
 use Rattle.semantics.specs.Body.{lineBody, T}
 use Rattle.semantics.specs.Grade.{lower}
 use Rattle.semantics.specs.Table.{member}
-use Rattle.semantics.proofs.Table.{or-cases}
 use Rattle.page.specs.Lines.{Next}
 use Rattle.page.specs.Places.{placeOf, LineIn, LineOf}
 use Rattle.page.proofs.Head.{head-of}
@@ -29,24 +26,10 @@ use Rattle.value.proofs.Tables.{table-of}
 use Rattle.settle.specs.Scratch.{Lookable}
 use Rattle.settle.specs.Waiting.{WaitSet}
 use Rattle.settle.proofs.Draining.{group-lookable}
+use Rattle.settle.proofs.Members.{waiters, else-same, rest-in, fewer, any-real, joined, joins, joined-else}
 use Rattle.settle.proofs.Raising.{line-entry, line-head}
 use Rattle.rounds.specs.Round.{past}
 use Rattle.stages.specs.Steps.{ahead, seen, Notable, RisesAt, Noting, Covers, NotedAt, Noted, Ahead, AllNoted, LowsRest}
-use Rattle.stages.proofs.Removing.{waiters, else-same, rest-in, fewer, any-real}
-
--- a set with one more
-pub joined : {n : ℕ} {words words′ : List ℕ} {c : ℕ} → WaitSet n words → c < n → Inserted c words words′ → WaitSet n words′
-joined {words = words} {c = c} w l x =
-    record {
-      size = x .0;
-      inside = λ d k r. ⊎-elim (λ q. w .inside d k q) (λ q. omega (arith, eqb-true d c q)) (or-cases (has words d) (eqb d c) (sym (x .1 d k) ∙ r));
-    }
-
-pub joins : (words words′ : List ℕ) (c : ℕ) → c < 512 → Inserted c words words′ → has words′ c ≡ true
-joins words words′ c l x = x .1 c l ∙ rw (eq-eqb c c refl, or-true)
-
-pub joined-else : (words words′ : List ℕ) (c : ℕ) → Inserted c words words′ → (d : ℕ) → d < 512 → d ≢ c → has words′ d ≡ has words d
-joined-else words words′ c x d l z = x .1 d l ∙ rw (ne-eqb d c z, or-false)
 
 module _ (a : List ℕ) (m : List Bool) where
   abbrev n : ℕ

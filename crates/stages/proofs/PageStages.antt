@@ -1,12 +1,12 @@
 -- The assignments of a page, on what is marked. Assumes nothing.
-use mathlib.Core.Path.{_≡_, refl, sym, _∙_, ap, subst}
+use mathlib.Core.Path.{_≡_}
 use mathlib.Core.Logic.{_⊎_, inl, inr, ⊎-elim}
 use mathlib.Core.Bool.{Bool, true, false}
 use mathlib.Core.List.{List}
-use Prim.Native.Nat.{ℕ, suc, _+_, _*_, _≤_, _<_}
+use Prim.Native.Nat.{ℕ, suc, _≤_, _<_}
 use native.Mathlib.Nat.{mul-le-mul-left}
 use native.Mathlib.Omega.{arith}
-use Rattle.fixpoint.specs.Interval.{Interval, Within, Assign}
+use Rattle.fixpoint.specs.Interval.{Within, Assign}
 use Rattle.fixpoint.specs.KnowledgeOrder.{Alike}
 use Rattle.fixpoint.specs.ChaoticIteration.{DependencyClosed}
 use Rattle.fixpoint.specs.Sum.{bit, count}
@@ -16,7 +16,7 @@ use Rattle.fixpoint.proofs.Sum.{sum-le, sum-const}
 use Rattle.fixpoint.proofs.WellFounded.{closed-within}
 use Rattle.semantics.specs.Area.{sound, pageOf, topOf, conditionsOf}
 use Rattle.semantics.specs.Body.{T, unknownByDefault}
-use Rattle.semantics.specs.Grade.{lower, upper}
+use Rattle.semantics.specs.Grade.{upper}
 use Rattle.semantics.specs.Page.{names}
 use Rattle.semantics.specs.Rounds.{IsRoundCount}
 use Rattle.semantics.specs.Table.{member}
@@ -29,7 +29,7 @@ use Rattle.settle.proofs.Halves.{nobody}
 use Rattle.settle.proofs.Raising.{S, E}
 use Rattle.rounds.specs.Round.{closedAt}
 use Rattle.stages.specs.Stages.{stageAt}
-use Rattle.stages.proofs.Assignments.{first-at, falls, rises, over-closed, at-within, support-is, next-is, KeepsAt, restart-known, moving-next, low-moves, count-here, top-moves, count-after}
+use Rattle.stages.proofs.Assignments.{first-at, falls, rises, over-closed, support-is, next-is, restart-known, moving-next, low-moves, count-here, count-after}
 
 module _ (a : List ℕ) (ok : sound a ≡ true) (m : List Bool) (shut : DependencyClosed (conditionsOf a) (names (pageOf a)) (member m)) where
   abbrev n : ℕ
@@ -50,10 +50,6 @@ module _ (a : List ℕ) (ok : sound a ≡ true) (m : List Bool) (shut : Dependen
   pub stage-over : (k c : ℕ) → c < n → closedAt a c .high ≤ stageAt a k c .high
   unfolding unknownByDefault
   stage-over = over-closed (S a ok) (E a ok) shut
-
-  pub stage-in : (k c : ℕ) → c < n → Within (topOf a) (stageAt a k c)
-  unfolding unknownByDefault
-  stage-in = at-within (S a ok) (E a ok) shut
 
   pub closed-in : (c : ℕ) → c < n → Within (topOf a) (closedAt a c)
   unfolding unknownByDefault
@@ -120,7 +116,3 @@ module _ (a : List ℕ) (ok : sound a ≡ true) (m : List Bool) (shut : Dependen
       pub counted-after : IsRoundCount n (topOf a) (T (pageOf a)) (unknownByDefault (pageOf a)) (member m) (suc k)
       unfolding unknownByDefault
       counted-after = count-after (S a ok) (E a ok) shut k still l r o h
-
-      pub moving-after : MovingAt (suc k)
-      unfolding unknownByDefault
-      moving-after = moving-next (S a ok) (E a ok) shut h (top-moves (S a ok) (E a ok) shut k still l r o)

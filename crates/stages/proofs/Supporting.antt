@@ -1,31 +1,30 @@
 -- The support of an assignment: its high ends fall where they may be others, and are settled from there. Assumes nothing.
 use mathlib.Core.Path.{_≡_, refl, sym, _∙_, ap, subst}
-use mathlib.Core.Logic.{_≢_, _⊎_, inl, inr, ⊎-elim}
-use mathlib.Core.Bool.{Bool, true, false, true≢false, false≢true}
+use mathlib.Core.Logic.{_⊎_, inl, inr, ⊎-elim}
+use mathlib.Core.Bool.{Bool, true, false, true≢false}
 use mathlib.Core.List.{List, [], _∷_}
 use Prim.Native.Nat.{ℕ, suc, _+_, _*_, _-_, _≤_, _<_}
 use native.Mathlib.Decide.{ℕ-discrete}
 use native.Mathlib.Omega.{arith}
-use lib.ListN.{length, getD, drop}
-use Rattle.fixpoint.specs.Interval.{Interval, Within, Assign}
+use lib.ListN.{length, getD}
+use Rattle.fixpoint.specs.Interval.{Within}
 use Rattle.fixpoint.proofs.Cond.{by-bool}
-use Rattle.fixpoint.proofs.KnowledgeOrder.{pair-eq}
 use Rattle.semantics.specs.Area.{sound, pageOf, topOf, conditionsOf}
 use Rattle.semantics.specs.Body.{T, unknownByDefault}
 use Rattle.semantics.specs.Grade.{lower, upper}
 use Rattle.semantics.specs.Table.{member}
 use Rattle.page.proofs.Head.{head-of}
 use Rattle.bits.specs.Words.{has}
-use Rattle.index.specs.Parts.{Users, MaybeUsers}
+use Rattle.index.specs.Parts.{MaybeUsers}
 use Rattle.settle.specs.Ends.{reads}
 use Rattle.settle.specs.Scratch.{held, Half, RestsAt, Settled}
-use Rattle.settle.specs.Waiting.{WaitSet, MaybeIndex, MaybeIndexed}
+use Rattle.settle.specs.Waiting.{MaybeIndex, MaybeIndexed}
 use Rattle.settle.proofs.Halves.{below-T}
 use Rattle.settle.proofs.Raising.{S, E}
-use Rattle.rounds.specs.Round.{AllWait, LowsBegun, Woke, past, LowsWait, closedAt}
+use Rattle.rounds.specs.Round.{LowsBegun, Woke, past, closedAt}
 use Rattle.rounds.proofs.AllWaiting.{nobody-waits}
-use Rattle.stages.specs.Steps.{Nobody, LowerReady, FallsAt, StaysAt, Unlooked, Lowered, FollowReady}
-use Rattle.stages.specs.Stages.{stageAt, Tables, Tops, Older, AtStage, AtSupport, Supported}
+use Rattle.stages.specs.Steps.{Nobody, LowerReady, Unlooked, Lowered, FollowReady}
+use Rattle.stages.specs.Stages.{stageAt, Tables, Tops, Older, AtStage, Supported}
 use Rattle.stages.proofs.Assignments.{low-eq, high-eq}
 use Rattle.stages.proofs.PageStages.{stage-falls, stage-over, support-at, KeepsTop, restart-at}
 
@@ -39,18 +38,6 @@ none-in c l = by-bool (has zeros c) (λ q. absurd (omega (arith, nobody-waits 0 
 pub users-of : {a lines users : List ℕ} → MaybeIndex a lines users → MaybeUsers a users
 users-of (inl z) = inl z
 users-of (inr i) = inr (i .1)
-
--- whom the lowering looks at
-pub record Spread (a : List ℕ) (m : List Bool) (users : List ℕ) (k : ℕ) (look : List ℕ) : Type 0 where
-  pub set-in : WaitSet (conditionsOf a) look
-  pub older : AllWait (conditionsOf a) m look ⊎ Older a m k look
-  pub whole : length users ≡ 0 → (c : ℕ) → c < conditionsOf a → member m c ≡ true → has look c ≡ true
-
-pub spread-of : {a : List ℕ} {m : List Bool} {users : List ℕ} {k : ℕ} {s look lows : List ℕ} → AtStage a m users k s look lows → (look₁ : List ℕ)
-    → AllWait (conditionsOf a) m look₁ ⊎ ((length users ≡ 0 → ⊥) × (look₁ ≡ look)) → Spread a m users k look₁
-spread-of b look₁ (inl w) = record { set-in = w .set; older = inl w; whole = λ z. w .waits }
-spread-of {a} {m} {users} {k} b look₁ (inr w) =
-    subst (Spread a m users k) (sym (w .1)) (record { set-in = b .look-in; older = ⊎-elim (λ z. absurd (w .0 z)) (λ o. o) (b .spread); whole = λ z. absurd (w .0 z) })
 
 module _ {a : List ℕ} {m : List Bool} {users : List ℕ} {k : ℕ} {s look lows : List ℕ} (b : AtStage a m users k s look lows) {tops : List ℕ} (p : Tops a m tops) where
   abbrev n : ℕ
@@ -66,20 +53,20 @@ module _ {a : List ℕ} {m : List Bool} {users : List ℕ} {k : ℕ} {s look low
   unfolding pageOf
   named c d l i r f = b .tables .shut c d l i r (E a ok .named false c d f)
 
-  pub lower-ready : {look₁ : List ℕ} → Spread a m users k look₁ → MaybeUsers a users → LowerReady a users m tops s look₁ zeros
-  lower-ready w u =
+  pub lower-ready : MaybeUsers a users → LowerReady a users m tops s look zeros
+  lower-ready u =
       record {
         page-sound = ok;
         users-in = u;
         long = b .tables .long;
         marked = b .tables .marked;
         known = p .known;
-        look-in = w .set-in;
+        look-in = b .look-in;
         lowered-in = nobody-waits n;
       }
 
   -- after the lowering
-  module _ {look₁ : List ℕ} (w : Spread a m users k look₁) {s₁ look₂ lowered : List ℕ} {fell : Bool} (v : Lowered a m tops s s₁ look₁ look₂ lowered fell) where
+  module _ {s₁ look₂ lowered : List ℕ} {fell : Bool} (v : Lowered a m tops s s₁ look look₂ lowered fell) where
     lows₁ : (c : ℕ) → c < n → getD s₁ (2 * c) 0 ≡ getD s (2 * c) 0
     lows₁ c l = v .table (2 * c) (omega arith)
 
@@ -94,7 +81,7 @@ module _ {a : List ℕ} {m : List Bool} {users : List ℕ} {k : ℕ} {s look low
     stays-at c l r q = stays c l q ∙ high-eq (b .staged c l r)
 
     -- not looked at
-    keeps-top : (o : Older a m k look₁) (c : ℕ) → c < n → member m c ≡ true → has lowered c ≡ false → Unlooked a look₁ lowered c → KeepsTop a ok m (b .tables .shut) (o .before) (held n s₁) c
+    keeps-top : (o : Older a m k look) (c : ℕ) → c < n → member m c ≡ true → has lowered c ≡ false → Unlooked a look lowered c → KeepsTop a ok m (b .tables .shut) (o .before) (held n s₁) c
     keeps-top o c l r q u =
         record {
           same = subst (λ (j : ℕ). held n s₁ c .high ≡ stageAt a j c .high) (o .is) (stays-at c l r q);
@@ -103,7 +90,7 @@ module _ {a : List ℕ} {m : List Bool} {users : List ℕ} {k : ℕ} {s look low
         }
 
     -- at the closed reading, or not looked at
-    either : (c : ℕ) → c < n → member m c ≡ true → (held n s₁ c .high ≡ closedAt a c .high) ⊎ ((has lowered c ≡ false) × Unlooked a look₁ lowered c)
+    either : (c : ℕ) → c < n → member m c ≡ true → (held n s₁ c .high ≡ closedAt a c .high) ⊎ ((has lowered c ≡ false) × Unlooked a look lowered c)
     either c l r =
         elim (v .each c l) [
           | inr y ↦ inl (y .fallen ∙ p .closed c l r)
@@ -115,7 +102,7 @@ module _ {a : List ℕ} {m : List Bool} {users : List ℕ} {k : ℕ} {s look low
 
     known : (c : ℕ) → c < n → member m c ≡ true → held n s₁ c .high ≤ stageAt a (suc k) c .high
     known =
-        elim (w .older) [
+        elim (b .spread) [
           | inl q ↦ λ c l r. ⊎-elim (λ z. omega (arith, z, stage-over a ok m (b .tables .shut) (suc k) c l)) (λ u. absurd (true≢false (sym (q .waits c l r) ∙ u .1 .out))) (either c l r)
           | inr o ↦ λ c l r. subst (λ (j : ℕ). held n s₁ c .high ≤ stageAt a (suc j) c .high) (sym (o .is))
               (restart-at a ok m (b .tables .shut) (o .before) (held n s₁) (λ d i e. ⊎-elim (λ z. inl z) (λ u. inr (keeps-top o d i e (u .0) (u .1))) (either d i e)) c l r)
@@ -230,6 +217,7 @@ module _ {a : List ℕ} {m : List Bool} {users : List ℕ} {k : ℕ} {s look low
               beyond = g .beyond ∙ x .steady .beyond ∙ v .beyond;
               lows-same = lows₃;
               look-in = v .look-in;
+              drained = v .drained;
               at = record {
                 tables = tables₃;
                 floors = λ c l r. lows₃ c l ∙ low-eq (b .staged c l r);

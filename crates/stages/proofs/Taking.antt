@@ -1,7 +1,7 @@
 -- The next low ends are taken over, one condition that moved after the other. Assumes nothing.
 use mathlib.Core.Path.{_≡_, refl, sym, _∙_, ap, subst}
 use mathlib.Core.Logic.{_≢_, _⊎_, inl, inr, ⊎-elim}
-use mathlib.Core.Bool.{Bool, true, false}
+use mathlib.Core.Bool.{true, false}
 use mathlib.Core.List.{List}
 use Prim.Native.Nat.{ℕ, _+_, _*_, _-_, _≤_, _<_}
 use native.Mathlib.Decide.{ℕ-discrete}
@@ -16,7 +16,7 @@ use Rattle.index.specs.Readers.{linesRead}
 use Rattle.index.proofs.Readers.{reads-below}
 use Rattle.settle.specs.Waiting.{WaitSet, Woken}
 use Rattle.stages.specs.Steps.{ahead, TakenOver, TakeReady, AllTaken}
-use Rattle.stages.proofs.Removing.{waiters, else-same, rest-in, fewer, any-real}
+use Rattle.settle.proofs.Members.{waiters, else-same, rest-in, fewer, any-real}
 
 module _ (a users : List ℕ) (c : ℕ) (s lows look : List ℕ) where
   pub taken-short : length users ≡ 0 → WaitSet (conditionsOf a) lows → WaitSet (conditionsOf a) look → TakenOver a users c s (set s (2 * c) (ahead a s c)) lows lows look look
@@ -29,10 +29,11 @@ module _ (a users : List ℕ) (c : ℕ) (s lows look : List ℕ) where
         look-kept = λ d l r. r;
         lows-woken = inl z;
         look-woken = inl z;
+        look-same = λ y. refl;
       }
 
-  pub taken-woken : {lows′ look′ : List ℕ} → Woken a (2 * c) lows lows′ → Woken a (2 * c + 1) look look′ → TakenOver a users c s (set s (2 * c) (ahead a s c)) lows lows′ look look′
-  taken-woken w v =
+  pub taken-woken : {lows′ look′ : List ℕ} → (length users ≡ 0 → ⊥) → Woken a (2 * c) lows lows′ → Woken a (2 * c + 1) look look′ → TakenOver a users c s (set s (2 * c) (ahead a s c)) lows lows′ look look′
+  taken-woken d w v =
       record {
         stored = refl;
         lows-in = w .set;
@@ -41,6 +42,7 @@ module _ (a users : List ℕ) (c : ℕ) (s lows look : List ℕ) where
         look-kept = v .kept;
         lows-woken = inr (w .woken);
         look-woken = inr (v .woken);
+        look-same = λ z. absurd (d z);
       }
 
 -- whoever reads a literal of a condition that moved and was taken over is in the set
@@ -48,7 +50,7 @@ abbrev WokenBy : (a users s₀ moved : List ℕ) → (ℕ → ℕ) → List ℕ 
 WokenBy a users s₀ moved code words =
     (length users ≡ 0) ⊎ ((d : ℕ) → d < conditionsOf a → has moved d ≡ false → getD s₀ (2 * d) 0 ≢ ahead a s₀ d → (h : ℕ) → linesRead (code d) (pageOf a .lines) h ≡ true → has words h ≡ true)
 
-pub record Taking (a users s₀ s moved lows look : List ℕ) (c : ℕ) : Type 0 where
+pub record Taking (a users s₀ s moved lows look₀ look : List ℕ) (c : ℕ) : Type 0 where
   pub page-sound : sound a ≡ true
   pub users-in : MaybeUsers a users
   pub long : 4 * conditionsOf a ≤ length s
@@ -63,9 +65,10 @@ pub record Taking (a users s₀ s moved lows look : List ℕ) (c : ℕ) : Type 0
   pub done : (d : ℕ) → d < conditionsOf a → has moved d ≡ false → getD s (2 * d) 0 ≡ ahead a s₀ d
   pub lows-woken : WokenBy a users s₀ moved (λ d. 2 * d) lows
   pub look-woken : WokenBy a users s₀ moved (λ d. 2 * d + 1) look
+  pub look-same : (length users ≡ 0) → look ≡ look₀
   pub any : AnyIn moved c
 
-pub taking-first : {a users s moved lows look : List ℕ} {c : ℕ} → TakeReady a users s moved lows look → AnyIn moved c → Taking a users s s moved lows look c
+pub taking-first : {a users s moved lows look : List ℕ} {c : ℕ} → TakeReady a users s moved lows look → AnyIn moved c → Taking a users s s moved lows look look c
 taking-first h y =
     record {
       page-sound = h .page-sound;
@@ -82,17 +85,18 @@ taking-first h y =
       done = h .unmoved;
       lows-woken = inr (λ d l q z. absurd (z (h .unmoved d l q)));
       look-woken = inr (λ d l q z. absurd (z (h .unmoved d l q)));
+      look-same = λ z. refl;
       any = y;
     }
 
-module _ {a users s₀ s moved lows look : List ℕ} {c : ℕ} (v : Taking a users s₀ s moved lows look c) where
+module _ {a users s₀ s moved lows look₀ look : List ℕ} {c : ℕ} (v : Taking a users s₀ s moved lows look₀ look c) where
   abbrev n : ℕ
   n = conditionsOf a
 
   few : n ≤ 512
   few = head-of a (v .page-sound) .few
 
-  pub taking-last : 512 ≤ c → AllTaken a users s₀ s lows look
+  pub taking-last : 512 ≤ c → AllTaken a users s₀ s lows look₀ look
   taking-last l =
       let out : (d : ℕ) → d < conditionsOf a → has moved d ≡ false = λ d k. v .any .none (omega (arith, v .any .within)) d (omega (arith, few)) in
       record {
@@ -104,6 +108,7 @@ module _ {a users s₀ s moved lows look : List ℕ} {c : ℕ} (v : Taking a use
         lows-in = v .lows-in;
         look-in = v .look-in;
         lows-woken = ⊎-elim (λ z. inl z) (λ f. inr (λ d k. f d k (out d k))) (v .lows-woken);
+        look-same = v .look-same;
         look-woken = ⊎-elim (λ z. inl z) (λ f. inr (λ d k. f d k (out d k))) (v .look-woken);
       }
 
@@ -137,7 +142,7 @@ module _ {a users s₀ s moved lows look : List ℕ} {c : ℕ} (v : Taking a use
               | no y ↦ λ h e. k h (omega (arith, few, reads-below a (v .page-sound) (code d) h e)) (f d l (sym (else-same moved moved₁ c x d (omega (arith, few)) y) ∙ q) z h e)
             ])
 
-        pub taking-next : {c′ : ℕ} → AnyIn moved₁ c′ → Taking a users s₀ s′ moved₁ lows′ look′ c′
+        pub taking-next : {c′ : ℕ} → AnyIn moved₁ c′ → Taking a users s₀ s′ moved₁ lows′ look₀ look′ c′
         taking-next y =
             record {
               page-sound = v .page-sound;
@@ -157,5 +162,6 @@ module _ {a users s₀ s moved lows look : List ℕ} {c : ℕ} (v : Taking a use
               ];
               lows-woken = woken-next (λ d. 2 * d) lows lows′ (v .lows-woken) (r .lows-kept) (r .lows-woken);
               look-woken = woken-next (λ d. 2 * d + 1) look look′ (v .look-woken) (r .look-kept) (r .look-woken);
+              look-same = λ z. r .look-same z ∙ v .look-same z;
               any = y;
             }

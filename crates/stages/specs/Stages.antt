@@ -5,7 +5,7 @@ use mathlib.Core.Bool.{Bool, true, false}
 use mathlib.Core.List.{List}
 use Prim.Native.Nat.{ℕ, suc, _+_, _*_, _-_, _≤_, _<_}
 use lib.ListN.{length, getD, drop}
-use Rattle.fixpoint.specs.Interval.{Interval, Within, Assign}
+use Rattle.fixpoint.specs.Interval.{Within, Assign}
 use Rattle.fixpoint.specs.ChaoticIteration.{DependencyClosed}
 use Rattle.fixpoint.specs.WellFounded.{stage}
 use Rattle.semantics.specs.Area.{sound, pageOf, topOf, conditionsOf}
@@ -18,6 +18,7 @@ use Rattle.settle.specs.Ends.{reads}
 use Rattle.settle.specs.Scratch.{held, roomAt}
 use Rattle.settle.specs.Waiting.{WaitSet}
 use Rattle.rounds.specs.Round.{AllWait, LowsWait, closedAt}
+use Rattle.stages.specs.Steps.{Nobody, Whole}
 
 -- assignment k
 abbrev pub stageAt : List ℕ → ℕ → Assign
@@ -51,7 +52,8 @@ pub record AtStage (a : List ℕ) (m : List Bool) (users : List ℕ) (k : ℕ) (
   pub tables : Tables a m s
   pub staged : (c : ℕ) → c < conditionsOf a → member m c ≡ true → held (conditionsOf a) s c ≡ stageAt a k c
   pub look-in : WaitSet (conditionsOf a) look
-  pub spread : (length users ≡ 0) ⊎ (AllWait (conditionsOf a) m look ⊎ Older a m k look)
+  pub spread : AllWait (conditionsOf a) m look ⊎ Older a m k look
+  pub whole : Whole users (conditionsOf a) m look
   pub lows-wait : LowsWait a m users s lows
 
 -- the low ends of assignment k, and the high ends of its support
@@ -67,6 +69,7 @@ pub record Supported (a : List ℕ) (m : List Bool) (users : List ℕ) (k : ℕ)
   pub beyond : drop (4 * conditionsOf a) s′ ≡ drop (4 * conditionsOf a) s
   pub lows-same : (c : ℕ) → c < conditionsOf a → getD s′ (2 * c) 0 ≡ getD s (2 * c) 0
   pub look-in : WaitSet (conditionsOf a) look′
+  pub drained : Nobody look′
   pub at : AtSupport a m users k s′ lows′
   pub none : fell ≡ false → (c : ℕ) → c < conditionsOf a → member m c ≡ true → stageAt a (suc k) c .high ≡ stageAt a k c .high
   pub one : fell ≡ true → (c : ℕ) × (c < conditionsOf a) × (member m c ≡ true) × (closedAt a c .high < stageAt a k c .high)

@@ -18,7 +18,7 @@ use Rattle.index.specs.Readers.{linesRead}
 use Rattle.value.specs.Table.{Grades}
 use Rattle.settle.specs.Ends.{reads}
 use Rattle.settle.specs.Waiting.{WaitSet}
-use Rattle.rounds.specs.Round.{past}
+use Rattle.rounds.specs.Round.{AllWait, past, Fresh, LinesHave}
 
 -- nobody is in the set
 abbrev pub Nobody : List ℕ → Type 0
@@ -97,6 +97,7 @@ pub record TakenOver (a users : List ℕ) (c : ℕ) (s s′ lows lows′ look lo
   pub look-kept : (d : ℕ) → d < 512 → has look d ≡ true → has look′ d ≡ true
   pub lows-woken : (length users ≡ 0) ⊎ ((h : ℕ) → linesRead (2 * c) (pageOf a .lines) h ≡ true → has lows′ h ≡ true)
   pub look-woken : (length users ≡ 0) ⊎ ((h : ℕ) → linesRead (2 * c + 1) (pageOf a .lines) h ≡ true → has look′ h ≡ true)
+  pub look-same : length users ≡ 0 → look′ ≡ look
 
 -- what taking over asks: whoever did not move holds its next low end already
 pub record TakeReady (a users s moved lows look : List ℕ) : Type 0 where
@@ -110,7 +111,7 @@ pub record TakeReady (a users s moved lows look : List ℕ) : Type 0 where
   pub unmoved : (c : ℕ) → c < conditionsOf a → has moved c ≡ false → getD s (2 * c) 0 ≡ ahead a s c
 
 -- all next low ends are taken over
-pub record AllTaken (a users s s′ lows′ look′ : List ℕ) : Type 0 where
+pub record AllTaken (a users s s′ lows′ look look′ : List ℕ) : Type 0 where
   pub same-length : length s′ ≡ length s
   pub lows : (c : ℕ) → c < conditionsOf a → getD s′ (2 * c) 0 ≡ ahead a s c
   pub negations : (c : ℕ) → getD s′ (2 * c + 1) 0 ≡ getD s (2 * c + 1) 0
@@ -119,6 +120,7 @@ pub record AllTaken (a users s s′ lows′ look′ : List ℕ) : Type 0 where
   pub lows-in : WaitSet (conditionsOf a) lows′
   pub look-in : WaitSet (conditionsOf a) look′
   pub lows-woken : (length users ≡ 0) ⊎ ((c : ℕ) → c < conditionsOf a → getD s (2 * c) 0 ≢ ahead a s c → (h : ℕ) → linesRead (2 * c) (pageOf a .lines) h ≡ true → has lows′ h ≡ true)
+  pub look-same : length users ≡ 0 → look′ ≡ look
   pub look-woken : (length users ≡ 0) ⊎ ((c : ℕ) → c < conditionsOf a → getD s (2 * c) 0 ≢ ahead a s c → (h : ℕ) → linesRead (2 * c + 1) (pageOf a .lines) h ≡ true → has look′ h ≡ true)
 
 -- the high end of c, which is reached and above that of the closed reading, falls to it; with an index whoever names c plainly is looked at
@@ -131,6 +133,7 @@ pub record FellTop (a users : List ℕ) (m : List Bool) (tops : List ℕ) (c : �
   pub look-in : WaitSet (conditionsOf a) look′
   pub kept : (d : ℕ) → d < 512 → has look d ≡ true → has look′ d ≡ true
   pub woken : (length users ≡ 0) ⊎ ((h : ℕ) → linesRead (2 * c) (pageOf a .lines) h ≡ true → has look′ h ≡ true)
+  pub look-same : length users ≡ 0 → look′ ≡ look
 
 -- .. or nothing is done
 pub record KeptTop (a : List ℕ) (m : List Bool) (tops : List ℕ) (c : ℕ) (s s′ look look′ lowered lowered′ : List ℕ) (fell : Bool) : Type 0 where
@@ -144,7 +147,7 @@ abbrev pub LoweredTop : (a users : List ℕ) (m : List Bool) (tops : List ℕ) (
 LoweredTop a users m tops c s s′ look look′ lowered lowered′ fell =
     KeptTop a m tops c s s′ look look′ lowered lowered′ fell ⊎ FellTop a users m tops c s s′ look look′ lowered lowered′ fell
 
--- what lowering asks; without an index everybody reached is looked at
+-- what lowering asks
 pub record LowerReady (a users : List ℕ) (m : List Bool) (tops s look lowered : List ℕ) : Type 0 where
   pub page-sound : sound a ≡ true
   pub users-in : MaybeUsers a users
@@ -178,10 +181,19 @@ pub record Lowered (a : List ℕ) (m : List Bool) (tops s s′ look look′ lowe
   pub beyond : drop (4 * conditionsOf a) s′ ≡ drop (4 * conditionsOf a) s
   pub look-in : WaitSet (conditionsOf a) look′
   pub lowered-in : WaitSet (conditionsOf a) lowered
+  pub drained : Nobody look′
   pub each : (c : ℕ) → c < conditionsOf a → StaysAt a s s′ lowered c ⊎ FallsAt a m tops s s′ lowered c
   pub out : (c : ℕ) → c < conditionsOf a → member m c ≡ true → has lowered c ≡ false → (getD s′ (2 * conditionsOf a + 2 * c) 0 ≤ getD tops c 0) ⊎ Unlooked a look lowered c
   pub none : fell ≡ false → (c : ℕ) → c < conditionsOf a → has lowered c ≡ false
   pub one : fell ≡ true → (c : ℕ) × (c < conditionsOf a) × (has lowered c ≡ true)
+
+-- without an index everybody reached is looked at, or nobody
+abbrev pub Whole : (users : List ℕ) (n : ℕ) (m : List Bool) (look : List ℕ) → Type 0
+Whole users n m look = length users ≡ 0 → AllWait n m look ⊎ Nobody look
+
+-- everybody reached is looked at, or every negation is fresh: no low end that a rule negates is another next
+abbrev pub LookedAgain : (a : List ℕ) (m : List Bool) (s look look′ : List ℕ) → Type 0
+LookedAgain a m s look look′ = AllWait (conditionsOf a) m look′ ⊎ ((look′ ≡ look) × ((c : ℕ) → LinesHave (pageOf a .lines) (2 * c + 1) → Fresh a s c))
 
 -- what the negations of the lowered conditions ask: all others have their numbers already
 pub record FollowReady (a users s lowered lows : List ℕ) : Type 0 where

@@ -6,13 +6,12 @@ ghost use lib.ListN.{length, getD};
 ghost use Rattle.semantics.specs.Area.{sound, topOf, conditionsOf, countOf};
 ghost use Rattle.semantics.specs.Table.{member};
 ghost use Rattle.page.specs.Places.{placeOf, LineIn};
-ghost use Rattle.bits.specs.Words.{has};
 ghost use Rattle.index.specs.Parts.{Lines, MaybeUsers};
 ghost use Rattle.settle.specs.Scratch.{Lookable};
 ghost use Rattle.settle.specs.Waiting.{WaitSet, MaybeIndex};
-ghost use Rattle.rounds.specs.Round.{LowsBegun, Woke};
+ghost use Rattle.rounds.specs.Round.{LowsBegun, Woke, Comparable};
 ghost use Rattle.stages.specs.Counted.{CountReady, Counted};
-ghost use Rattle.stages.specs.Steps.{Nobody, Notable, NotedAt, Noted, AllNoted, LowsRest, TakenOver, TakeReady, AllTaken, LoweredTop, LowerReady, Lowered, FollowReady, Begun, TopsCopied};
+ghost use Rattle.stages.specs.Steps.{Nobody, Notable, NotedAt, Noted, AllNoted, LowsRest, TakenOver, TakeReady, AllTaken, LoweredTop, LowerReady, Lowered, Whole, LookedAgain, FollowReady, Begun, TopsCopied};
 ghost use Rattle.stages.specs.Stages.{Tops, AtStage, AtSupport, Supported, Advanced};
 use settle::settle;
 use settle::wake;
@@ -96,7 +95,7 @@ fn lower_tops(
     look: &mut [u64],
     lowered: &mut [u64],
 ) -> bool
-    requires { ⌜ LowerReady (now a) (now users) (now marks) (now tops) (now scratch) (now look) (now lowered) × Nobody (now lowered) × (length (now users) ≡ 0 → (c : ℕ) → c < conditionsOf (now a) → member (now marks) c ≡ true → has (now look) c ≡ true) ⌝ }
+    requires { ⌜ LowerReady (now a) (now users) (now marks) (now tops) (now scratch) (now look) (now lowered) × Nobody (now lowered) × Whole (now users) (conditionsOf (now a)) (now marks) (now look) ⌝ }
     ensures { λ r. ⌜ Lowered (now (a .entry)) (now (marks .entry)) (now (tops .entry)) (now (scratch .entry)) (now (scratch .exit)) (now (look .entry)) (now (look .exit)) (now (lowered .exit)) r ⌝ }
 {
     let mut fell = false;
@@ -138,9 +137,6 @@ fn support(
     requires { ⌜ ((k : ℕ) × AtStage (now a) (now marks) (now users) k (now scratch) (now look) (now lows)) × Tops (now a) (now marks) (now tops) × MaybeIndex (now a) (now lines) (now users) ⌝ }
     ensures { λ r. ⌜ ((k : ℕ) → AtStage (now (a .entry)) (now (marks .entry)) (now (users .entry)) k (now (scratch .entry)) (now (look .entry)) (now (lows .entry)) → Supported (now (a .entry)) (now (marks .entry)) (now (users .entry)) k (now (scratch .entry)) (now (scratch .exit)) (now (look .exit)) (now (lows .exit)) r) ⌝ }
 {
-    if users.len() == 0 {
-        rounds::wait_marked(marks, a[1], look);
-    }
     let mut lowered = [0u64; 8];
     let fell = lower_tops(a, users, marks, scratch, tops, look, &mut lowered);
     let mut waiting = lowered;
@@ -305,13 +301,23 @@ fn take_all(
     look: &mut [u64],
 )
     requires { ⌜ TakeReady (now a) (now users) (now scratch) (now moved) (now lows) (now look) ⌝ }
-    ensures { λ r. ⌜ AllTaken (now (a .entry)) (now (users .entry)) (now (scratch .entry)) (now (scratch .exit)) (now (lows .exit)) (now (look .exit)) ⌝ }
+    ensures { λ r. ⌜ AllTaken (now (a .entry)) (now (users .entry)) (now (scratch .entry)) (now (scratch .exit)) (now (lows .exit)) (now (look .entry)) (now (look .exit)) ⌝ }
 {
     let mut c = bits::any_in(moved, 0);
     while c < 512 {
         bits::remove(moved, c);
         take_over(a, users, scratch, lows, look, c);
         c = bits::any_in(moved, c);
+    }
+}
+
+// Without an index: everybody reached is looked at, if a low end that a rule negates is another next.
+fn look_again(a: &[u16], marks: &[bool], scratch: &[u16], look: &mut [u64])
+    requires { ⌜ Comparable (now a) (now scratch) × (conditionsOf (now a) ≤ length (now marks)) × WaitSet (conditionsOf (now a)) (now look) ⌝ }
+    ensures { λ r. ⌜ LookedAgain (now (a .entry)) (now (marks .entry)) (now (scratch .entry)) (now (look .entry)) (now (look .exit)) ⌝ }
+{
+    if rounds::negation_stale(a, scratch) {
+        rounds::wait_marked(marks, a[1], look);
     }
 }
 
@@ -325,13 +331,16 @@ fn advance(
     look: &mut [u64],
     lows: &mut [u64],
 ) -> bool
-    requires { ⌜ ((k : ℕ) × AtSupport (now a) (now marks) (now users) k (now scratch) (now lows)) × WaitSet (conditionsOf (now a)) (now look) × MaybeIndex (now a) (now lines) (now users) ⌝ }
+    requires { ⌜ ((k : ℕ) × AtSupport (now a) (now marks) (now users) k (now scratch) (now lows)) × WaitSet (conditionsOf (now a)) (now look) × Nobody (now look) × MaybeIndex (now a) (now lines) (now users) ⌝ }
     ensures { λ r. ⌜ ((k : ℕ) → AtSupport (now (a .entry)) (now (marks .entry)) (now (users .entry)) k (now (scratch .entry)) (now (lows .entry)) → Advanced (now (a .entry)) (now (marks .entry)) (now (users .entry)) k (now (scratch .entry)) (now (scratch .exit)) (now (look .exit)) (now (lows .exit)) r) ⌝ }
 {
     let mut moved = [0u64; 8];
     next_lows(a, lines, users, marks, scratch, lows, &mut moved);
     if 512 <= bits::any_in(&moved, 0) {
         return false;
+    }
+    if users.len() == 0 {
+        look_again(a, marks, scratch, look);
     }
     take_all(a, users, scratch, &mut moved, lows, look);
     true

@@ -66,7 +66,7 @@ slice-aggregate-advance-2 : tie.Need-slice-aggregate-advance-2 Inv-loop μ-loop
 slice-aggregate-advance-2 c = search needs
 
 advance-requires : tie.Need-advance-requires Inv-loop μ-loop
-advance-requires c κs = ((c .before .before .before .loop .k, c .before .before .before .loop .inv .at), c .before .before .before .loop .inv .look-in, c .before .before .before .before .before .before .before .before .before .before .before .before .before .before .before .before .before .before .before .before .before .before .before .before .before .before .before .before .before .before .before .before .before .before .pre .1)
+advance-requires c κs = ((c .before .before .before .loop .k, c .before .before .before .loop .inv .at), c .before .before .before .loop .inv .look-in, c .before .before .before .loop .inv .drained, c .before .before .before .before .before .before .before .before .before .before .before .before .before .before .before .before .before .before .before .before .before .before .before .before .before .before .before .before .before .before .before .before .before .before .pre .1)
 
 slice-aggregate-support-4 : tie.Need-slice-aggregate-support-4 Inv-loop μ-loop
 slice-aggregate-support-4 c = sym (c .before .before .before .before .before .before .before .before .before .before .before .before .before .before .before .before .before .before .before .before .before .before .before .before .before .before .before .before .before .before .before .before .before .before .copy-tops .ensures .size)

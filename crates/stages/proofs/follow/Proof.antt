@@ -1,7 +1,7 @@
 -- `follow` takes out one lowered condition after the other (`Following`).
 use mathlib.Core.Path.{sym, _∙_}
 use native.Mathlib.Omega.{arith}
-use Rattle.stages.proofs.Removing.{waiters}
+use Rattle.settle.proofs.Members.{waiters}
 use Rattle.stages.proofs.Following.{Following, following-first, following-real, following-grade, following-less, following-next, following-last}
 use Rattle.stages.proofs.follow.Statement.{statement}
 use Rattle.stages.proofs.follow.Tie as tie

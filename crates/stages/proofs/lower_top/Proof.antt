@@ -78,7 +78,7 @@ same-length-5 : tie.Need-same-length-5
 same-length-5 c = search needs
 
 returns-4 : tie.Need-returns-4
-returns-4 c = fell-woken (not-false _ (c .before .before .before .before .before .before .before .before .before .before .before .before .before .if1 .left)) (omega arith) _ (c .before .before .before .before .before .before .before .insert .ensures) (c .before .before .wake .ensures)
+returns-4 c = fell-woken (not-false _ (c .before .before .before .before .before .before .before .before .before .before .before .before .before .if1 .left)) (omega arith) _ (c .before .before .before .before .before .before .before .insert .ensures) (c .before .before .before .before .if3 .left) (c .before .before .wake .ensures)
 
 pub lower-top-spec : {M : Type 1} → statement M
 lower-top-spec =

@@ -4,7 +4,7 @@ use Prim.Native.Nat.{_+_}
 use native.Mathlib.Omega.{arith}
 use Rattle.page.proofs.Head.{head-of}
 use Rattle.settle.proofs.Waking.{line-groups}
-use Rattle.stages.proofs.Removing.{waiters}
+use Rattle.settle.proofs.Members.{waiters}
 use Rattle.stages.proofs.Notes.{NotingWaiting, waiting-first, waiting-few, waiting-real, waiting-group, waiting-less, waiting-next, waiting-last}
 use borrow.Author.Needs.{needs}
 use Rattle.stages.proofs.note_waiting.Statement.{statement}

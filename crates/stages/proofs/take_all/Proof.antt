@@ -1,13 +1,13 @@
 -- `take_all` takes out one condition that moved after the other (`Taking`).
 use mathlib.Core.Path.{sym, _∙_}
 use native.Mathlib.Omega.{arith}
-use Rattle.stages.proofs.Removing.{waiters}
+use Rattle.settle.proofs.Members.{waiters}
 use Rattle.stages.proofs.Taking.{Taking, taking-first, taking-real, taking-grade, taking-less, taking-next, taking-last}
 use Rattle.stages.proofs.take_all.Statement.{statement}
 use Rattle.stages.proofs.take_all.Tie as tie
 
 abbrev Inv-loop : tie.InvT-loop
-Inv-loop a users scratch₀ moved₀ lows₀ look₀ c₀ scratch moved lows look c = Taking a users scratch₀ scratch moved lows look c
+Inv-loop a users scratch₀ moved₀ lows₀ look₀ c₀ scratch moved lows look c = Taking a users scratch₀ scratch moved lows look₀ look c
 
 abbrev μ-loop : tie.MeasureT-loop
 μ-loop a users scratch₀ moved₀ lows₀ look₀ c₀ scratch moved lows look c = waiters moved

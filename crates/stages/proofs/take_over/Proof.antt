@@ -74,7 +74,7 @@ same-length-4 : tie.Need-same-length-4
 same-length-4 c = search needs
 
 returns-2 : tie.Need-returns-2
-returns-2 c = taken-woken _ _ _ _ _ _ (c .before .before .before .before .before .before .wake .ensures) (c .before .before .wake2 .ensures)
+returns-2 c = taken-woken _ _ _ _ _ _ (c .before .before .before .before .before .before .before .before .if1 .left) (c .before .before .before .before .before .before .wake .ensures) (c .before .before .wake2 .ensures)
 
 pub take-over-spec : {M : Type 1} → statement M
 take-over-spec =

@@ -1,17 +1,18 @@
--- One is taken out of a set. Assumes nothing.
+-- One joins a set of conditions, or is taken out of it. Assumes nothing.
 use mathlib.Core.Path.{_≡_, refl, sym, _∙_}
-use mathlib.Core.Logic.{_≢_}
-use mathlib.Core.Bool.{Bool, true, false, not, _&&_, and-true, true≢false}
+use mathlib.Core.Logic.{_≢_, ⊎-elim}
+use mathlib.Core.Bool.{Bool, true, false, not, _&&_, and-true, or-true, or-false, true≢false}
 use mathlib.Core.List.{List}
 use Prim.Native.Nat.{ℕ, _≤_, _<_}
 use native.Mathlib.Omega.{arith}
 use lib.Dec.{eqb}
-use borrow.Author.Tests.{eq-eqb, ne-eqb}
+use borrow.Author.Tests.{eq-eqb, ne-eqb, eqb-true}
 use Rattle.fixpoint.specs.Sum.{sum, bit}
 use Rattle.fixpoint.proofs.Cond.{by-bool}
 use Rattle.fixpoint.proofs.Sum.{sum-le, sum-const, sum-drop}
-use Rattle.bits.specs.Words.{has, Removed, AnyIn}
+use Rattle.semantics.proofs.Table.{or-cases}
+use Rattle.bits.specs.Words.{has, Inserted, Removed, AnyIn}
 use Rattle.settle.specs.Waiting.{WaitSet}
 
 -- how many are in the set
 abbrev pub waiters : List ℕ → ℕ
@@ -56,3 +57,17 @@ module _ (words words₁ : List ℕ) (c : ℕ) (x : Removed c words words₁) wh
 -- one of a set is a condition
 pub any-real : {n : ℕ} {words : List ℕ} {c : ℕ} → WaitSet n words → AnyIn words c → c < 512 → c < n
 any-real {c = c} w v l = w .inside c l (v .found l)
+
+-- a set with one more
+pub joined : {n : ℕ} {words words′ : List ℕ} {c : ℕ} → WaitSet n words → c < n → Inserted c words words′ → WaitSet n words′
+joined {words = words} {c = c} w l x =
+    record {
+      size = x .0;
+      inside = λ d k r. ⊎-elim (λ q. w .inside d k q) (λ q. omega (arith, eqb-true d c q)) (or-cases (has words d) (eqb d c) (sym (x .1 d k) ∙ r));
+    }
+
+pub joins : (words words′ : List ℕ) (c : ℕ) → c < 512 → Inserted c words words′ → has words′ c ≡ true
+joins words words′ c l x = x .1 c l ∙ rw (eq-eqb c c refl, or-true)
+
+pub joined-else : (words words′ : List ℕ) (c : ℕ) → Inserted c words words′ → (d : ℕ) → d < 512 → d ≢ c → has words′ d ≡ has words d
+joined-else words words′ c x d l z = x .1 d l ∙ rw (ne-eqb d c z, or-false)
