@@ -259,15 +259,15 @@ module _ (a qs s w : List ℕ) where
     unfolding ClosedOf pageOf
     accepted {s₁} {s′} {w′} {k} v d =
         rw (← e .is) (
-          record {
-            reading = closedAt a;
-            is-closed = closed-is (pageOf a) (sound-proper a (solve-ready .page-sound));
-            rounds = k;
-            is-rounds = v .rounds refl;
-            told = refl;
-            written = v .written;
-            cleared = d ∙ ap (λ (t : List ℕ). zeros (4 * conditionsOf a) ++ t) (v .beyond);
-          }
+        record {
+          reading = closedAt a;
+          is-closed = closed-is (pageOf a) (sound-proper a (solve-ready .page-sound));
+          rounds = k;
+          is-rounds = v .rounds refl;
+          told = refl;
+          written = v .written;
+          cleared = d ∙ ap (λ (t : List ℕ). zeros (4 * conditionsOf a) ++ t) (v .beyond);
+        }
         )
 
     -- the workspace of an accepted call

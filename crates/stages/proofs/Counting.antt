@@ -65,83 +65,63 @@ module _ {a : List ℕ} {m : List Bool} {s : List ℕ} (b : CountReady a m s) wh
           lows-wait = all-lows a m users s₁ lows (z .set) (inr z);
         }
 
--- the loop
-pub record Rounds (a : List ℕ) (m : List Bool) (users tops s₀ s look lows : List ℕ) (fell : Bool) (k : ℕ) : Type 0 where
+-- the loop, before the support of assignment k
+pub record Rounding (a : List ℕ) (m : List Bool) (users tops s₀ s look lows : List ℕ) (k : ℕ) : Type 0 where
   pub same-length : length s ≡ length s₀
   pub beyond : drop (4 * conditionsOf a) s ≡ drop (4 * conditionsOf a) s₀
   pub tops-in : Tops a m tops
-  pub look-in : WaitSet (conditionsOf a) look
-  pub drained : Nobody look
-  pub at : AtSupport a m users k s lows
+  pub at : AtStage a m users k s look lows
   pub moving : MovingAt a (at .tables .page-sound) m (at .tables .shut) k
-  pub none : fell ≡ false → (c : ℕ) → c < conditionsOf a → member m c ≡ true → stageAt a (suc k) c .high ≡ stageAt a k c .high
-  pub one : fell ≡ true → (c : ℕ) × (c < conditionsOf a) × (member m c ≡ true) × (closedAt a c .high < stageAt a k c .high)
 
-pub rounds-first : {a : List ℕ} {m : List Bool} {users tops s s′ look′ lows′ : List ℕ} {fell : Bool} → Tops a m tops → Supported a m users 0 s s′ look′ lows′ fell
-    → Rounds a m users tops s′ s′ look′ lows′ fell 0
-rounds-first p v =
-    record {
-      same-length = refl;
-      beyond = refl;
-      tops-in = p;
-      look-in = v .look-in;
-      drained = v .drained;
-      at = v .at;
-      moving = λ j l. absurd (omega arith);
-      none = v .none;
-      one = v .one;
-    }
+pub rounding-first : {a : List ℕ} {m : List Bool} {users tops s look lows : List ℕ} → Tops a m tops → AtStage a m users 0 s look lows → Rounding a m users tops s s look lows 0
+rounding-first p v = record { same-length = refl; beyond = refl; tops-in = p; at = v; moving = λ j l. absurd (omega arith) }
 
 -- the same from an earlier scratch
 pub counted-from : {a : List ℕ} {m : List Bool} {s s₀ s′ : List ℕ} {k : ℕ} → Counted a m s₀ s′ k → length s₀ ≡ length s → drop (4 * conditionsOf a) s₀ ≡ drop (4 * conditionsOf a) s → Counted a m s s′ k
 counted-from v e f = record { same-length = v .same-length ∙ e; beyond = v .beyond ∙ f; is-count = v .is-count }
 
-module _ {a : List ℕ} {m : List Bool} {users tops s₀ s look lows : List ℕ} {fell : Bool} {k : ℕ} (v : Rounds a m users tops s₀ s look lows fell k) where
+module _ {a : List ℕ} {m : List Bool} {users tops s₀ s look lows : List ℕ} {k : ℕ} (v : Rounding a m users tops s₀ s look lows k) where
   ok : sound a ≡ true
   ok = v .at .tables .page-sound
 
   pub rounds-small : k ≤ 102400
   rounds-small = rounds-few a ok m (v .at .tables .shut) k (v .moving)
 
-  module _ {s₁ look₁ lows₁ : List ℕ} {moved : Bool} (t : Advanced a m users k s s₁ look₁ lows₁ moved) where
+  module _ {s₁ look₁ lows₁ : List ℕ} {fell : Bool} (x : Supported a m users k s s₁ look₁ lows₁ fell)
+      {s₂ look₂ lows₂ : List ℕ} {moved : Bool} (t : Advanced a m users k s₁ s₂ look₂ lows₂ moved) where
+    pub rounds-length : length s₂ ≡ length s₀
+    rounds-length = t .same-length ∙ x .same-length ∙ v .same-length
+
+    rounds-beyond : drop (4 * conditionsOf a) s₂ ≡ drop (4 * conditionsOf a) s₀
+    rounds-beyond = t .beyond ∙ x .beyond ∙ v .beyond
+
     -- one more round
     module _ (y : moved ≡ true) where
       moving-on : MovingAt a ok m (v .at .tables .shut) (suc k)
       moving-on = let o = t .one y in moving-low a ok m (v .at .tables .shut) k (v .moving) (o .0) (o .1) (o .2) (o .3)
 
-      pub rounds-less : {s₂ look₂ lows₂ : List ℕ} {fell′ : Bool} → Supported a m users (suc k) s₁ s₂ look₂ lows₂ fell′ → roomAt lower a s₂ < roomAt lower a s
+      pub rounds-less : roomAt lower a s₂ < roomAt lower a s
       unfolding room
-      rounds-less x = omega (arith, t .moves y, sum-eq (conditionsOf a) _ _ (λ c l. ap (λ (i : ℕ). topOf a - i) (x .lows-same c l)))
+      rounds-less = omega (arith, t .moves y, sum-eq (conditionsOf a) _ _ (λ c l. ap (λ (i : ℕ). topOf a - i) (x .lows-same c l)))
 
-      pub rounds-next : {s₂ look₂ lows₂ : List ℕ} {fell′ : Bool} → Supported a m users (suc k) s₁ s₂ look₂ lows₂ fell′ → Rounds a m users tops s₀ s₂ look₂ lows₂ fell′ (k + 1)
-      rounds-next x =
-          rw (add-one k) (record {
-            same-length = x .same-length ∙ t .same-length ∙ v .same-length;
-            beyond = x .beyond ∙ t .beyond ∙ v .beyond;
-            tops-in = v .tops-in;
-            look-in = x .look-in;
-            drained = x .drained;
-            at = x .at;
-            moving = moving-on;
-            none = x .none;
-            one = x .one;
-          })
+      pub rounds-next : Rounding a m users tops s₀ s₂ look₂ lows₂ (k + 1)
+      rounds-next = rw (add-one k) (record { same-length = rounds-length; beyond = rounds-beyond; tops-in = v .tops-in; at = t .next y; moving = moving-on })
 
     -- the last
     module _ (y : moved ≡ false) where
-      pub rounds-here : fell ≡ false → Counted a m s₀ s₁ k
+      pub rounds-here : fell ≡ false → Counted a m s₀ s₂ k
       rounds-here z =
           record {
-            same-length = t .same-length ∙ v .same-length;
-            beyond = t .beyond ∙ v .beyond;
-            is-count = counted-here a ok m (v .at .tables .shut) k (t .still y) (v .moving) (v .none z);
+            same-length = rounds-length;
+            beyond = rounds-beyond;
+            is-count = counted-here a ok m (v .at .tables .shut) k (t .still y) (v .moving) (x .none z);
           }
 
-      pub rounds-after : fell ≡ true → Counted a m s₀ s₁ (k + 1)
+      pub rounds-after : fell ≡ true → Counted a m s₀ s₂ (k + 1)
       rounds-after z =
-          let o = v .one z in
+          let o = x .one z in
           rw (add-one k) (record {
-            same-length = t .same-length ∙ v .same-length;
-            beyond = t .beyond ∙ v .beyond;
+            same-length = rounds-length;
+            beyond = rounds-beyond;
             is-count = counted-after a ok m (v .at .tables .shut) k (t .still y) (v .moving) (o .0) (o .1) (o .2) (o .3);
           })

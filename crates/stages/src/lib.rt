@@ -366,13 +366,14 @@ pub fn count_rounds(
     rounds::wait_marked(marks, a[1], &mut look);
     rounds::wait_marked(marks, a[1], &mut lows);
     let mut k: u32 = 0;
-    let mut fell = support(a, lines, users, marks, scratch, &tops, &mut look, &mut lows);
-    while advance(a, lines, users, marks, scratch, &mut look, &mut lows) {
-        fell = support(a, lines, users, marks, scratch, &tops, &mut look, &mut lows);
-        k += 1;
+    loop {
+        let fell = support(a, lines, users, marks, scratch, &tops, &mut look, &mut lows);
+        if advance(a, lines, users, marks, scratch, &mut look, &mut lows) {
+            k += 1;
+        } else if fell {
+            return k + 1;
+        } else {
+            return k;
+        }
     }
-    if fell {
-        return k + 1;
-    }
-    k
 }

@@ -1,21 +1,20 @@
--- `count_rounds` goes from assignment to assignment until no low end moves (`Rounds`).
-use mathlib.Core.Path.{sym, _∙_}
-use Prim.Native.Nat.{suc}
+-- `count_rounds` goes from assignment to assignment until no low end moves (`Rounding`).
+use mathlib.Core.Path.{_∙_}
 use native.Mathlib.Omega.{arith}
 use Rattle.semantics.specs.Grade.{lower}
 use Rattle.page.proofs.Head.{head-of}
 use Rattle.settle.specs.Scratch.{roomAt}
 use Rattle.rounds.proofs.AllWaiting.{nobody-waits}
-use Rattle.stages.proofs.Counting.{tops-small, tops-are, stage-begins, Rounds, rounds-first, counted-from, rounds-small, rounds-less, rounds-next, rounds-here, rounds-after}
+use Rattle.stages.proofs.Counting.{tops-small, tops-are, stage-begins, Rounding, rounding-first, counted-from, rounds-small, rounds-length, rounds-less, rounds-next, rounds-here, rounds-after}
 use borrow.Author.Needs.{needs}
 use Rattle.stages.proofs.count_rounds.Statement.{statement}
 use Rattle.stages.proofs.count_rounds.Tie as tie
 
 abbrev Inv-loop : tie.InvT-loop
-Inv-loop a lines users marks scratch₀ tops look₀ lows₀ k₀ fell₀ scratch look lows k fell = Rounds a marks users tops scratch₀ scratch look lows fell k
+Inv-loop a lines users marks scratch₀ tops look₀ lows₀ k₀ scratch look lows k = Rounding a marks users tops scratch₀ scratch look lows k
 
 abbrev μ-loop : tie.MeasureT-loop
-μ-loop a lines users marks scratch₀ tops look₀ lows₀ k₀ fell₀ scratch look lows k fell = roomAt lower a scratch
+μ-loop a lines users marks scratch₀ tops look₀ lows₀ k₀ scratch look lows k = roomAt lower a scratch
 
 slice-aggregate-copy-tops : tie.Need-slice-aggregate-copy-tops Inv-loop μ-loop
 slice-aggregate-copy-tops c = search needs
@@ -44,6 +43,9 @@ slice-aggregate-wait-marked-2 c = search needs
 wait-marked-requires-2 : tie.Need-wait-marked-requires-2 Inv-loop μ-loop
 wait-marked-requires-2 c κs = let p = c .before .before .before .before .before .before .before .before .before .before .before .before .before .before .before .before .before .before .before .pre .0 in (p .marked, head-of (c .before .before .before .before .before .before .before .before .before .before .before .before .before .before .before .before .before .before .before .args .a .now) (p .page-sound) .few, nobody-waits _)
 
+loop-holds : tie.Need-loop-holds Inv-loop μ-loop
+loop-holds c = let p = c .before .before .before .before .before .before .before .before .before .before .before .before .before .before .before .before .before .before .before .before .before .pre .0 in rounding-first (tops-are p (c .before .before .before .before .before .before .before .before .before .before .before .before .before .copy-tops .ensures)) (stage-begins p (c .before .before .before .before .before .before .before .before .before .before .begin .ensures) _ (c .before .before .before .before .before .wait-marked .ensures) (c .before .wait-marked2 .ensures))
+
 slice-aggregate-support : tie.Need-slice-aggregate-support Inv-loop μ-loop
 slice-aggregate-support c = search needs
 
@@ -54,10 +56,7 @@ slice-aggregate-support-3 : tie.Need-slice-aggregate-support-3 Inv-loop μ-loop
 slice-aggregate-support-3 c = search needs
 
 support-requires : tie.Need-support-requires Inv-loop μ-loop
-support-requires c κs = let p = c .before .before .before .before .before .before .before .before .before .before .before .before .before .before .before .before .before .before .before .before .before .before .before .before .before .pre .0 in ((0, stage-begins p (c .before .before .before .before .before .before .before .before .before .before .before .before .before .before .begin .ensures) _ (c .before .before .before .before .before .before .before .before .before .wait-marked .ensures) (c .before .before .before .before .before .wait-marked2 .ensures)), tops-are p (c .before .before .before .before .before .before .before .before .before .before .before .before .before .before .before .before .before .copy-tops .ensures), c .before .before .before .before .before .before .before .before .before .before .before .before .before .before .before .before .before .before .before .before .before .before .before .before .before .pre .1)
-
-loop-holds : tie.Need-loop-holds Inv-loop μ-loop
-loop-holds c = let p = c .before .before .before .before .before .before .before .before .before .before .before .before .before .before .before .before .before .before .before .before .before .before .before .before .before .before .before .before .before .before .pre .0 in rounds-first (tops-are p (c .before .before .before .before .before .before .before .before .before .before .before .before .before .before .before .before .before .before .before .before .before .before .copy-tops .ensures)) (c .before .before .before .before .support .ensures 0 (stage-begins p (c .before .before .before .before .before .before .before .before .before .before .before .before .before .before .before .before .before .before .before .begin .ensures) _ (c .before .before .before .before .before .before .before .before .before .before .before .before .before .before .wait-marked .ensures) (c .before .before .before .before .before .before .before .before .before .before .wait-marked2 .ensures)))
+support-requires c κs = ((c .before .before .before .before .loop .k, c .before .before .before .before .loop .inv .at), c .before .before .before .before .loop .inv .tops-in, c .before .before .before .before .before .before .before .before .before .before .before .before .before .before .before .before .before .before .before .before .before .before .before .before .before .before .pre .1)
 
 slice-aggregate-advance : tie.Need-slice-aggregate-advance Inv-loop μ-loop
 slice-aggregate-advance c = search needs
@@ -66,43 +65,31 @@ slice-aggregate-advance-2 : tie.Need-slice-aggregate-advance-2 Inv-loop μ-loop
 slice-aggregate-advance-2 c = search needs
 
 advance-requires : tie.Need-advance-requires Inv-loop μ-loop
-advance-requires c κs = ((c .before .before .before .loop .k, c .before .before .before .loop .inv .at), c .before .before .before .loop .inv .look-in, c .before .before .before .loop .inv .drained, c .before .before .before .before .before .before .before .before .before .before .before .before .before .before .before .before .before .before .before .before .before .before .before .before .before .before .before .before .before .before .before .before .before .before .pre .1)
-
-slice-aggregate-support-4 : tie.Need-slice-aggregate-support-4 Inv-loop μ-loop
-slice-aggregate-support-4 c = sym (c .before .before .before .before .before .before .before .before .before .before .before .before .before .before .before .before .before .before .before .before .before .before .before .before .before .before .before .before .before .before .before .before .before .before .copy-tops .ensures .size)
-
-slice-aggregate-support-5 : tie.Need-slice-aggregate-support-5 Inv-loop μ-loop
-slice-aggregate-support-5 c = search needs
-
-slice-aggregate-support-6 : tie.Need-slice-aggregate-support-6 Inv-loop μ-loop
-slice-aggregate-support-6 c = search needs
-
-support-requires-2 : tie.Need-support-requires-2 Inv-loop μ-loop
-support-requires-2 c κs = ((suc (c .before .before .before .before .before .before .before .before .before .before .before .before .before .loop .k), c .before .before .before .before .before .before .before .before .before .advance .ensures (c .before .before .before .before .before .before .before .before .before .before .before .before .before .loop .k) (c .before .before .before .before .before .before .before .before .before .before .before .before .before .loop .inv .at) .next (c .before .before .before .before .if1 .taken)), c .before .before .before .before .before .before .before .before .before .before .before .before .before .loop .inv .tops-in, c .before .before .before .before .before .before .before .before .before .before .before .before .before .before .before .before .before .before .before .before .before .before .before .before .before .before .before .before .before .before .before .before .before .before .before .before .before .before .before .before .before .before .before .before .pre .1)
+advance-requires c κs = let x = (c .before .before .before .before .before .before .before .support .ensures (c .before .before .before .before .before .before .before .before .before .before .before .before .loop .k) (c .before .before .before .before .before .before .before .before .before .before .before .before .loop .inv .at)) in ((c .before .before .before .before .before .before .before .before .before .before .before .before .loop .k, x .at), x .look-in, x .drained, c .before .before .before .before .before .before .before .before .before .before .before .before .before .before .before .before .before .before .before .before .before .before .before .before .before .before .before .before .before .before .before .before .before .before .pre .1)
 
 add-k : tie.Need-add-k Inv-loop μ-loop
 add-k c = omega (arith, rounds-small (c .before .before .before .before .before .before .before .before .before .before .before .before .before .before .before .before .before .before .loop .inv))
 
 loop-less : tie.Need-loop-less Inv-loop μ-loop
-loop-less c = let t = c .before .before .before .before .before .before .before .before .before .before .before .before .before .before .advance .ensures (c .before .before .before .before .before .before .before .before .before .before .before .before .before .before .before .before .before .before .loop .k) (c .before .before .before .before .before .before .before .before .before .before .before .before .before .before .before .before .before .before .loop .inv .at) in rounds-less (c .before .before .before .before .before .before .before .before .before .before .before .before .before .before .before .before .before .before .loop .inv) t (c .before .before .before .before .before .before .before .before .before .if1 .taken) (c .before .before .before .before .support2 .ensures (suc (c .before .before .before .before .before .before .before .before .before .before .before .before .before .before .before .before .before .before .loop .k)) (t .next (c .before .before .before .before .before .before .before .before .before .if1 .taken)))
+loop-less c = rounds-less (c .before .before .before .before .before .before .before .before .before .before .before .before .before .before .before .before .before .before .loop .inv) (c .before .before .before .before .before .before .before .before .before .before .before .before .before .support .ensures (c .before .before .before .before .before .before .before .before .before .before .before .before .before .before .before .before .before .before .loop .k) (c .before .before .before .before .before .before .before .before .before .before .before .before .before .before .before .before .before .before .loop .inv .at)) (c .before .before .before .before .before .advance .ensures (c .before .before .before .before .before .before .before .before .before .before .before .before .before .before .before .before .before .before .loop .k) ((c .before .before .before .before .before .before .before .before .before .before .before .before .before .support .ensures (c .before .before .before .before .before .before .before .before .before .before .before .before .before .before .before .before .before .before .loop .k) (c .before .before .before .before .before .before .before .before .before .before .before .before .before .before .before .before .before .before .loop .inv .at)) .at)) (c .if1 .taken)
 
 loop-again : tie.Need-loop-again Inv-loop μ-loop
-loop-again c = let t = c .before .before .before .before .before .before .before .before .before .before .before .before .before .before .advance .ensures (c .before .before .before .before .before .before .before .before .before .before .before .before .before .before .before .before .before .before .loop .k) (c .before .before .before .before .before .before .before .before .before .before .before .before .before .before .before .before .before .before .loop .inv .at) in rounds-next (c .before .before .before .before .before .before .before .before .before .before .before .before .before .before .before .before .before .before .loop .inv) t (c .before .before .before .before .before .before .before .before .before .if1 .taken) (c .before .before .before .before .support2 .ensures (suc (c .before .before .before .before .before .before .before .before .before .before .before .before .before .before .before .before .before .before .loop .k)) (t .next (c .before .before .before .before .before .before .before .before .before .if1 .taken)))
+loop-again c = rounds-next (c .before .before .before .before .before .before .before .before .before .before .before .before .before .before .before .before .before .before .loop .inv) (c .before .before .before .before .before .before .before .before .before .before .before .before .before .support .ensures (c .before .before .before .before .before .before .before .before .before .before .before .before .before .before .before .before .before .before .loop .k) (c .before .before .before .before .before .before .before .before .before .before .before .before .before .before .before .before .before .before .loop .inv .at)) (c .before .before .before .before .before .advance .ensures (c .before .before .before .before .before .before .before .before .before .before .before .before .before .before .before .before .before .before .loop .k) ((c .before .before .before .before .before .before .before .before .before .before .before .before .before .support .ensures (c .before .before .before .before .before .before .before .before .before .before .before .before .before .before .before .before .before .before .loop .k) (c .before .before .before .before .before .before .before .before .before .before .before .before .before .before .before .before .before .before .loop .inv .at)) .at)) (c .if1 .taken)
 
 add-result : tie.Need-add-result Inv-loop μ-loop
-add-result c = omega (arith, rounds-small (c .before .before .before .before .before .before .before .before .before .before .loop .inv))
+add-result c = omega (arith, rounds-small (c .before .before .before .before .before .before .before .before .before .before .before .before .before .before .before .before .before .before .before .loop .inv))
 
 same-length : tie.Need-same-length Inv-loop μ-loop
-same-length c = let p = c .before .before .before .before .before .before .before .before .before .before .before .before .before .before .before .before .before .before .before .before .before .before .before .before .before .before .before .before .before .before .before .before .before .before .before .before .before .before .before .before .before .pre .0 in let v = c .before .before .before .before .before .before .before .before .before .before .before .before .before .before .before .support .ensures 0 (stage-begins p (c .before .before .before .before .before .before .before .before .before .before .before .before .before .before .before .before .before .before .before .before .before .before .before .before .before .before .before .before .before .before .begin .ensures) _ (c .before .before .before .before .before .before .before .before .before .before .before .before .before .before .before .before .before .before .before .before .before .before .before .before .before .wait-marked .ensures) (c .before .before .before .before .before .before .before .before .before .before .before .before .before .before .before .before .before .before .before .before .before .wait-marked2 .ensures)) in c .before .before .before .before .before .before .advance .ensures (c .before .before .before .before .before .before .before .before .before .before .loop .k) (c .before .before .before .before .before .before .before .before .before .before .loop .inv .at) .same-length ∙ c .before .before .before .before .before .before .before .before .before .before .loop .inv .same-length ∙ v .same-length ∙ c .before .before .before .before .before .before .before .before .before .before .before .before .before .before .before .before .before .before .before .before .before .before .before .before .before .before .before .before .before .before .begin .ensures .same-length
+same-length c = rounds-length (c .before .before .before .before .before .before .before .before .before .before .before .before .before .before .before .before .before .before .before .loop .inv) (c .before .before .before .before .before .before .before .before .before .before .before .before .before .before .support .ensures (c .before .before .before .before .before .before .before .before .before .before .before .before .before .before .before .before .before .before .before .loop .k) (c .before .before .before .before .before .before .before .before .before .before .before .before .before .before .before .before .before .before .before .loop .inv .at)) (c .before .before .before .before .before .before .advance .ensures (c .before .before .before .before .before .before .before .before .before .before .before .before .before .before .before .before .before .before .before .loop .k) ((c .before .before .before .before .before .before .before .before .before .before .before .before .before .before .support .ensures (c .before .before .before .before .before .before .before .before .before .before .before .before .before .before .before .before .before .before .before .loop .k) (c .before .before .before .before .before .before .before .before .before .before .before .before .before .before .before .before .before .before .before .loop .inv .at)) .at)) ∙ c .before .before .before .before .before .before .before .before .before .before .before .before .before .before .before .before .before .before .before .before .before .before .before .before .before .before .before .before .before .before .begin .ensures .same-length
 
 returns : tie.Need-returns Inv-loop μ-loop
-returns c = let p = c .before .before .before .before .before .before .before .before .before .before .before .before .before .before .before .before .before .before .before .before .before .before .before .before .before .before .before .before .before .before .before .before .before .before .before .before .before .before .before .before .before .pre .0 in let v = c .before .before .before .before .before .before .before .before .before .before .before .before .before .before .before .support .ensures 0 (stage-begins p (c .before .before .before .before .before .before .before .before .before .before .before .before .before .before .before .before .before .before .before .before .before .before .before .before .before .before .before .before .before .before .begin .ensures) _ (c .before .before .before .before .before .before .before .before .before .before .before .before .before .before .before .before .before .before .before .before .before .before .before .before .before .wait-marked .ensures) (c .before .before .before .before .before .before .before .before .before .before .before .before .before .before .before .before .before .before .before .before .before .wait-marked2 .ensures)) in counted-from (rounds-after (c .before .before .before .before .before .before .before .before .before .before .loop .inv) (c .before .before .before .before .before .before .advance .ensures (c .before .before .before .before .before .before .before .before .before .before .loop .k) (c .before .before .before .before .before .before .before .before .before .before .loop .inv .at)) (c .before .if1 .left) (c .if2 .taken)) (v .same-length ∙ c .before .before .before .before .before .before .before .before .before .before .before .before .before .before .before .before .before .before .before .before .before .before .before .before .before .before .before .before .before .before .begin .ensures .same-length) (v .beyond ∙ c .before .before .before .before .before .before .before .before .before .before .before .before .before .before .before .before .before .before .before .before .before .before .before .before .before .before .before .before .before .before .begin .ensures .beyond)
+returns c = counted-from (rounds-after (c .before .before .before .before .before .before .before .before .before .before .before .before .before .before .before .before .before .before .before .loop .inv) (c .before .before .before .before .before .before .before .before .before .before .before .before .before .before .support .ensures (c .before .before .before .before .before .before .before .before .before .before .before .before .before .before .before .before .before .before .before .loop .k) (c .before .before .before .before .before .before .before .before .before .before .before .before .before .before .before .before .before .before .before .loop .inv .at)) (c .before .before .before .before .before .before .advance .ensures (c .before .before .before .before .before .before .before .before .before .before .before .before .before .before .before .before .before .before .before .loop .k) ((c .before .before .before .before .before .before .before .before .before .before .before .before .before .before .support .ensures (c .before .before .before .before .before .before .before .before .before .before .before .before .before .before .before .before .before .before .before .loop .k) (c .before .before .before .before .before .before .before .before .before .before .before .before .before .before .before .before .before .before .before .loop .inv .at)) .at)) (c .before .if1 .left) (c .if2 .taken)) (c .before .before .before .before .before .before .before .before .before .before .before .before .before .before .before .before .before .before .before .before .before .before .before .before .before .before .before .before .before .before .begin .ensures .same-length) (c .before .before .before .before .before .before .before .before .before .before .before .before .before .before .before .before .before .before .before .before .before .before .before .before .before .before .before .before .before .before .begin .ensures .beyond)
 
 same-length-2 : tie.Need-same-length-2 Inv-loop μ-loop
-same-length-2 c = let p = c .before .before .before .before .before .before .before .before .before .before .before .before .before .before .before .before .before .before .before .before .before .before .before .before .before .before .before .before .before .before .before .before .before .before .before .before .before .before .before .before .before .pre .0 in let v = c .before .before .before .before .before .before .before .before .before .before .before .before .before .before .before .support .ensures 0 (stage-begins p (c .before .before .before .before .before .before .before .before .before .before .before .before .before .before .before .before .before .before .before .before .before .before .before .before .before .before .before .before .before .before .begin .ensures) _ (c .before .before .before .before .before .before .before .before .before .before .before .before .before .before .before .before .before .before .before .before .before .before .before .before .before .wait-marked .ensures) (c .before .before .before .before .before .before .before .before .before .before .before .before .before .before .before .before .before .before .before .before .before .wait-marked2 .ensures)) in c .before .before .before .before .before .before .advance .ensures (c .before .before .before .before .before .before .before .before .before .before .loop .k) (c .before .before .before .before .before .before .before .before .before .before .loop .inv .at) .same-length ∙ c .before .before .before .before .before .before .before .before .before .before .loop .inv .same-length ∙ v .same-length ∙ c .before .before .before .before .before .before .before .before .before .before .before .before .before .before .before .before .before .before .before .before .before .before .before .before .before .before .before .before .before .before .begin .ensures .same-length
+same-length-2 c = rounds-length (c .before .before .before .before .before .before .before .before .before .before .before .before .before .before .before .before .before .before .before .loop .inv) (c .before .before .before .before .before .before .before .before .before .before .before .before .before .before .support .ensures (c .before .before .before .before .before .before .before .before .before .before .before .before .before .before .before .before .before .before .before .loop .k) (c .before .before .before .before .before .before .before .before .before .before .before .before .before .before .before .before .before .before .before .loop .inv .at)) (c .before .before .before .before .before .before .advance .ensures (c .before .before .before .before .before .before .before .before .before .before .before .before .before .before .before .before .before .before .before .loop .k) ((c .before .before .before .before .before .before .before .before .before .before .before .before .before .before .support .ensures (c .before .before .before .before .before .before .before .before .before .before .before .before .before .before .before .before .before .before .before .loop .k) (c .before .before .before .before .before .before .before .before .before .before .before .before .before .before .before .before .before .before .before .loop .inv .at)) .at)) ∙ c .before .before .before .before .before .before .before .before .before .before .before .before .before .before .before .before .before .before .before .before .before .before .before .before .before .before .before .before .before .before .begin .ensures .same-length
 
 returns-2 : tie.Need-returns-2 Inv-loop μ-loop
-returns-2 c = let p = c .before .before .before .before .before .before .before .before .before .before .before .before .before .before .before .before .before .before .before .before .before .before .before .before .before .before .before .before .before .before .before .before .before .before .before .before .before .before .before .before .before .pre .0 in let v = c .before .before .before .before .before .before .before .before .before .before .before .before .before .before .before .support .ensures 0 (stage-begins p (c .before .before .before .before .before .before .before .before .before .before .before .before .before .before .before .before .before .before .before .before .before .before .before .before .before .before .before .before .before .before .begin .ensures) _ (c .before .before .before .before .before .before .before .before .before .before .before .before .before .before .before .before .before .before .before .before .before .before .before .before .before .wait-marked .ensures) (c .before .before .before .before .before .before .before .before .before .before .before .before .before .before .before .before .before .before .before .before .before .wait-marked2 .ensures)) in counted-from (rounds-here (c .before .before .before .before .before .before .before .before .before .before .loop .inv) (c .before .before .before .before .before .before .advance .ensures (c .before .before .before .before .before .before .before .before .before .before .loop .k) (c .before .before .before .before .before .before .before .before .before .before .loop .inv .at)) (c .before .if1 .left) (c .if2 .left)) (v .same-length ∙ c .before .before .before .before .before .before .before .before .before .before .before .before .before .before .before .before .before .before .before .before .before .before .before .before .before .before .before .before .before .before .begin .ensures .same-length) (v .beyond ∙ c .before .before .before .before .before .before .before .before .before .before .before .before .before .before .before .before .before .before .before .before .before .before .before .before .before .before .before .before .before .before .begin .ensures .beyond)
+returns-2 c = counted-from (rounds-here (c .before .before .before .before .before .before .before .before .before .before .before .before .before .before .before .before .before .before .before .loop .inv) (c .before .before .before .before .before .before .before .before .before .before .before .before .before .before .support .ensures (c .before .before .before .before .before .before .before .before .before .before .before .before .before .before .before .before .before .before .before .loop .k) (c .before .before .before .before .before .before .before .before .before .before .before .before .before .before .before .before .before .before .before .loop .inv .at)) (c .before .before .before .before .before .before .advance .ensures (c .before .before .before .before .before .before .before .before .before .before .before .before .before .before .before .before .before .before .before .loop .k) ((c .before .before .before .before .before .before .before .before .before .before .before .before .before .before .support .ensures (c .before .before .before .before .before .before .before .before .before .before .before .before .before .before .before .before .before .before .before .loop .k) (c .before .before .before .before .before .before .before .before .before .before .before .before .before .before .before .before .before .before .before .loop .inv .at)) .at)) (c .before .if1 .left) (c .if2 .left)) (c .before .before .before .before .before .before .before .before .before .before .before .before .before .before .before .before .before .before .before .before .before .before .before .before .before .before .before .before .before .before .begin .ensures .same-length) (c .before .before .before .before .before .before .before .before .before .before .before .before .before .before .before .before .before .before .before .before .before .before .before .before .before .before .before .before .before .before .begin .ensures .beyond)
 
 pub count-rounds-spec : {M : Type 1} → statement M
 count-rounds-spec =
@@ -119,18 +106,14 @@ count-rounds-spec =
     shared-slice-read-wait-marked-2
     slice-aggregate-wait-marked-2
     wait-marked-requires-2
+    loop-holds
     slice-aggregate-support
     slice-aggregate-support-2
     slice-aggregate-support-3
     support-requires
-    loop-holds
     slice-aggregate-advance
     slice-aggregate-advance-2
     advance-requires
-    slice-aggregate-support-4
-    slice-aggregate-support-5
-    slice-aggregate-support-6
-    support-requires-2
     add-k
     loop-less
     loop-again
