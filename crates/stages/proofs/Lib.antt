@@ -1,5 +1,7 @@
 -- the assignments of the closed reading
 pub mod Assignments
+-- a set that is empty
+pub mod Emptiness
 -- the next low ends
 pub mod Notes
 pub mod Taking

@@ -1,7 +1,7 @@
 -- The support of an assignment: its high ends fall where they may be others, and are settled from there. Assumes nothing.
 use mathlib.Core.Path.{_≡_, refl, sym, _∙_, ap, subst}
 use mathlib.Core.Logic.{_⊎_, inl, inr, ⊎-elim}
-use mathlib.Core.Bool.{Bool, true, false, true≢false}
+use mathlib.Core.Bool.{Bool, true, false, true≢false, false≢true}
 use mathlib.Core.List.{List, [], _∷_}
 use Prim.Native.Nat.{ℕ, suc, _+_, _*_, _-_, _≤_, _<_}
 use native.Mathlib.Decide.{ℕ-discrete}
@@ -9,6 +9,7 @@ use native.Mathlib.Omega.{arith}
 use lib.ListN.{length, getD}
 use Rattle.fixpoint.specs.Interval.{Within}
 use Rattle.fixpoint.proofs.Cond.{by-bool}
+use Rattle.fixpoint.proofs.KnowledgeOrder.{pair-eq}
 use Rattle.semantics.specs.Area.{sound, pageOf, topOf, conditionsOf}
 use Rattle.semantics.specs.Body.{T, unknownByDefault}
 use Rattle.semantics.specs.Grade.{lower, upper}
@@ -143,6 +144,49 @@ module _ {a : List ℕ} {m : List Bool} {users : List ℕ} {k : ℕ} {s look low
 
     pub tops-indexed : {lines : List ℕ} → MaybeIndex a lines users → MaybeIndexed upper a m lines users s₁ lowered
     tops-indexed = ⊎-elim (λ z. inl z) (λ i. inr (record { lines-in = i .0; users-in = i .1; waiting = record { set = v .lowered-in; rests = rests₁ } }))
+
+    -- nothing fell: the high ends are those of the support already
+    module _ (z : fell ≡ false) where
+      same₁ : (c : ℕ) → c < n → getD s₁ (2 * n + 2 * c) 0 ≡ getD s (2 * n + 2 * c) 0
+      same₁ c l = stays c l (v .none z c l)
+
+      tables₁ : Tables a m s₁
+      tables₁ =
+          record {
+            page-sound = ok;
+            long = tops-half .long;
+            marked = b .tables .marked;
+            shut = b .tables .shut;
+            within = within₁;
+            over-low = tops-half .negated;
+            over-high = λ c l. v .table (2 * c + 1) (omega arith) ∙ b .tables .over-high c l ∙ ap (λ (i : ℕ). topOf a - i) (sym (same₁ c l));
+            apart = apart₁;
+          }
+
+      tops₁ : (c : ℕ) → c < n → member m c ≡ true → getD s₁ (2 * n + 2 * c) 0 ≡ stageAt a (suc k) c .high
+      tops₁ c l r = omega (arith, known c l r, stays-at c l r (v .none z c l), stage-falls a ok m (b .tables .shut) k c l)
+
+      rests₁′ : (length users ≡ 0 → ⊥) → (c : ℕ) → c < n → member m c ≡ true → has lows c ≡ false → T (pageOf a) (past a s₁) c .low ≤ getD s₁ (2 * c) 0
+      rests₁′ d c l r q =
+          omega (
+            arith,
+            b .lows-wait .rests d c l r q,
+            lows₁ c l,
+            low-eq (S a ok .local (past a s₁) (past a s) c l (λ e i f. pair-eq (lows₁ e i) (ap (λ (x : ℕ). topOf a - x) (v .table (2 * e + 1) (omega arith))))),
+          )
+
+      pub supported-still : Supported a m users k s s₁ look₂ lows false
+      supported-still =
+          record {
+            same-length = v .same-length;
+            beyond = v .beyond;
+            lows-same = lows₁;
+            look-in = v .look-in;
+            drained = v .drained;
+            at = record { tables = tables₁; floors = floors₁; tops = tops₁; lows-wait = record { set-in = b .lows-wait .set-in; rests = rests₁′ } };
+            none = λ y c l r. sym (tops₁ c l r) ∙ stays-at c l r (v .none z c l);
+            one = λ y. absurd (false≢true y);
+          }
 
     -- after the settling
     module _ {s₂ : List ℕ} {t : Bool} (x : Settled upper a m s₁ s₂ t) where

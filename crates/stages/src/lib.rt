@@ -6,6 +6,7 @@ ghost use lib.ListN.{length, getD};
 ghost use Rattle.semantics.specs.Area.{sound, topOf, conditionsOf, countOf};
 ghost use Rattle.semantics.specs.Table.{member};
 ghost use Rattle.page.specs.Places.{placeOf, LineIn};
+ghost use Rattle.bits.specs.Words.{AnyIn};
 ghost use Rattle.index.specs.Parts.{Lines, MaybeUsers};
 ghost use Rattle.settle.specs.Scratch.{Lookable};
 ghost use Rattle.settle.specs.Waiting.{WaitSet, MaybeIndex};
@@ -16,6 +17,19 @@ ghost use Rattle.stages.specs.Stages.{Tops, AtStage, AtSupport, Supporte
 use settle::settle;
 use settle::wake;
 use value::End;
+
+// One of the set, or 512. An empty set, the usual one after a round, is told at once.
+fn next_in(words: &[u64], from: u16) -> u16
+    requires { ⌜ (length (now words) ≡ 8) × (from < 512) ⌝ }
+    ensures { λ r. ⌜ AnyIn (now (words .entry)) r ⌝ }
+{
+    if (words[0] | words[1] | words[2] | words[3] | words[4] | words[5] | words[6] | words[7])
+        == 0
+    {
+        return 512;
+    }
+    bits::any_in(words, from)
+}
 
 // The high ends of what is reached, which are those of the closed reading.
 fn copy_tops(a: &[u16], marks: &[bool], scratch: &[u16], tops: &mut [u8])
@@ -99,13 +113,13 @@ fn lower_tops(
     ensures { λ r. ⌜ Lowered (now (a .entry)) (now (marks .entry)) (now (tops .entry)) (now (scratch .entry)) (now (scratch .exit)) (now (look .entry)) (now (look .exit)) (now (lowered .exit)) r ⌝ }
 {
     let mut fell = false;
-    let mut c = bits::any_in(look, 0);
+    let mut c = next_in(look, 0);
     while c < 512 {
         bits::remove(look, c);
         if lower_top(a, users, marks, scratch, tops, look, lowered, c) {
             fell = true;
         }
-        c = bits::any_in(look, c);
+        c = next_in(look, c);
     }
     fell
 }
@@ -119,7 +133,7 @@ fn follow(a: &[u16], users: &[u16], scratch: &mut [u16], lowered: &mut [u64], lo
     while c < 512 {
         bits::remove(lowered, c);
         rounds::negate(a, users, scratch, lows, c);
-        c = bits::any_in(lowered, c);
+        c = next_in(lowered, c);
     }
 }
 
@@ -139,6 +153,9 @@ fn support(
 {
     let mut lowered = [0u64; 8];
     let fell = lower_tops(a, users, marks, scratch, tops, look, &mut lowered);
+    if !fell {
+        return false;
+    }
     let mut waiting = lowered;
     settle(a, lines, users, marks, scratch, &mut waiting, End::Upper);
     follow(a, users, scratch, &mut lowered, lows);
@@ -245,7 +262,7 @@ fn note_waiting(
             moved,
             n,
         );
-        c = bits::any_in(lows, c);
+        c = next_in(lows, c);
     }
 }
 
@@ -291,7 +308,7 @@ fn take_over(
     wake(a, users, look, 2 * c + 1);
 }
 
-// The next low ends of those that moved are taken over.
+// The next low ends of those that moved are taken over, `first` being one of them.
 fn take_all(
     a: &[u16],
     users: &[u16],
@@ -299,15 +316,16 @@ fn take_all(
     moved: &mut [u64],
     lows: &mut [u64],
     look: &mut [u64],
+    first: u16,
 )
-    requires { ⌜ TakeReady (now a) (now users) (now scratch) (now moved) (now lows) (now look) ⌝ }
+    requires { ⌜ TakeReady (now a) (now users) (now scratch) (now moved) (now lows) (now look) × AnyIn (now moved) first ⌝ }
     ensures { λ r. ⌜ AllTaken (now (a .entry)) (now (users .entry)) (now (scratch .entry)) (now (scratch .exit)) (now (lows .exit)) (now (look .entry)) (now (look .exit)) ⌝ }
 {
-    let mut c = bits::any_in(moved, 0);
+    let mut c = first;
     while c < 512 {
         bits::remove(moved, c);
         take_over(a, users, scratch, lows, look, c);
-        c = bits::any_in(moved, c);
+        c = next_in(moved, c);
     }
 }
 
@@ -336,13 +354,14 @@ fn advance(
 {
     let mut moved = [0u64; 8];
     next_lows(a, lines, users, marks, scratch, lows, &mut moved);
-    if 512 <= bits::any_in(&moved, 0) {
+    let c = bits::any_in(&moved, 0);
+    if 512 <= c {
         return false;
     }
     if users.len() == 0 {
         look_again(a, marks, scratch, look);
     }
-    take_all(a, users, scratch, &mut moved, lows, look);
+    take_all(a, users, scratch, &mut moved, lows, look, c);
     true
 }
 

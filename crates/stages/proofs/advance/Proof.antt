@@ -36,7 +36,7 @@ slice-aggregate-take-all : tie.Need-slice-aggregate-take-all
 slice-aggregate-take-all c = search needs
 
 take-all-requires : tie.Need-take-all-requires
-take-all-requires c κs = let b = c .before .before .before .before .before .before .before .before .before .before .before .before .before .before .before .before .before .before .before .before .before .before .before .before .pre .0 .1 in take-ready b (c .before .before .before .before .before .before .before .before .before .before .before .before .before .next-lows .ensures .0) (users-of (c .before .before .before .before .before .before .before .before .before .before .before .before .before .before .before .before .before .before .before .before .before .before .before .before .pre .3)) (again-in b (c .before .before .before .before .before .before .before .before .before .before .before .before .before .next-lows .ensures .0) (c .before .before .before .before .before .before .before .before .before .before .before .before .before .before .before .before .before .before .before .before .before .before .before .before .args .look .now) (c .before .before .before .before .if2 .look) (c .before .before .before .before .before .before .before .before .before .before .before .before .before .before .before .before .before .before .before .before .before .before .before .before .pre .1) (⊎-elim (λ w. inr (rw (w .6) (w .3 .ensures))) (λ w. inl (w .0 .left, w .1)) (c .before .before .before .before .if2 .came))) (c .before .before .before .before .before .before .before .before .before .before .before .before .before .next-lows .ensures .1)
+take-all-requires c κs = let b = c .before .before .before .before .before .before .before .before .before .before .before .before .before .before .before .before .before .before .before .before .before .before .before .before .pre .0 .1 in (take-ready b (c .before .before .before .before .before .before .before .before .before .before .before .before .before .next-lows .ensures .0) (users-of (c .before .before .before .before .before .before .before .before .before .before .before .before .before .before .before .before .before .before .before .before .before .before .before .before .pre .3)) (again-in b (c .before .before .before .before .before .before .before .before .before .before .before .before .before .next-lows .ensures .0) (c .before .before .before .before .before .before .before .before .before .before .before .before .before .before .before .before .before .before .before .before .before .before .before .before .args .look .now) (c .before .before .before .before .if2 .look) (c .before .before .before .before .before .before .before .before .before .before .before .before .before .before .before .before .before .before .before .before .before .before .before .before .pre .1) (⊎-elim (λ w. inr (rw (w .6) (w .3 .ensures))) (λ w. inl (w .0 .left, w .1)) (c .before .before .before .before .if2 .came))) (c .before .before .before .before .before .before .before .before .before .before .before .before .before .next-lows .ensures .1), c .before .before .before .before .before .before .any-in .ensures)
 
 same-length-3 : tie.Need-same-length-3
 same-length-3 c = search needs

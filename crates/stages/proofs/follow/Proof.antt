@@ -24,14 +24,14 @@ remove-requires c κs = (c .before .before .loop .inv .lowered-in .size, omega a
 negate-requires : tie.Need-negate-requires Inv-loop μ-loop
 negate-requires c κs = let i = c .before .before .before .before .before .before .before .loop .inv in (i .page-sound, i .users-in, i .long, following-real i (omega arith), following-grade i (omega arith), i .lows-in)
 
-any-in-requires-2 : tie.Need-any-in-requires-2 Inv-loop μ-loop
-any-in-requires-2 c κs = (c .before .before .before .before .before .before .before .before .before .before .remove .ensures .0, omega arith)
+next-in-requires : tie.Need-next-in-requires Inv-loop μ-loop
+next-in-requires c κs = (c .before .before .before .before .before .before .before .before .before .before .remove .ensures .0, omega arith)
 
 loop-less : tie.Need-loop-less Inv-loop μ-loop
-loop-less c = following-less (c .before .before .before .before .before .before .before .before .before .before .before .before .before .before .loop .inv) (omega arith) _ (c .before .before .before .before .before .before .before .before .before .before .before .remove .ensures) (c .any-in2 .ensures)
+loop-less c = following-less (c .before .before .before .before .before .before .before .before .before .before .before .before .before .before .loop .inv) (omega arith) _ (c .before .before .before .before .before .before .before .before .before .before .before .remove .ensures) (c .next-in .ensures)
 
 loop-again : tie.Need-loop-again Inv-loop μ-loop
-loop-again c = following-next (c .before .before .before .before .before .before .before .before .before .before .before .before .before .before .loop .inv) (omega arith) _ (c .before .before .before .before .before .before .before .before .before .before .before .remove .ensures) (c .before .before .before .before .before .before .negate .ensures) (c .any-in2 .ensures)
+loop-again c = following-next (c .before .before .before .before .before .before .before .before .before .before .before .before .before .before .loop .inv) (omega arith) _ (c .before .before .before .before .before .before .before .before .before .before .before .remove .ensures) (c .before .before .before .before .before .before .negate .ensures) (c .next-in .ensures)
 
 same-length : tie.Need-same-length Inv-loop μ-loop
 same-length c = c .before .loop .inv .same-length
@@ -55,7 +55,7 @@ follow-spec =
     loop-holds
     remove-requires
     negate-requires
-    any-in-requires-2
+    next-in-requires
     loop-less
     loop-again
     same-length

@@ -12,11 +12,11 @@ Inv-loop a users marks scratch₀ tops look₀ lowered₀ fell₀ c₀ scratch l
 abbrev μ-loop : tie.MeasureT-loop
 μ-loop a users marks scratch₀ tops look₀ lowered₀ fell₀ c₀ scratch look lowered fell c = toLower a scratch look
 
-any-in-requires : tie.Need-any-in-requires Inv-loop μ-loop
-any-in-requires c κs = (c .before .before .before .before .before .before .before .before .pre .0 .look-in .size, omega arith)
+next-in-requires : tie.Need-next-in-requires Inv-loop μ-loop
+next-in-requires c κs = (c .before .before .before .before .before .before .before .before .pre .0 .look-in .size, omega arith)
 
 loop-holds : tie.Need-loop-holds Inv-loop μ-loop
-loop-holds c = lowering-first (c .before .before .before .before .before .before .before .before .before .pre .0) (c .before .before .before .before .before .before .before .before .before .pre .1) (c .before .before .before .before .before .before .before .before .before .pre .2) (c .any-in .ensures)
+loop-holds c = lowering-first (c .before .before .before .before .before .before .before .before .before .pre .0) (c .before .before .before .before .before .before .before .before .before .pre .1) (c .before .before .before .before .before .before .before .before .before .pre .2) (c .next-in .ensures)
 
 remove-requires : tie.Need-remove-requires Inv-loop μ-loop
 remove-requires c κs = (c .before .before .loop .inv .ready .look-in .size, omega arith)
@@ -24,14 +24,14 @@ remove-requires c κs = (c .before .before .loop .inv .ready .look-in .size, ome
 lower-top-requires : tie.Need-lower-top-requires Inv-loop μ-loop
 lower-top-requires c κs = (lowering-ready (c .before .before .before .before .before .before .before .before .loop .inv) (omega arith) _ (c .before .before .before .before .before .remove .ensures), lowering-real (c .before .before .before .before .before .before .before .before .loop .inv) (omega arith))
 
-any-in-requires-2 : tie.Need-any-in-requires-2 Inv-loop μ-loop
-any-in-requires-2 c κs = (lowering-size (c .before .before .before .before .before .before .before .before .before .before .before .before .before .before .before .before .before .loop .inv) (omega arith) _ (c .before .before .before .before .before .before .before .before .before .before .before .before .before .before .remove .ensures) (c .before .before .before .before .before .before .before .before .lower-top .ensures), omega arith)
+next-in-requires-2 : tie.Need-next-in-requires-2 Inv-loop μ-loop
+next-in-requires-2 c κs = (lowering-size (c .before .before .before .before .before .before .before .before .before .before .before .before .before .before .before .before .before .loop .inv) (omega arith) _ (c .before .before .before .before .before .before .before .before .before .before .before .before .before .before .remove .ensures) (c .before .before .before .before .before .before .before .before .lower-top .ensures), omega arith)
 
 loop-less : tie.Need-loop-less Inv-loop μ-loop
 loop-less c = lowering-less (c .before .before .before .before .before .before .before .before .before .before .before .before .before .before .before .before .before .before .loop .inv) (omega arith) _ (c .before .before .before .before .before .before .before .before .before .before .before .before .before .before .before .remove .ensures) (c .before .before .before .before .before .before .before .before .before .lower-top .ensures)
 
 loop-again : tie.Need-loop-again Inv-loop μ-loop
-loop-again c = lowering-next (c .before .before .before .before .before .before .before .before .before .before .before .before .before .before .before .before .before .before .loop .inv) (omega arith) _ (c .before .before .before .before .before .before .before .before .before .before .before .before .before .before .before .remove .ensures) (c .before .before .before .before .before .before .before .before .before .lower-top .ensures) (⊎-elim (λ w. inl (w .0 .taken, w .1)) (λ w. inr (w .0 .left, w .1)) (c .before .before .if1 .came)) (c .any-in2 .ensures)
+loop-again c = lowering-next (c .before .before .before .before .before .before .before .before .before .before .before .before .before .before .before .before .before .before .loop .inv) (omega arith) _ (c .before .before .before .before .before .before .before .before .before .before .before .before .before .before .before .remove .ensures) (c .before .before .before .before .before .before .before .before .before .lower-top .ensures) (⊎-elim (λ w. inl (w .0 .taken, w .1)) (λ w. inr (w .0 .left, w .1)) (c .before .before .if1 .came)) (c .next-in2 .ensures)
 
 same-length : tie.Need-same-length Inv-loop μ-loop
 same-length c = c .before .loop .inv .same-length
@@ -51,11 +51,11 @@ lower-tops-spec =
     (tie.spec
     Inv-loop
     μ-loop
-    any-in-requires
+    next-in-requires
     loop-holds
     remove-requires
     lower-top-requires
-    any-in-requires-2
+    next-in-requires-2
     loop-less
     loop-again
     same-length

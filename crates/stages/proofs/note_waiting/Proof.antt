@@ -82,14 +82,14 @@ cast-note-group-2 c = omega (arith, c .shared-slice-known6 .given (c .before .be
 note-group-requires : tie.Need-note-group-requires Inv-loop μ-loop
 note-group-requires c κs = (c .before .before .before .before .before .before .before .before .before .loop .inv .notable, refl, waiting-group (c .before .before .before .before .before .before .before .before .before .loop .inv) (omega arith))
 
-any-in-requires-2 : tie.Need-any-in-requires-2 Inv-loop μ-loop
-any-in-requires-2 c κs = (c .before .before .before .before .before .before .before .before .before .before .before .before .remove .ensures .0, omega arith)
+next-in-requires : tie.Need-next-in-requires Inv-loop μ-loop
+next-in-requires c κs = (c .before .before .before .before .before .before .before .before .before .before .before .before .remove .ensures .0, omega arith)
 
 loop-less : tie.Need-loop-less Inv-loop μ-loop
-loop-less c = waiting-less (c .before .before .before .before .before .before .before .before .before .before .before .before .before .before .before .before .loop .inv) (omega arith) _ (c .before .before .before .before .before .before .before .before .before .before .before .before .before .remove .ensures) (c .any-in2 .ensures)
+loop-less c = waiting-less (c .before .before .before .before .before .before .before .before .before .before .before .before .before .before .before .before .loop .inv) (omega arith) _ (c .before .before .before .before .before .before .before .before .before .before .before .before .before .remove .ensures) (c .next-in .ensures)
 
 loop-again : tie.Need-loop-again Inv-loop μ-loop
-loop-again c = waiting-next (c .before .before .before .before .before .before .before .before .before .before .before .before .before .before .before .before .loop .inv) (omega arith) _ (c .before .before .before .before .before .before .before .before .before .before .before .before .before .remove .ensures) (c .before .before .before .before .before .before .note-group .ensures) (c .any-in2 .ensures)
+loop-again c = waiting-next (c .before .before .before .before .before .before .before .before .before .before .before .before .before .before .before .before .loop .inv) (omega arith) _ (c .before .before .before .before .before .before .before .before .before .before .before .before .before .remove .ensures) (c .before .before .before .before .before .before .note-group .ensures) (c .next-in .ensures)
 
 same-length : tie.Need-same-length Inv-loop μ-loop
 same-length c = c .before .loop .inv .noting .same-length
@@ -131,7 +131,7 @@ note-waiting-spec =
     shared-slice-read-note-group-2
     cast-note-group-2
     note-group-requires
-    any-in-requires-2
+    next-in-requires
     loop-less
     loop-again
     same-length
