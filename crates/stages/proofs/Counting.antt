@@ -16,12 +16,11 @@ use Rattle.semantics.specs.Table.{member}
 use Rattle.semantics.proofs.Soundness.{sound-proper}
 use Rattle.settle.specs.Ends.{room}
 use Rattle.settle.specs.Scratch.{roomAt}
-use Rattle.settle.specs.Waiting.{WaitSet}
-use Rattle.rounds.specs.Round.{AllWait, closedAt}
+use Rattle.rounds.specs.Round.{AllWait}
 use Rattle.rounds.proofs.Rounding.{all-lows}
 use Rattle.stages.specs.Counted.{CountReady, Counted}
-use Rattle.stages.specs.Steps.{Nobody, firstHigh, Begun, TopsCopied}
-use Rattle.stages.specs.Stages.{stageAt, Tables, Tops, AtStage, AtSupport, Supported, Advanced}
+use Rattle.stages.specs.Steps.{firstHigh, Begun, TopsCopied}
+use Rattle.stages.specs.Stages.{Tables, Tops, AtStage, Supported, Advanced}
 use Rattle.stages.proofs.Assignments.{high-eq}
 use Rattle.stages.proofs.PageStages.{stage-first, closed-in, MovingAt, moving-low, rounds-few, counted-here, counted-after}
 

@@ -1,13 +1,12 @@
 -- A set whose eight words have no digit together is empty. Assumes nothing.
 use mathlib.Core.Path.{_≡_, refl, sym, _∙_, ap}
-use mathlib.Core.Bool.{false}
 use mathlib.Core.List.{List}
 use Prim.Native.Nat.{ℕ, zero, suc, _/_, _%_, _<_}
 use native.Mathlib.Omega.{arith}
 use lib.Bits.{bitOr}
 use lib.Dec.{eqb}
 use lib.ListN.{getD}
-use Rattle.bits.specs.Words.{has, AnyIn}
+use Rattle.bits.specs.Words.{AnyIn}
 use Rattle.bits.proofs.Bits.{bit, bit-lt, bit-zero, bit-or}
 
 digits-none : (x y : ℕ) → x < 2 → y < 2 → bitOr x y ≡ 0 → (x ≡ 0) × (y ≡ 0)
