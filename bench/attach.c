@@ -48,7 +48,7 @@ static void answer(unsigned reading, uint16_t condition, uint16_t ends[2])
     uint32_t a, b, c, d;
 
     if (reading == 1) {
-        CLOSED(page, page[3], &condition, 1, scratch, 4 * page[1], ends, 2);
+        CLOSED(page, page[3], &condition, 1, scratch, 4 * page[1], ends, 2, NULL);
         return;
     }
     OPEN(page, page[3], &condition, 1, run, 3 * page[1], &a, &b, &c, &d);

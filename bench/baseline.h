@@ -17,13 +17,15 @@ int32_t scan_value(const uint16_t *page, size_t page_length, const uint16_t *run
                    uint16_t *low, uint16_t *high);
 int32_t scan_line(const uint16_t *page, size_t page_length, const uint16_t *run, size_t run_length, uint32_t condition);
 int32_t scan_closed(const uint16_t *page, size_t page_length, const uint16_t *queries, size_t queries_length,
-                    uint16_t *scratch, size_t scratch_length, uint16_t *answers, size_t answers_length);
+                    uint16_t *scratch, size_t scratch_length, uint16_t *answers, size_t answers_length, uint32_t *rounds);
 
 int32_t indexed_open(const uint16_t *page, size_t page_length, const uint16_t *queries, size_t queries_length,
                      uint16_t *run, size_t run_length, uint32_t *reached, uint32_t *edges, uint32_t *bound, uint32_t *passes);
 int32_t indexed_drive(const uint16_t *page, size_t page_length, uint16_t *run, size_t run_length, uint32_t allowance,
                       uint32_t *taken, uint32_t *line);
 int32_t indexed_closed(const uint16_t *page, size_t page_length, const uint16_t *queries, size_t queries_length,
-                       uint16_t *scratch, size_t scratch_length, uint16_t *answers, size_t answers_length);
+                       uint16_t *scratch, size_t scratch_length, uint16_t *answers, size_t answers_length, uint32_t *rounds);
+
+/* Both closed readings count no rounds where `rounds` is NULL. */
 
 #endif

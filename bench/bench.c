@@ -156,7 +156,7 @@ __attribute__((noinline, noclone)) void measured(const struct impl *impl, int op
         break;
     case CLOSED:
         result.code = impl->closed(given.page, given.page_length, given.spread, SIMJORAD_QUERIES_MAX, result.area,
-                                   result.length, result.answers, 2 * SIMJORAD_QUERIES_MAX);
+                                   result.length, result.answers, 2 * SIMJORAD_QUERIES_MAX, &out[0]);
         break;
     }
     out[4] = low;

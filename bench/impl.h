@@ -15,7 +15,8 @@ struct impl {
     int32_t (*drive)(const uint16_t *, size_t, uint16_t *, size_t, uint32_t, uint32_t *, uint32_t *);
     int32_t (*value)(const uint16_t *, size_t, const uint16_t *, size_t, uint32_t, uint16_t *, uint16_t *);
     int32_t (*line)(const uint16_t *, size_t, const uint16_t *, size_t, uint32_t);
-    int32_t (*closed)(const uint16_t *, size_t, const uint16_t *, size_t, uint16_t *, size_t, uint16_t *, size_t);
+    int32_t (*closed)(const uint16_t *, size_t, const uint16_t *, size_t, uint16_t *, size_t, uint16_t *, size_t,
+                      uint32_t *);
 };
 
 #ifdef WITH_ENGINE
@@ -31,10 +32,10 @@ static int32_t drive_with_workspace(const uint16_t *page, size_t page_length, ui
 
 static int32_t closed_with_workspace(const uint16_t *page, size_t page_length, const uint16_t *queries,
                                      size_t queries_length, uint16_t *scratch, size_t scratch_length,
-                                     uint16_t *answers, size_t answers_length)
+                                     uint16_t *answers, size_t answers_length, uint32_t *rounds)
 {
     return simjorad_closed_indexed(page, page_length, queries, queries_length, scratch, scratch_length, answers,
-                                   answers_length, workspace, SIMJORAD_WORKSPACE_MAX);
+                                   answers_length, workspace, SIMJORAD_WORKSPACE_MAX, rounds);
 }
 #endif
 

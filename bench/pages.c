@@ -159,6 +159,20 @@ static void ring_reversed(struct sheet *s)
     ring_numbered(s, 1);
 }
 
+/* A ring of 255, where each condition also has a weak line on the negation of the one before it: every rise of a low end moves a support. */
+static void ring_weak(struct sheet *s)
+{
+    unsigned i;
+
+    put(s, "G,200,256\nR,0,200,B,1,255\n");
+    for (i = 1; i < 255; i++)
+        put(s, "R,%u,200,M,%u\n", i, i < 254 ? i + 1 : 0);
+    put(s, "F,255,1,1\n");
+    for (i = 0; i < 255; i++)
+        put(s, "R,%u,1,M,!%u\n", i, (i + 254) % 255);
+    put(s, "Q,W,0\n");
+}
+
 /* Counter k is condition 2k. It adds 1 for ever; from the second on, only when the one before is at top (gate 2k - 1). */
 static void counters(struct sheet *s)
 {
@@ -183,18 +197,19 @@ static void negations(struct sheet *s)
     put(s, "F,511,40,90\nQ,W,0\n");
 }
 
-const char *const page_names[] = { "small", "typical", "largest", "falling", "ring", "ring-reversed", "counters",
+const char *const page_names[] = { "small", "typical", "largest", "falling", "ring", "ring-reversed", "ring-weak", "counters",
                                    "negations", "random", "random-slow", NULL };
 
 const char *const page_notes[] = { "20 conditions, 40 lines after the first", "150 conditions, 300 lines after the first",
                                    "512 conditions, 1,023 rules of 8 literals",
                                    "self loop at 510, each condition below it names the eight above",
                                    "(a) ring of 511, each turn adds 1", "(a) with the numbers reversed",
+                                   "a ring of 255 as (a), each with a weak line on a negation",
                                    "(b) 256 counters, each waits for the one before", "(c) chain of negations",
                                    "(d) 512 conditions, 1,023 random rules of 8 literals",
                                    "as (d), only M and X, weights 198 to 200", NULL };
 
-static void (*const makers[])(struct sheet *) = { small, typical, largest, falling, ring, ring_reversed, counters,
+static void (*const makers[])(struct sheet *) = { small, typical, largest, falling, ring, ring_reversed, ring_weak, counters,
                                                   negations, closed_random, closed_slow };
 
 size_t page_text(const char *name, char *text)

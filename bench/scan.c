@@ -571,8 +571,71 @@ static int stale(const uint16_t *page, const uint16_t *low, const uint16_t *high
     return 0;
 }
 
+/*
+ * The next low ends, as their negations in the other table: high[2 * c + 1] falls to top less the low end that the lines give over `low`, which
+ * stays. Returns 1 if any fell.
+ */
+static int next_lows(const uint16_t *page, const uint8_t *seen, const uint16_t *low, uint16_t *high)
+{
+    const uint16_t *p, *end = page + page[3];
+    unsigned top = page[0], v;
+    int moved = 0;
+
+    for (p = page + HEAD; p < end; p = next_line(p)) {
+        if (!seen[p[0]] || p[1] == QUERY)
+            continue;
+        v = top - (p[1] == FACT ? p[2] : rule_end(p, low, top, 0));
+        if (v < high[2 * p[0] + 1]) {
+            high[2 * p[0] + 1] = v;
+            moved = 1;
+        }
+    }
+    return moved;
+}
+
+/*
+ * The count of rounds, over tables that hold the closed reading. The support's high ends are settled again from those of the closed reading,
+ * where the low end of a negated condition rose.
+ */
+static uint32_t count_rounds(const uint16_t *page, const uint8_t *seen, uint16_t *low, uint16_t *high)
+{
+    uint8_t least[CONDITIONS_MAX];
+    unsigned top = page[0], count = page[1], c;
+    uint32_t rounds = 0;
+    int fell = 0;
+
+    for (c = 0; c < count; c++) {
+        least[c] = high[2 * c];
+        low[2 * c] = 0;
+        high[2 * c + 1] = top;
+    }
+    rise(page, seen, high, 3);
+    for (c = 0; c < count; c++) {
+        low[2 * c + 1] = top - high[2 * c];
+        fell |= seen[c] && high[2 * c] != top;
+    }
+    while (next_lows(page, seen, low, high)) {
+        fell = 0;
+        if (stale(page, low, high)) {
+            for (c = 0; c < count; c++) {
+                low[2 * c] = top - high[2 * c + 1];
+                fell |= high[2 * c] != least[c];
+                high[2 * c] = least[c];
+            }
+            rise(page, seen, high, 3);
+            for (c = 0; c < count; c++)
+                low[2 * c + 1] = top - high[2 * c];
+        } else {
+            for (c = 0; c < count; c++)
+                low[2 * c] = top - high[2 * c + 1];
+        }
+        rounds++;
+    }
+    return rounds + fell;
+}
+
 int32_t scan_closed(const uint16_t *page, size_t page_length, const uint16_t *queries, size_t queries_length,
-                    uint16_t *scratch, size_t scratch_length, uint16_t *answers, size_t answers_length)
+                    uint16_t *scratch, size_t scratch_length, uint16_t *answers, size_t answers_length, uint32_t *rounds)
 {
     uint16_t *low, *high;           /* by literal */
     uint8_t seen[CONDITIONS_MAX];
@@ -615,6 +678,8 @@ int32_t scan_closed(const uint16_t *page, size_t page_length, const uint16_t *qu
     } while (rise(page, seen, low, 2) && stale(page, low, high));
 
     put_answers(low, high, queries, queries_length, answers);
+    if (rounds)
+        *rounds = count_rounds(page, seen, low, high);
     memset(scratch, 0, 4 * count * sizeof *scratch);
     return 0;
 }

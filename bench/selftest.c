@@ -315,15 +315,20 @@ static void ref_plain(const uint16_t *page, struct pair *held)
     } while (moved);
 }
 
-/* I := T(I joined with the support of I) from [0;top]; the support has lows 0 and its highs iterated from 0. */
-static void ref_closed(const uint16_t *page, struct pair *held)
+/*
+ * I := T(I joined with the support of I) from [0;top]; the support has lows 0 and its highs iterated from 0. `changed` has for each condition the
+ * number of the last assignment that is not like the one before it there: the greatest over the reached conditions is the count of rounds.
+ */
+static void ref_closed(const uint16_t *page, struct pair *held, uint32_t *changed)
 {
     struct pair joined[512], next[512];
     int support[512], c, count = page[1], moved, rose;
+    uint32_t number = 0;
 
     for (c = 0; c < count; c++)
-        held[c].low = 0, held[c].high = page[0];
+        held[c].low = 0, held[c].high = page[0], changed[c] = 0;
     do {
+        number++;
         for (c = 0; c < count; c++)
             support[c] = 0;
         do {
@@ -339,7 +344,8 @@ static void ref_closed(const uint16_t *page, struct pair *held)
             }
         } while (rose);
         for (c = 0, moved = 0; c < count; c++) {
-            moved |= next[c].low != held[c].low || next[c].high != held[c].high;
+            if (next[c].low != held[c].low || next[c].high != held[c].high)
+                moved = 1, changed[c] = number;
             held[c] = next[c];
         }
     } while (moved);
@@ -507,8 +513,9 @@ static void driven(int used, uint32_t allowance, int rest, unsigned count)
 static void closed_one(int used, uint16_t query, int low, int high)
 {
     unsigned i;
+    uint32_t rounds;
 
-    same("closed", at->closed(page, used, &query, 1, scratch, SCRATCH, answers, 2), 0);
+    same("closed", at->closed(page, used, &query, 1, scratch, SCRATCH, answers, 2, &rounds), 0);
     same("closed low", answers[0], low);
     same("closed high", answers[1], high);
     for (i = 0; i < 4u * page[1]; i++)
@@ -541,7 +548,7 @@ static void attach(const char *text, char *out)
             same("attach at rest", at->value(page, used, run, RUN, p[0], &low, &high), 1);
             out += sprintf(out, "K,%u,%u,%u\n", p[0], low, high);
         } else {
-            at->closed(page, used, p, 1, scratch, SCRATCH, answers, 2);
+            at->closed(page, used, p, 1, scratch, SCRATCH, answers, 2, &line);
             out += sprintf(out, "W,%u,%u,%u\n", p[0], answers[0], answers[1]);
         }
     }
@@ -778,8 +785,9 @@ static void random_page(void)
     static char text[4096], broken[4096];
     static uint16_t first[RUN], want[RUN], unsound[AREA];
     struct pair plain[512], closed[512];
+    uint32_t changed[512];
     uint16_t queries[16], low, high;
-    uint32_t line, place, r, e, bound, passes, taken, want_taken, want_line, allowance;
+    uint32_t line, place, r, e, bound, passes, taken, want_taken, want_line, allowance, rounds, want_rounds;
     unsigned want_r, want_e, want_passes, used, c, i, n, count, order, state, length = random_text(text);
     int32_t code;
     int fault, fault_line, k;
@@ -793,10 +801,13 @@ static void random_page(void)
     for (i = 0; i < n; i++)
         queries[i] = draw(count);
     ref_plain(page, plain);
-    ref_closed(page, closed);
+    ref_closed(page, closed, changed);
     for (i = 0; i < RUN; i++)
         first[i] = FILL;
     ref_open(page, queries, n, first, &want_r, &want_e, &want_passes);
+    for (c = 0, want_rounds = 0; c < count; c++)
+        if (first[3 * c + 2] != 0 && changed[c] > want_rounds)
+            want_rounds = changed[c];
     order = seed;
 
     for (k = 0; k < IMPLS; k++) {
@@ -883,14 +894,17 @@ static void random_page(void)
         same("evaluate, run short", at->evaluate(page, used, run, 3 * count - 1, 0), -14);
 
         /* closed reading */
+        rounds = FILL;
         for (i = 0; i < SCRATCH; i++)
             scratch[i] = FILL;
         for (i = 0; i < 32; i++)
             answers[i] = FILL;
-        same("closed, scratch", at->closed(page, used, queries, n, scratch, 4 * count - 1, answers, 2 * n), -18);
-        same("closed, answers", at->closed(page, used, queries, n, scratch, 4 * count, answers, 2 * n - 1), -19);
+        same("closed, scratch", at->closed(page, used, queries, n, scratch, 4 * count - 1, answers, 2 * n, &rounds), -18);
+        same("closed, answers", at->closed(page, used, queries, n, scratch, 4 * count, answers, 2 * n - 1, &rounds), -19);
         same("closed, untouched", scratch[0] == FILL && answers[0] == FILL, 1);
-        same("closed", at->closed(page, used, queries, n, scratch, 4 * count, answers, 2 * n), 0);
+        same("closed, rounds untouched", rounds, FILL);
+        same("closed", at->closed(page, used, queries, n, scratch, 4 * count, answers, 2 * n, &rounds), 0);
+        same("closed, rounds", rounds, want_rounds);
         for (i = 0; i < n; i++) {
             same("closed, low", answers[2 * i], closed[queries[i]].low);
             same("closed, high", answers[2 * i + 1], closed[queries[i]].high);
@@ -903,10 +917,10 @@ static void random_page(void)
         same("closed, past the scratch", scratch[4 * count], FILL);
         low = queries[0];
         queries[0] = count;
-        same("closed, query range", at->closed(page, used, queries, n, scratch, 0, answers, 0), -12);
+        same("closed, query range", at->closed(page, used, queries, n, scratch, 0, answers, 0, &rounds), -12);
         same("open, query range", at->open(page, used, queries, n, run, 0, &r, &e, &bound, &passes), -12);
         queries[0] = low;
-        same("closed, no query", at->closed(page, used, queries, 0, scratch, 0, answers, 0), -11);
+        same("closed, no query", at->closed(page, used, queries, 0, scratch, 0, answers, 0, &rounds), -11);
         same("open, 17 queries", at->open(page, used, scratch, 17, run, 0, &r, &e, &bound, &passes), -11);
         same("open, run short", at->open(page, used, queries, n, run, 3 * count - 1, &r, &e, &bound, &passes), -13);
 
@@ -916,7 +930,7 @@ static void random_page(void)
         i = draw(4) ? used : draw(used + 1);
         fault = ref_page_sound(unsound, i) ? -11 : -10;
         same("open, any page", at->open(unsound, i, NULL, 0, run, 0, &r, &e, &bound, &passes), fault);
-        same("closed, any page", at->closed(unsound, i, NULL, 0, NULL, 0, NULL, 0), fault);
+        same("closed, any page", at->closed(unsound, i, NULL, 0, NULL, 0, NULL, 0, &rounds), fault);
         fault = fault == -11 ? -14 : -10;
         same("drive, any page", at->drive(unsound, i, NULL, 0, 1, &taken, &line), fault);
         same("line, any page", at->line(unsound, i, NULL, 0, 0), fault);

@@ -39,9 +39,9 @@ int32_t engine_drive(const uint16_t *, size_t, uint16_t *, size_t, uint32_t, uin
 int32_t engine_drive_indexed(const uint16_t *, size_t, uint16_t *, size_t, uint16_t *, size_t, uint32_t, uint32_t *, uint32_t *);
 int32_t engine_value(const uint16_t *, size_t, const uint16_t *, size_t, uint32_t, uint16_t *, uint16_t *);
 int32_t engine_line(const uint16_t *, size_t, const uint16_t *, size_t, uint32_t);
-int32_t engine_closed(const uint16_t *, size_t, const uint16_t *, size_t, uint16_t *, size_t, uint16_t *, size_t);
+int32_t engine_closed(const uint16_t *, size_t, const uint16_t *, size_t, uint16_t *, size_t, uint16_t *, size_t, uint32_t *);
 int32_t engine_closed_indexed(const uint16_t *, size_t, const uint16_t *, size_t, uint16_t *, size_t, uint16_t *, size_t, uint16_t *,
-                              size_t);
+                              size_t, uint32_t *);
 int32_t engine_layers(const uint16_t *, size_t, uint16_t *, size_t, uint32_t *);
 #else
 #define NAME(f) simjorad_##f
@@ -84,11 +84,12 @@ static void make(struct call *c)
         c->answer = (uint32_t)NAME(line)(s[0].at, s[0].length, s[1].at, s[1].length, c->number);
         break;
     case CLOSED:
-        c->answer = (uint32_t)NAME(closed)(s[0].at, s[0].length, s[1].at, s[1].length, s[2].at, s[2].length, s[3].at, s[3].length);
+        c->answer = (uint32_t)NAME(closed)(s[0].at, s[0].length, s[1].at, s[1].length, s[2].at, s[2].length, s[3].at, s[3].length,
+                                           &c->outs[0]);
         break;
     case CLOSED_INDEXED:
         c->answer = (uint32_t)NAME(closed_indexed)(s[0].at, s[0].length, s[1].at, s[1].length, s[2].at, s[2].length, s[3].at,
-                                                   s[3].length, s[4].at, s[4].length);
+                                                   s[3].length, s[4].at, s[4].length, &c->outs[0]);
         break;
     default:
         c->answer = (uint32_t)NAME(layers)(s[0].at, s[0].length, s[1].at, s[1].length, &c->outs[0]);
@@ -264,20 +265,23 @@ int32_t simjorad_line(const uint16_t *page, size_t page_length, const uint16_t *
 }
 
 int32_t simjorad_closed(const uint16_t *page, size_t page_length, const uint16_t *queries, size_t queries_length, uint16_t *scratch,
-                        size_t scratch_length, uint16_t *answers, size_t answers_length)
+                        size_t scratch_length, uint16_t *answers, size_t answers_length, uint32_t *rounds)
 {
-    struct call c = {.function = CLOSED, NUMBERS(0, page), NUMBERS(1, queries), NUMBERS(2, scratch), NUMBERS(3, answers)};
+    struct call c = {.function = CLOSED, NUMBERS(0, page), NUMBERS(1, queries), NUMBERS(2, scratch), NUMBERS(3, answers),
+                     .outs = {*rounds}};
     hand_on(&c);
+    *rounds = c.outs[0];
     return (int32_t)c.answer;
 }
 
 int32_t simjorad_closed_indexed(const uint16_t *page, size_t page_length, const uint16_t *queries, size_t queries_length,
                                 uint16_t *scratch, size_t scratch_length, uint16_t *answers, size_t answers_length,
-                                uint16_t *workspace, size_t workspace_length)
+                                uint16_t *workspace, size_t workspace_length, uint32_t *rounds)
 {
     struct call c = {.function = CLOSED_INDEXED, NUMBERS(0, page), NUMBERS(1, queries), NUMBERS(2, scratch), NUMBERS(3, answers),
-                     NUMBERS(4, workspace)};
+                     NUMBERS(4, workspace), .outs = {*rounds}};
     hand_on(&c);
+    *rounds = c.outs[0];
     return (int32_t)c.answer;
 }
 

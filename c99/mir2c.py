@@ -36,7 +36,8 @@ CHECKS = '''#if SIZE_MAX > UINT64_MAX
 typedef char int_has_32_bits_or_more[sizeof(int) >= 4 ? 1 : -1];
 '''
 
-# a function with arrays of at least so many bytes keeps its frame to itself, so that they take stack only while it runs
+# a function with arrays of at least so many bytes keeps its frame to itself, so that they take stack only while it runs; but not one that is
+# called in one loop only, of a caller with larger arrays: a frame of its own then costs more than it frees
 LARGE = 64
 APART = '''#ifdef __GNUC__
 #define APART __attribute__((noinline)) /* its arrays take stack only while it runs */
@@ -115,6 +116,7 @@ class Program:
         self.functions, self.types, self.names = functions, types, names
         self.bodies = {name: fold.fold(function) if folded else function.body for name, function in functions.items()}
         self.shared = shared(self.bodies)
+        self.apart = apart(self.bodies, functions)
         self.defined, self.helpers = {}, {}
 
     def shape(self, t):
@@ -375,13 +377,9 @@ class Writer:
         unread = [self.name(str(i)) for i in range(1, 1 + count) if self.name(str(i)) not in used]
         unread = [f'    (void){name}; /* only the contract speaks of it */' for name in unread]
         mine = [i for i in range(len(self.types)) if (i == 0 or i > count) and f'x{i}' in used]
-        kind = 'APART' if self.array_bytes() >= LARGE else 'SHARED' if self.function.name in self.program.shared else 'inline'
+        kind = 'APART' if self.function.name in self.program.apart else 'SHARED' if self.function.name in self.program.shared else 'inline'
         head = f'static {kind} {self.program.result(self.function.name)} {c_name(self.function.name)}({parameters})'
         return comment(self.comment) + wrapped(head) + ['{'] + self.declarations(mine) + unread + self.lines + ['}', '']
-
-    def array_bytes(self):
-        arrays = [self.types[i] for i in self.function.slots if self.types[i][0] == 'tyArray']
-        return sum(int(t[2][1]) * (1 if t[1] == 'tyBool' else words.width(t[1]) // 8) for t in arrays)
 
     def declarations(self, mine):
         """One line for the locals of each type."""
@@ -396,7 +394,8 @@ class Writer:
 
 class Export:
     """The visible function over a proved one. A slice is a pointer and a count; NULL with a count of 0 becomes a pointer to something, since C
-    has no arithmetic on NULL. A number of 64 bits is a size_t for the caller, an answer of 32 bits an int32_t."""
+    has no arithmetic on NULL. A number of 64 bits is a size_t for the caller, an answer of 32 bits an int32_t,
+    and so is an out-parameter that the source calls signed: C reads and writes it as the unsigned number of the same bits."""
 
     def __init__(self, program, function, writer):
         self.program, self.function, self.writer = program, function, writer
@@ -415,6 +414,9 @@ class Export:
                 self.before.append(f'uint64_t wide_{name} = *{name};')
                 self.arguments.append(f'&wide_{name}')
                 self.after.append(f'*{name} = (size_t)wide_{name};')
+            case ('tyRef', _, 'mut', ('tyInt', '32')) if name in self.program.names.signed(self.function.name):
+                self.parameters.append(f'int32_t *{name}')
+                self.arguments.append(f'(uint32_t *){name}')
             case ('tyRef', _, 'mut', ('tyInt', _)):
                 self.parameters.append(self.program.declare(t, name))
                 self.arguments.append(name)
@@ -461,12 +463,36 @@ def needed(functions, exports):
     return order
 
 
-def shared(bodies):
-    """The functions that two loops share as a part of their body, and no other place calls: those that are LONG."""
+def sites_of(bodies):
+    """Where each function is called: the callers, each with whether that call stands in a loop."""
     sites = {}
     for caller, body in bodies.items():
         for callee, looped in mir.calls(body):
             sites.setdefault(callee, []).append((caller, looped))
+    return sites
+
+
+def array_bytes(function):
+    """The bytes of the arrays that a function holds."""
+    arrays = [function.locals[i] for i in function.slots if function.locals[i][0] == 'tyArray']
+    return sum(int(t[2][1]) * (1 if t[1] == 'tyBool' else words.width(t[1]) // 8) for t in arrays)
+
+
+def apart(bodies, functions):
+    """The functions that keep their frame to themselves: see LARGE."""
+    sites = sites_of(bodies)
+    bytes_of = {name: array_bytes(functions[name]) for name in bodies}
+
+    def in_loop(name):
+        found = sites.get(name, [])
+        return len(found) == 1 and found[0][1] and bytes_of[found[0][0]] > bytes_of[name]
+
+    return {name for name in bodies if bytes_of[name] >= LARGE and not in_loop(name)}
+
+
+def shared(bodies):
+    """The functions that two loops share as a part of their body, and no other place calls: those that are LONG."""
+    sites = sites_of(bodies)
 
     def length(name):
         """The statements of a function and of those that only it calls."""

@@ -39,8 +39,9 @@ int main(int argc, char **argv)
         unsigned long number = strtoul(argv[i + 2], NULL, 10);
         queries[i] = number > UINT16_MAX ? UINT16_MAX : (uint16_t)number;
     }
+    uint32_t rounds;
     int32_t code = simjorad_closed_indexed(page, (size_t)used, queries, count, scratch, NUMBERS(scratch), answers, NUMBERS(answers),
-                                           workspace, NUMBERS(workspace));
+                                           workspace, NUMBERS(workspace), &rounds);
     if (code < 0) {
         printf("closed reading refused: %d\n", (int)-code);
         return 1;

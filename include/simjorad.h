@@ -63,7 +63,7 @@ extern "C" {
  * measurements and do not count). SIMJORAD_LAYOUT is raised whenever the layout of a page area or a run area changes: an area that was
  * kept under another layout must be read or opened again.
  */
-#define SIMJORAD_VERSION 7
+#define SIMJORAD_VERSION 8
 #define SIMJORAD_LAYOUT 1
 
 /*
@@ -210,10 +210,13 @@ int32_t simjorad_line(const uint16_t *page, size_t page_length, const uint16_t *
 
 /*
  * Closed reading. Returns 0, or minus 10, 11, 12, 18 or 19. Writes low, high per query in list order to answers;
- * the first 4 * C numbers of scratch end as zero, and no other number of scratch is read or written.
+ * the first 4 * C numbers of scratch end as zero, and no other number of scratch is read or written. Each closed interval lies inside
+ * the plain one of its condition.
+ * Sets *rounds to the count of rounds: from [0;top] on every condition that the queries reach, each next assignment is the body value of the
+ * last joined with its support; the count is the number of the first assignment that the next one equals. It is at most R * top (102,400).
  */
 int32_t simjorad_closed(const uint16_t *page, size_t page_length, const uint16_t *queries, size_t queries_length,
-                        uint16_t *scratch, size_t scratch_length, uint16_t *answers, size_t answers_length);
+                        uint16_t *scratch, size_t scratch_length, uint16_t *answers, size_t answers_length, uint32_t *rounds);
 
 /*
  * Closed reading, with an index in the workspace: returns and writes what simjorad_closed does. The workspace is as for
@@ -221,7 +224,7 @@ int32_t simjorad_closed(const uint16_t *page, size_t page_length, const uint16_t
  */
 int32_t simjorad_closed_indexed(const uint16_t *page, size_t page_length, const uint16_t *queries, size_t queries_length,
                                 uint16_t *scratch, size_t scratch_length, uint16_t *answers, size_t answers_length,
-                                uint16_t *workspace, size_t workspace_length);
+                                uint16_t *workspace, size_t workspace_length, uint32_t *rounds);
 
 /*
  * Loops through an absence: whether the page feeds a condition on its own absence. Returns 0, or minus 10, 31 or 30. A page is refused 30

@@ -143,18 +143,20 @@ static void closed(void)
 {
     static const uint16_t queries[] = {1, 0}, answer[] = {3, 8, 2, 7};
     uint16_t scratch[SIMJORAD_SCRATCH_LENGTH(2)], answers[5] = {77, 77, 77, 77, 77}, workspace[INDEX];
+    uint32_t rounds = 77;
 
     memset(scratch, 0xff, sizeof scratch);
-    CHECK(simjorad_closed(area, USED, queries, 2, scratch, 7, answers, 5) == -SIMJORAD_SCRATCH_SHORT);
-    CHECK(simjorad_closed(area, USED, queries, 2, scratch, 8, answers, 3) == -SIMJORAD_ANSWERS_SHORT);
-    CHECK(answers[0] == 77 && scratch[0] == 0xffff);
-    CHECK(simjorad_closed(area, USED, queries, 2, scratch, 8, answers, 5) == 0);
+    CHECK(simjorad_closed(area, USED, queries, 2, scratch, 7, answers, 5, &rounds) == -SIMJORAD_SCRATCH_SHORT);
+    CHECK(simjorad_closed(area, USED, queries, 2, scratch, 8, answers, 3, &rounds) == -SIMJORAD_ANSWERS_SHORT);
+    CHECK(answers[0] == 77 && scratch[0] == 0xffff && rounds == 77);
+    CHECK(simjorad_closed(area, USED, queries, 2, scratch, 8, answers, 5, &rounds) == 0 && rounds == 2);
     CHECK(same(answers, answer, 4) && answers[4] == 77 && scratch[0] == 0 && scratch[7] == 0);
     memset(answers, 0, sizeof answers);
     memset(workspace, 0xff, sizeof workspace);
-    CHECK(simjorad_closed_indexed(area, USED, queries, 2, scratch, 8, answers, 5, workspace, INDEX) == 0);
+    rounds = 77;
+    CHECK(simjorad_closed_indexed(area, USED, queries, 2, scratch, 8, answers, 5, workspace, INDEX, &rounds) == 0 && rounds == 2);
     CHECK(same(answers, answer, 4) && workspace[0] == 0 && workspace[INDEX - 1] == 0);
-    CHECK(simjorad_closed_indexed(area, USED, area + 1, 1, scratch, 8, answers, 5, NULL, 0) == -SIMJORAD_QUERY_RANGE);
+    CHECK(simjorad_closed_indexed(area, USED, area + 1, 1, scratch, 8, answers, 5, NULL, 0, &rounds) == -SIMJORAD_QUERY_RANGE && rounds == 2);
 }
 
 static void layered(void)

@@ -1,10 +1,11 @@
-//! The closed reading by its definition: sections "The two readings" (closed) and "Closed reading".
+//! The closed reading by its definition: sections "The two readings" (closed) and "Closed reading"; the count of rounds of ticket 10.
 
 use crate::answer::*;
 use crate::area::decode;
 use crate::body::{body_values, Pair};
 use crate::page::Page;
 use crate::plain::check_queries;
+use crate::reach::reached;
 
 fn join_all(left: &[Pair], right: &[Pair]) -> Vec<Pair> {
     left.iter().zip(right).map(|(a, b)| a.join(*b)).collect()
@@ -28,17 +29,35 @@ pub fn support(page: &Page, assignment: &[Pair]) -> Vec<Pair> {
     }
 }
 
-/// The closed reading: I becomes T at (I joined with its support), from [0;top] until nothing changes.
-pub fn reading(page: &Page) -> Vec<Pair> {
+/// T at (an assignment joined with its support).
+fn next(page: &Page, assignment: &[Pair]) -> Vec<Pair> {
+    body_values(page, &join_all(assignment, &support(page, assignment)))
+}
+
+/// The assignments from [0;top] on, until one equals the next at these conditions: its number, and the assignment.
+fn settled(page: &Page, conditions: &[u16]) -> (u32, Vec<Pair>) {
     let mut assignment = vec![Pair::unknown(page.top); usize::from(page.count)];
-    loop {
-        let joined = join_all(&assignment, &support(page, &assignment));
-        let next = body_values(page, &joined);
-        if next == assignment {
-            return assignment;
+    for number in 0.. {
+        let next = next(page, &assignment);
+        let equal = |cond: &u16| next[usize::from(*cond)] == assignment[usize::from(*cond)];
+        if conditions.iter().all(equal) {
+            return (number, assignment);
         }
         assignment = next;
     }
+    unreachable!("the assignments narrow")
+}
+
+/// The closed reading: I becomes T at (I joined with its support), from [0;top] until nothing changes.
+pub fn reading(page: &Page) -> Vec<Pair> {
+    let all: Vec<u16> = (0..page.count).collect();
+    settled(page, &all).1
+}
+
+/// The count of rounds: the number of the first assignment that the next one equals on what the queries reach.
+pub fn rounds(page: &Page, queries: &[u16]) -> u32 {
+    let reached: Vec<u16> = reached(page, queries).into_iter().collect();
+    settled(page, &reached).0
 }
 
 /// The numbers of scratch that a page of so many conditions takes.
@@ -46,12 +65,13 @@ pub fn scratch_length(count: u16) -> usize {
     4 * usize::from(count)
 }
 
+/// What the call writes, and the count of rounds that it tells.
 pub fn closed(
     page_area: &[u16],
     queries: &[u16],
     scratch: &mut [u16],
     answers: &mut [u16],
-) -> Result<(), Refusal> {
+) -> Result<u32, Refusal> {
     let page = decode(page_area).ok_or(PAGE_UNSOUND)?;
     check_queries(&page, queries)?;
     let needed = scratch_length(page.count);
@@ -68,5 +88,5 @@ pub fn closed(
         answer[0] = pair.low;
         answer[1] = pair.high;
     }
-    Ok(())
+    Ok(rounds(&page, queries))
 }

@@ -460,7 +460,7 @@ impl Engine {
         queries: &[u16],
         scratch: &mut [u16],
         answers: &mut [u16],
-    ) -> Result<Result<(), Refusal>, String> {
+    ) -> Result<Result<u32, Refusal>, String> {
         self.closed_with(page, queries, scratch, answers, None)
     }
 
@@ -471,7 +471,7 @@ impl Engine {
         scratch: &mut [u16],
         answers: &mut [u16],
         workspace: &mut [u16],
-    ) -> Result<Result<(), Refusal>, String> {
+    ) -> Result<Result<u32, Refusal>, String> {
         self.closed_with(page, queries, scratch, answers, Some(workspace))
     }
 
@@ -482,7 +482,7 @@ impl Engine {
         scratch: &mut [u16],
         answers: &mut [u16],
         workspace: Option<&mut [u16]>,
-    ) -> Result<Result<(), Refusal>, String> {
+    ) -> Result<Result<u32, Refusal>, String> {
         let (page_loan, page_length) = self.lend_area(0, page);
         let queries_loan = self.lend(1, queries);
         let queries_start = self.queries_start(&page_loan, page, queries, &queries_loan);
@@ -491,6 +491,7 @@ impl Engine {
         let room = workspace
             .as_deref()
             .map(|numbers| self.lend_area(4, numbers));
+        let mut rounds = self.out(|number| number as u32);
         let slices = [
             Self::note(page, page_loan.ptr() as usize),
             Self::note(queries, queries_start),
@@ -513,6 +514,7 @@ impl Engine {
             arguments.extend([loan.ptr_mut() as usize, *length]);
             call = Call::ClosedIndexed;
         }
+        arguments.push(rounds.ptr() as usize);
         let code = self.call(call, 0, &slices, &arguments)? as i32;
         page_loan.end_const("page", page)?;
         queries_loan.end_const("queries", queries)?;
@@ -521,7 +523,7 @@ impl Engine {
         if let (Some((loan, _)), Some(numbers)) = (room, workspace) {
             loan.end_mut("workspace", numbers)?;
         }
-        read_closed(code)
+        read_closed(code, &rounds)
     }
 
     pub fn layers(
@@ -578,10 +580,13 @@ fn driven(code: i32, taken: &Out<u32>, line: &Out<u32>) -> Result<Result<Driven,
 }
 
 /// The answer of a closed reading in either form.
-fn read_closed(code: i32) -> Result<Result<(), Refusal>, String> {
+fn read_closed(code: i32, rounds: &Out<u32>) -> Result<Result<u32, Refusal>, String> {
     match code {
-        0 => Ok(Ok(())),
-        -12..=-10 | -18 | -19 => Ok(Err(-code)),
+        0 => Ok(Ok(rounds.set("rounds")?)),
+        -12..=-10 | -18 | -19 => {
+            rounds.kept("rounds")?;
+            Ok(Err(-code))
+        }
         _ => Err(format!("returned {code}")),
     }
 }

@@ -41,6 +41,8 @@ pub struct Index {
     namers: Vec<Vec<usize>>,
     /// Those with a rule that names it plain.
     plain_namers: Vec<Vec<usize>>,
+    /// Whether a rule negates a condition.
+    negated: Vec<bool>,
 }
 
 impl Index {
@@ -54,6 +56,7 @@ impl Index {
             numbers: vec![Vec::new(); count],
             namers: lists(),
             plain_namers: lists(),
+            negated: vec![false; count],
         };
         for (line, number) in page.lines.iter().zip(2..) {
             match line {
@@ -73,8 +76,9 @@ impl Index {
                     for literal in body {
                         let cond = usize::from(literal.cond);
                         index.namers[cond].push(head);
-                        if !literal.negated {
-                            index.plain_namers[cond].push(head);
+                        match literal.negated {
+                            true => index.negated[cond] = true,
+                            false => index.plain_namers[cond].push(head),
                         }
                     }
                     index.rules[head].push(Rule {
@@ -198,17 +202,80 @@ impl Index {
     /// The closed reading. The least high ends over the low ends held are the support's; the least low ends over those high
     /// ends are the next low ends; they rise from 0 until they stay.
     pub fn closed(&self) -> Vec<Pair> {
+        self.alternated().0
+    }
+
+    /// The rounds of that computation, which are not the rounds of the closed reading.
+    pub fn alternations(&self) -> u32 {
+        self.alternated().1
+    }
+
+    fn alternated(&self) -> (Vec<Pair>, u32) {
         let mut lows = vec![0; self.count()];
-        loop {
+        for number in 1.. {
             let mut highs = vec![0; self.count()];
             self.raise(End::High, &mut highs, &lows);
             let before = lows.clone();
             self.raise(End::Low, &mut lows, &highs);
             if lows == before {
                 let ends = lows.iter().zip(&highs);
-                return ends.map(|(low, high)| Pair::new(*low, *high)).collect();
+                let pairs = ends.map(|(low, high)| Pair::new(*low, *high)).collect();
+                return (pairs, number);
             }
         }
+        unreachable!("the low ends rise")
+    }
+}
+
+impl Index {
+    /// The count of rounds. The low ends of the next assignment are T's over the low ends held and the support's high ends; the
+    /// support's high ends are settled again, from those of the closed reading upwards, where a low end rose that a rule negates.
+    pub fn rounds(&self, queries: &[u16]) -> u32 {
+        let reached = Run::open(self, queries).reached;
+        let final_highs: Vec<u16> = self.closed().iter().map(|pair| pair.high).collect();
+        let mut lows = vec![0; self.count()];
+        let mut highs = final_highs.clone();
+        self.raise(End::High, &mut highs, &lows);
+        let mut before = vec![self.top; self.count()];
+        let mut looked_at: Vec<usize> = (0..self.count()).filter(|cond| reached[*cond]).collect();
+        for number in 0.. {
+            let moved = self.rising(&looked_at, &lows, &highs);
+            if moved.is_empty() {
+                let fell =
+                    (0..self.count()).any(|cond| reached[cond] && before[cond] != highs[cond]);
+                return number + u32::from(fell);
+            }
+            before.clone_from(&highs);
+            let mut touched: Vec<usize> = moved.iter().map(|(cond, _)| *cond).collect();
+            for (cond, low) in moved {
+                lows[cond] = low;
+            }
+            if touched.iter().any(|cond| self.negated[*cond]) {
+                highs.clone_from(&final_highs);
+                self.raise(End::High, &mut highs, &lows);
+                touched.extend((0..self.count()).filter(|cond| before[*cond] != highs[*cond]));
+            }
+            looked_at = touched
+                .iter()
+                .flat_map(|cond| self.namers[*cond].iter().copied())
+                .collect();
+            looked_at.sort_unstable();
+            looked_at.dedup();
+            looked_at.retain(|cond| reached[*cond]);
+        }
+        unreachable!("the low ends rise")
+    }
+
+    /// The conditions among these whose low end rises, each with its new one.
+    fn rising(&self, conditions: &[usize], lows: &[u16], highs: &[u16]) -> Vec<(usize, u16)> {
+        let low = |cond: usize| {
+            self.end(End::Low, cond, |literal| match literal % 2 {
+                0 => lows[literal / 2],
+                _ => self.top - highs[literal / 2],
+            })
+        };
+        let pairs = conditions.iter().map(|cond| (*cond, low(*cond)));
+        pairs.filter(|(cond, low)| lows[*cond] < *low).collect()
     }
 }
 

@@ -208,6 +208,17 @@ pub fn adding_ring(count: u16, top: u16) -> Page {
     Page { top, count, lines }
 }
 
+/// The same ring, where each condition of the ring also has a weak line on the negation of the one before it: every rise of a low end
+/// lowers a high end of the support for a while.
+pub fn weak_ring(count: u16, top: u16) -> Page {
+    let mut page = adding_ring(count + 1, top);
+    for cond in 0..count {
+        let before = (cond + count - 1) % count;
+        page.lines.push(rule(cond, 1, Op::M, &[(before, true)]));
+    }
+    page
+}
+
 /// Counters that add 1 for ever, each from when the one before it is at top.
 pub fn gated_counters(count: u16, top: u16) -> Page {
     let step = count - 1;

@@ -3,6 +3,7 @@
 //! They are under test where the variable STANDIN_FAULT is set. Its value plants one of the faults below, or none if it is empty.
 //! With a fault planted, a good test run fails.
 
+use std::collections::BTreeSet;
 use std::io::{Read, Write};
 use std::process::Command;
 use std::sync::{Mutex, OnceLock};
@@ -548,6 +549,31 @@ pub const FAULTS: &[(&str, &str, &str)] = &[
         "scratch_refused_under_6c",
         "quick only CASE",
         "closed_reading_takes_4c_of_the_scratch_and_leaves_the_rest",
+    ),
+    (
+        "rounds_of_all_conditions",
+        "quick only CASE",
+        "rounds_of_worked_pages",
+    ),
+    (
+        "equal_round_counted",
+        "quick only CASE",
+        "rounds_of_worked_pages",
+    ),
+    (
+        "rounds_of_the_alternation",
+        "quick only CASE",
+        "rounds_of_worked_pages",
+    ),
+    (
+        "rounds_without_support",
+        "quick only CASE",
+        "rounds_of_worked_pages",
+    ),
+    (
+        "rounds_written_on_refusal",
+        "quick only CASE",
+        "refusal_order_of_closed",
     ),
     (
         "short_answers_written",
@@ -1856,7 +1882,7 @@ fn closed_call(
     queries: &[u16],
     scratch: &mut [u16],
     answers: &mut [u16],
-) -> Result<(), Refusal> {
+) -> Result<u32, Refusal> {
     let page = sound_page(page_area).ok_or(PAGE_UNSOUND)?;
     check_queries(&page, queries)?;
     if fault("closed_takes_1_5_mb_of_stack") {
@@ -1900,7 +1926,51 @@ fn closed_call(
         answers[2 * at] = reading[usize::from(*query)].low;
         answers[2 * at + 1] = reading[usize::from(*query)].high;
     }
-    Ok(())
+    Ok(rounds(&page, &queries))
+}
+
+/// The count of rounds, with the planted fault.
+fn rounds(page: &Page, queries: &[u16]) -> u32 {
+    let all: Vec<u16> = (0..page.count).collect();
+    let index = Index::new(page);
+    match planted() {
+        "rounds_of_all_conditions" => index.rounds(&all),
+        "equal_round_counted" => index.rounds(queries) + 1,
+        "rounds_of_the_alternation" => index.alternations(),
+        "rounds_without_support" => rounds_without_support(page, &reach::reached(page, queries)),
+        _ => index.rounds(queries),
+    }
+}
+
+/// The count where each next assignment is T at the last.
+fn rounds_without_support(page: &Page, reached: &BTreeSet<u16>) -> u32 {
+    let mut assignment = vec![Pair::unknown(page.top); usize::from(page.count)];
+    let mut number = 0;
+    loop {
+        let next = body_values(page, &assignment);
+        let equal = |cond: &u16| next[usize::from(*cond)] == assignment[usize::from(*cond)];
+        if reached.iter().all(equal) {
+            return number;
+        }
+        assignment = next;
+        number += 1;
+    }
+}
+
+/// What either form returns; the count is written where the call did its work.
+unsafe fn closed_code(result: Result<u32, Refusal>, rounds: *mut u32) -> i32 {
+    match result {
+        Ok(number) => {
+            *rounds = number;
+            0
+        }
+        Err(number) => {
+            if fault("rounds_written_on_refusal") {
+                *rounds = 0;
+            }
+            -number
+        }
+    }
 }
 
 pub unsafe extern "C" fn simjorad_closed(
@@ -1912,6 +1982,7 @@ pub unsafe extern "C" fn simjorad_closed(
     scratch_length: usize,
     answers: *mut u16,
     answers_length: usize,
+    rounds: *mut u32,
 ) -> i32 {
     let result = closed_call(
         lent(page, page_length),
@@ -1919,10 +1990,7 @@ pub unsafe extern "C" fn simjorad_closed(
         lent_mut(scratch, scratch_length),
         lent_mut(answers, answers_length),
     );
-    match result {
-        Ok(()) => 0,
-        Err(number) => -number,
-    }
+    closed_code(result, rounds)
 }
 
 pub unsafe extern "C" fn simjorad_closed_indexed(
@@ -1936,6 +2004,7 @@ pub unsafe extern "C" fn simjorad_closed_indexed(
     answers_length: usize,
     workspace: *mut u16,
     workspace_length: usize,
+    rounds: *mut u32,
 ) -> i32 {
     let (page, queries) = (lent(page, page_length), lent(queries, queries_length));
     let answers = lent_mut(answers, answers_length);
@@ -1953,10 +2022,7 @@ pub unsafe extern "C" fn simjorad_closed_indexed(
         }
     }
     leave_workspace(page, workspace, &result);
-    match result {
-        Ok(()) => 0,
-        Err(number) => -number,
-    }
+    closed_code(result, rounds)
 }
 
 /// The layers of a page or the condition told, with the planted fault.

@@ -262,12 +262,12 @@ impl Trial {
         Ok(())
     }
 
-    /// Reads closed in the form with a workspace, and in the other too if asked; the answers must be the wanted ones.
+    /// Reads closed in the form with a workspace, and in the other too if asked; answers and count of rounds must be the wanted ones.
     pub fn closed_answers(
         &mut self,
         page: &[u16],
         queries: &[u16],
-        wanted: &[u16],
+        (wanted, rounds): (&[u16], u32),
         scanning: bool,
     ) -> Check {
         let before = ClosedAreas {
@@ -285,12 +285,12 @@ impl Trial {
                 .closed(page, queries, &mut areas.scratch, &mut areas.answers);
             let input = closed_input("closed", page, queries, &before);
             let got = got.map_err(|reason| breach(&input, reason))?;
-            same(&input, &got, &Ok(()))?;
+            same(&input, &got, &Ok(rounds))?;
             areas.same(&input, &expected)?;
             self.saw("closed", 0);
         }
         let needed = workspace::needed(page);
-        self.closed_in(page, queries, &before, (Ok(()), &expected), needed)
+        self.closed_in(page, queries, &before, (Ok(rounds), &expected), needed)
     }
 
     /// Drives a copy of the run with workspaces of several lengths; answer, run and workspace must be the
@@ -388,14 +388,14 @@ impl Trial {
         Ok(got)
     }
 
-    /// Reads closed in both forms; the indexed one with several workspaces.
-    pub fn closed(
+    /// Reads closed in both forms; the indexed one with several workspaces. Returns the count of rounds.
+    pub fn rounds(
         &mut self,
         page: &[u16],
         queries: &[u16],
         scratch: &mut [u16],
         answers: &mut [u16],
-    ) -> Check<Result<(), Refusal>> {
+    ) -> Check<Result<u32, Refusal>> {
         let before = ClosedAreas::of(scratch, answers);
         let mut expected = before.clone();
         let wanted = closed::closed(page, queries, &mut expected.scratch, &mut expected.answers);
@@ -409,13 +409,25 @@ impl Trial {
         Ok(got)
     }
 
+    /// The same, where the count does not matter to the caller.
+    pub fn closed(
+        &mut self,
+        page: &[u16],
+        queries: &[u16],
+        scratch: &mut [u16],
+        answers: &mut [u16],
+    ) -> Check<Result<(), Refusal>> {
+        let got = self.rounds(page, queries, scratch, answers)?;
+        Ok(got.map(|_| ()))
+    }
+
     /// Reads closed with workspaces of several lengths; answer, areas and workspace must be the wanted ones.
     fn closed_indexed(
         &mut self,
         page: &[u16],
         queries: &[u16],
         before: &ClosedAreas,
-        wanted: Result<(), Refusal>,
+        wanted: Result<u32, Refusal>,
         expected: &ClosedAreas,
     ) -> Check {
         for length in self.workspace_lengths(page) {
@@ -430,7 +442,7 @@ impl Trial {
         page: &[u16],
         queries: &[u16],
         before: &ClosedAreas,
-        (wanted, expected): (Result<(), Refusal>, &ClosedAreas),
+        (wanted, expected): (Result<u32, Refusal>, &ClosedAreas),
         length: usize,
     ) -> Check {
         let mut areas = before.clone();

@@ -42,7 +42,7 @@ fn plain_answer(page: &[u16], c: u16, workspace: &mut [u16]) -> Ends
     Ends { low, high }
 }
 
-// The closed answer.
+// The closed answer. The count of rounds is not asked for.
 fn closed_answer(page: &[u16], c: u16, workspace: &mut [u16]) -> Ends
     requires { ⌜ (sound (now page) ≡ true) × (c < conditionsOf (now page)) ⌝ }
     ensures { λ r. ⌜ Reads (IsClosed (pageOf (now (page .entry)))) c (record { low = r .low; high = r .high }) ⌝ }
@@ -50,7 +50,7 @@ fn closed_answer(page: &[u16], c: u16, workspace: &mut [u16]) -> Ends
     let mut scratch = [0u16; 2048];
     let mut answers = [0u16; 2];
     let queries = [c];
-    closed::closed_indexed(page, &queries, &mut scratch, &mut answers, workspace);
+    closed::solve_over(page, &queries, &mut scratch, &mut answers, workspace, false);
     Ends {
         low: answers[0],
         high: answers[1],

@@ -1,13 +1,12 @@
 -- What a C function returns, and what it leaves in its out-parameters: document 01's answers as numbers. Assumes nothing.
 use mathlib.Core.List.{List}
 use mathlib.Core.Path.{_≡_}
-use mathlib.Core.Option.{Option, none, some}
 use Prim.Native.Nat.{ℕ}
 use lib.IntN.{ℤ, pos, negℤ}
 use Rattle.fixpoint.specs.Interval.{Interval}
-use Rattle.semantics.specs.Call.{Answer, refused, unchanged, changed, drove, valued, heldBy, firstOf}
+use Rattle.semantics.specs.Call.{Answer, refused, unchanged, changed, drove, valued, heldBy}
 use Rattle.semantics.specs.Layers.{LayersAnswer, refusedLayers, loopsAt, layered, LayersOf}
-use Rattle.semantics.specs.Operation.{Opening, refusedOpening, openedWith, closedCauses}
+use Rattle.semantics.specs.Operation.{Opening, refusedOpening, openedWith, Closing, refusedClosing, closedAfter, ClosedOf}
 use Rattle.semantics.specs.ReadPage.{ReadAnswer, refusedPage, readPage}
 use Rattle.semantics.specs.Worklist.{Status, rest, spent}
 
@@ -87,13 +86,21 @@ placeTold (refusedPage number line place) = place
 placeTold (readPage used) = 0
 
 -- closed reading: minus the refusal number, or 0
-abbrev pub closedCode : Option ℕ → ℤ
-closedCode (some k) = minus k
-closedCode none = pos 0
+abbrev pub closedCode : Closing → ℤ
+closedCode (refusedClosing k) = minus k
+closedCode (closedAfter rounds) = pos 0
 
--- the number of the closed reading's refusal, or none where the call does its work
-unfoldable pub closedRefusal : (page queries scratch answers : List ℕ) → Option ℕ
-closedRefusal a qs scratch answers = firstOf (closedCauses a qs scratch answers)
+-- "The closed reading also returns its count of rounds"; a refusal leaves what was there
+abbrev pub roundsOr : ℕ → Closing → ℕ
+roundsOr old (refusedClosing k) = old
+roundsOr old (closedAfter rounds) = rounds
+
+-- what the closed reading returns, tells and leaves. There is one such answer and content of both slices: `closed-call-one`.
+pub record ClosedCall (code : ℤ) (rounds rounds′ : ℕ) (area queries scratch answers scratch′ answers′ : List ℕ) : Type 0 where
+  pub answer : Closing
+  pub is : ClosedOf answer area queries scratch answers scratch′ answers′
+  pub code-is : code ≡ closedCode answer
+  pub rounds-is : rounds′ ≡ roundsOr rounds answer
 
 -- layers: minus the refusal number, or 0 where the layers are written
 abbrev pub layersCode : LayersAnswer → ℤ

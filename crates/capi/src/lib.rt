@@ -3,10 +3,10 @@ ghost use mathlib.Core.Path.{_≡_};
 ghost use Prim.Native.Nat.{_+_, _≤_};
 ghost use lib.ListN.{length, take, drop};
 ghost use Rattle.semantics.specs.ReadPage.{readOf, lineOf, startOf};
-ghost use Rattle.semantics.specs.Operation.{openOf, evaluateOf, driveOf, valueOf, lineHeldOf, ClosedOf, driveWorkspace, closedWorkspace};
+ghost use Rattle.semantics.specs.Operation.{openOf, evaluateOf, driveOf, valueOf, lineHeldOf, driveWorkspace, closedWorkspace};
 ghost use Rattle.run.specs.Answers.{statusIf, driveAnswerOf};
-ghost use Rattle.closed.specs.Answer.{refusalTold};
-ghost use Rattle.capi.specs.Codes.{minus as Codes·minus, statusCode, answerCode, takenOr, lineOr, intervalOr, openCode, countsOr, readCode, lineTold, placeTold, closedCode, closedRefusal, LayersCall};
+ghost use Rattle.closed.specs.Answer.{closingTold};
+ghost use Rattle.capi.specs.Codes.{minus as Codes·minus, statusCode, answerCode, takenOr, lineOr, intervalOr, openCode, countsOr, readCode, lineTold, placeTold, closedCode, roundsOr, ClosedCall, LayersCall};
 use closed::ClosedAnswer;
 use layers::Verdict;
 use run::DriveAnswer;
@@ -215,13 +215,17 @@ pub extern "C" fn simjorad_line(page: &[u16], run: &[u16], condition: u32) -> i3
     }
 }
 
-// What a closed reading answers: 0, or minus a refusal.
-fn closed_code(answer: ClosedAnswer) -> i32
-    ensures { λ r. ⌜ r ≡ closedCode (refusalTold answer) ⌝ }
+// What a closed reading answers: 0, or minus a refusal; the count of rounds goes to `rounds`.
+fn closed_code(answer: ClosedAnswer, rounds: &mut u32) -> i32
+    ensures code { λ r. ⌜ r ≡ closedCode (closingTold answer) ⌝ }
+    ensures rounds { λ _. ⌜ now (rounds .exit) ≡ roundsOr (now (rounds .entry)) (closingTold answer) ⌝ }
 {
     match answer {
         ClosedAnswer::Refused(k) => minus(k),
-        ClosedAnswer::Done => 0,
+        ClosedAnswer::Done(k) => {
+            *rounds = k;
+            0
+        }
     }
 }
 
@@ -232,12 +236,12 @@ pub extern "C" fn simjorad_closed(
     queries: &[u16],
     scratch: &mut [u16],
     answers: &mut [u16],
+    rounds: &mut u32,
 ) -> i32
-    ensures code { λ r. ⌜ r ≡ closedCode (closedRefusal (now (page .entry)) (now (queries .entry)) (now (scratch .entry)) (now (answers .entry))) ⌝ }
-    ensures areas { λ _. ⌜ ClosedOf (closedRefusal (now (page .entry)) (now (queries .entry)) (now (scratch .entry)) (now (answers .entry))) (now (page .entry)) (now (queries .entry)) (now (scratch .entry)) (now (answers .entry)) (now (scratch .exit)) (now (answers .exit)) ⌝ }
+    ensures { λ r. ⌜ ClosedCall r (now (rounds .entry)) (now (rounds .exit)) (now (page .entry)) (now (queries .entry)) (now (scratch .entry)) (now (answers .entry)) (now (scratch .exit)) (now (answers .exit)) ⌝ }
 {
     let answer = closed::closed_reading(page, queries, scratch, answers);
-    closed_code(answer)
+    closed_code(answer, rounds)
 }
 
 // Closed reading, with an index in the workspace.
@@ -248,13 +252,13 @@ pub extern "C" fn simjorad_closed_indexed(
     scratch: &mut [u16],
     answers: &mut [u16],
     workspace: &mut [u16],
+    rounds: &mut u32,
 ) -> i32
-    ensures code { λ r. ⌜ r ≡ closedCode (closedRefusal (now (page .entry)) (now (queries .entry)) (now (scratch .entry)) (now (answers .entry))) ⌝ }
-    ensures areas { λ _. ⌜ ClosedOf (closedRefusal (now (page .entry)) (now (queries .entry)) (now (scratch .entry)) (now (answers .entry))) (now (page .entry)) (now (queries .entry)) (now (scratch .entry)) (now (answers .entry)) (now (scratch .exit)) (now (answers .exit)) ⌝ }
+    ensures call { λ r. ⌜ ClosedCall r (now (rounds .entry)) (now (rounds .exit)) (now (page .entry)) (now (queries .entry)) (now (scratch .entry)) (now (answers .entry)) (now (scratch .exit)) (now (answers .exit)) ⌝ }
     ensures workspace { λ _. ⌜ now (workspace .exit) ≡ closedWorkspace (now (page .entry)) (now (queries .entry)) (now (scratch .entry)) (now (answers .entry)) (now (workspace .entry)) ⌝ }
 {
     let answer = closed::closed_indexed(page, queries, scratch, answers, workspace);
-    closed_code(answer)
+    closed_code(answer, rounds)
 }
 
 // The check for loops through an absence: 0, or minus 10, 31 or 30.

@@ -17,7 +17,7 @@ use Rattle.fixpoint.specs.Interval.{Interval, Assign}
 use Rattle.semantics.specs.Area.{sound, pageOf, conditionsOf, allUnder}
 use Rattle.semantics.specs.Body.{unknownByDefault}
 use Rattle.semantics.specs.Call.{Cause, cause, firstOf}
-use Rattle.semantics.specs.Operation.{ends, zeros, scratchLength, queryCauses, closedCauses, indexLength, usedWorkspace, closedWorkspace, ClosedAnswers, ClosedOf}
+use Rattle.semantics.specs.Operation.{ends, zeros, scratchLength, queryCauses, closedCauses, indexLength, usedWorkspace, closedWorkspace, refusedClosing, closedAfter, ClosedAnswers, ClosedOf}
 use Rattle.semantics.specs.Page.{names}
 use Rattle.semantics.specs.Reading.{queried, closure, reached}
 use Rattle.semantics.specs.Table.{listed, member}
@@ -31,10 +31,12 @@ use Rattle.index.specs.Parts.{linesLength, Index}
 use Rattle.reach.specs.Marks.{Marks}
 use Rattle.reach.proofs.Refusals.{first-10, first-11, first-12, first-behind}
 use Rattle.settle.specs.Scratch.{held}
-use Rattle.closed.specs.Answer.{FirstCause, AnswersWritten}
+use Rattle.closed.specs.Answer.{FirstCause}
 use Rattle.settle.specs.Waiting.{MaybeIndex}
 use Rattle.rounds.specs.Round.{closedAt, RoundReady, Alternated}
 use Rattle.closed.specs.Solving.{Begun, SolveReady, Solved}
+use Rattle.stages.specs.Counted.{CountReady, Counted}
+use Rattle.semantics.proofs.RoundsReached.{count-over}
 use Rattle.settle.proofs.Raising.{S}
 use Rattle.rounds.proofs.Turns.{turned-none}
 use Rattle.rounds.proofs.Starting.{upto}
@@ -67,7 +69,7 @@ module _ (n : ℕ) (s₀ : List ℕ) where
   beginning-last v l = record { same-length = v .same-length; lows = λ d m. v .lows d (omega arith); beyond = v .beyond }
 
 -- the start: the marks are those of the closure
-module _ (a qs s : List ℕ) (r : SolveReady a qs s) {marks : List Bool} (m : Marks (closure (pageOf a) qs) marks) {s₁ : List ℕ} (b : Begun (conditionsOf a) s s₁) where
+module _ (a qs s w : List ℕ) (r : SolveReady a qs s w) {marks : List Bool} (m : Marks (closure (pageOf a) qs) marks) {s₁ : List ℕ} (b : Begun (conditionsOf a) s s₁) where
   shut : DependencyClosed (pageOf a .conditions) (names (pageOf a)) (member marks)
   shut c d l k p q = m .same d ∙ reached-closed (pageOf a) qs c d l k (sym (m .same c) ∙ p) q
 
@@ -84,9 +86,6 @@ module _ (a qs s : List ℕ) (r : SolveReady a qs s) {marks : List Bool} (m : Ma
         round = 0;
         turned = turned-none (S a (r .page-sound)) shut (held (conditionsOf a) s₁) (λ c l q. b .lows c l);
       }
-
-  pub solved : {s′ : List ℕ} → Alternated a marks s₁ s′ → Solved a qs s s′
-  solved v = record { same-length = v .same-length ∙ b .same-length; beyond = v .beyond ∙ b .beyond; reads-closed = λ c l q. v .reads-closed c l (m .same c ∙ q) }
 
 -- the answers: the first i queries are answered
 module _ (I : Assign) (qs answers₀ : List ℕ) where
@@ -159,6 +158,53 @@ ends-same I J (q ∷ qs) h =
     ap₂ {C = List ℕ} (λ (p : Interval) (t : List ℕ). p .low ∷ p .high ∷ t) (h q (rw (eq-eqb q q refl)))
     (ends-same I J qs (λ c e. h c (rw (e, or-true))))
 
+-- the answers are written over the closed reading, and then the rounds are counted
+module _ (a qs s w : List ℕ) (r : SolveReady a qs s w) {marks : List Bool} (m : Marks (closure (pageOf a) qs) marks) {s₁ : List ℕ} (b : Begun (conditionsOf a) s s₁)
+    {s₂ : List ℕ} (v : Alternated a marks s₁ s₂) where
+  real : (c : ℕ) → listed c qs ≡ true → c < conditionsOf a
+  real c l = under-listed (conditionsOf a) qs (r .under) c l
+
+  answer : (c : ℕ) → listed c qs ≡ true → held (conditionsOf a) s₂ c ≡ closedAt a c
+  unfolding pageOf
+  answer c l =
+      v .reads-closed c (real c l)
+      (m .same c ∙ reached-complete (pageOf a) qs (names-inside (pageOf a) (sound-proper a (r .page-sound))) real (queried l))
+
+  pub count-ready : CountReady a marks s₂
+  unfolding pageOf
+  count-ready =
+      record {
+        page-sound = r .page-sound;
+        long = omega (arith, r .long, b .same-length, v .same-length);
+        marked = omega (arith, m .size, head-of a (r .page-sound) .few);
+        shut = shut a qs s w r m b;
+        reads-closed = v .reads-closed;
+      }
+
+  module _ {w′ : List ℕ} (d : w′ ≡ ends (held (conditionsOf a) s₂) qs ++ drop (2 * length qs) w) where
+    written : w′ ≡ ends (closedAt a) qs ++ drop (2 * length qs) w
+    written = d ∙ ap (λ (t : List ℕ). t ++ drop (2 * length qs) w) (ends-same (held (conditionsOf a) s₂) (closedAt a) qs answer)
+
+    pub solved-uncounted : (k : ℕ) → Solved a qs s w s₂ w′ false k
+    solved-uncounted k =
+        record {
+          same-length = v .same-length ∙ b .same-length;
+          beyond = v .beyond ∙ b .beyond;
+          written = written;
+          rounds = λ e. absurd (true≢false (sym e));
+        }
+
+    pub solved-counted : {s′ : List ℕ} {k : ℕ} (counting : Bool) → Counted a marks s₂ s′ k → Solved a qs s w s′ w′ counting k
+    unfolding pageOf
+    solved-counted counting h =
+        record {
+          same-length = h .same-length ∙ v .same-length ∙ b .same-length;
+          beyond = h .beyond ∙ v .beyond ∙ b .beyond;
+          written = written;
+          rounds = λ e.
+              count-over (S a (r .page-sound)) (shut a qs s w r m b) (reached-closed (pageOf a) qs) (unknownByDefault (pageOf a)) (λ c l. m .same c) (h .is-count);
+        }
+
 -- the causes of a refusal, in the order of the code's tests
 module _ (a qs s w : List ℕ) where
   abbrev behind : List Cause
@@ -190,13 +236,13 @@ module _ (a qs s w : List ℕ) where
           causes-none l = record { is = sym (first-behind a qs behind ok few under ∙ rw (le-leb (4 * conditionsOf a) (length s) long, le-leb (2 * length qs) (length w) l)) }
 
   -- a refusal
-  pub refused-by : {k : ℕ} → FirstCause (some k) a qs s w → ClosedOf (some k) a qs s w s w
+  pub refused-by : {k : ℕ} → FirstCause (some k) a qs s w → ClosedOf (refusedClosing k) a qs s w s w
   unfolding ClosedOf
   refused-by {k} e = rw (← e .is) (refl, refl, refl)
 
   -- none of the causes holds
   module _ (e : FirstCause none a qs s w) where
-    pub solve-ready : SolveReady a qs s
+    pub solve-ready : SolveReady a qs s w
     unfolding pageOf
     solve-ready =
         let h = no-cause-holds (closedCauses a qs s w) (sym (e .is)) in
@@ -204,38 +250,25 @@ module _ (a qs s w : List ℕ) where
           page-sound = not-false _ (h .0);
           under = not-false _ (h .1 .1 .0);
           long = leb-true (4 * conditionsOf a) (length s) (not-false _ (h .1 .1 .1 .0));
+          room = leb-true (2 * length qs) (length w) (not-false _ (h .1 .1 .1 .1 .0));
         }
 
-    pub room : 2 * length qs ≤ length w
-    room = let h = no-cause-holds (closedCauses a qs s w) (sym (e .is)) in leb-true (2 * length qs) (length w) (not-false _ (h .1 .1 .1 .1 .0))
-
-    module _ {s₁ : List ℕ} (v : Solved a qs s s₁) where
-      -- nor when it is solved
-      pub still-none : FirstCause none a qs s₁ w
-      still-none = record { is = e .is ∙ ap (λ (k : ℕ). firstOf (queryCauses a qs ++ (cause (not (leb (scratchLength (pageOf a)) k)) 18 ∷ cause (not (leb (2 * length qs) (length w))) 19 ∷ []))) (sym (v .same-length)) }
-
-      real : (c : ℕ) → listed c qs ≡ true → c < conditionsOf a
-      real c l = under-listed (conditionsOf a) qs (solve-ready .under) c l
-
-      answer : (c : ℕ) → listed c qs ≡ true → held (conditionsOf a) s₁ c ≡ closedAt a c
-      unfolding pageOf
-      answer c l =
-          v .reads-closed c (real c l) (reached-complete (pageOf a) qs (names-inside (pageOf a) (sound-proper a (solve-ready .page-sound))) real (queried l))
-
-      module _ {s′ w′ : List ℕ} (d : AnswersWritten a qs s₁ w s′ w′) where
-        answers : ClosedAnswers a qs s w s′ w′
-        unfolding pageOf
-        answers =
-            record {
-              reading = closedAt a;
-              is-closed = closed-is (pageOf a) (sound-proper a (solve-ready .page-sound));
-              written = d .written ∙ ap (λ (t : List ℕ). t ++ drop (2 * length qs) w) (ends-same (held (conditionsOf a) s₁) (closedAt a) qs answer);
-              cleared = d .erased ∙ ap (λ (t : List ℕ). zeros (4 * conditionsOf a) ++ t) (v .beyond);
-            }
-
-        pub accepted : ClosedOf none a qs s w s′ w′
-        unfolding ClosedOf
-        accepted = rw (← e .is) (refl, answers)
+    -- solved and counted, and the scratch erased
+    pub accepted : {s₁ s′ w′ : List ℕ} {k : ℕ} → Solved a qs s w s₁ w′ true k → s′ ≡ zeros (4 * conditionsOf a) ++ drop (4 * conditionsOf a) s₁
+        → ClosedOf (closedAfter k) a qs s w s′ w′
+    unfolding ClosedOf pageOf
+    accepted {s₁} {s′} {w′} {k} v d =
+        rw (← e .is) (
+        record {
+          reading = closedAt a;
+          is-closed = closed-is (pageOf a) (sound-proper a (solve-ready .page-sound));
+          rounds = k;
+          is-rounds = v .rounds refl;
+          told = refl;
+          written = v .written;
+          cleared = d ∙ ap (λ (t : List ℕ). zeros (4 * conditionsOf a) ++ t) (v .beyond);
+        }
+        )
 
     -- the workspace of an accepted call
     pub workspace-used : (x : List ℕ) {x′ : List ℕ} → x′ ≡ usedWorkspace a x → x′ ≡ closedWorkspace a qs s w x

@@ -4,11 +4,11 @@ ghost use mathlib.Core.List.{_++_};
 ghost use mathlib.Core.Option.{none};
 ghost use Prim.Native.Nat.{ℕ, _≤_, _+_, _<_, _*_};
 ghost use lib.ListN.{length, getD, drop};
-ghost use Rattle.semantics.specs.Operation.{ends, indexLength, usedWorkspace, closedWorkspace, ClosedOf};
+ghost use Rattle.semantics.specs.Operation.{ends, zeros, indexLength, usedWorkspace, closedWorkspace, ClosedOf};
 ghost use Rattle.settle.specs.Scratch.{held};
 ghost use Rattle.settle.specs.Waiting.{MaybeIndex};
 ghost use Rattle.closed.specs.Solving.{Begun, SolveReady, Solved};
-ghost use Rattle.closed.specs.Answer.{refusalTold, FirstCause, AnswersWritten};
+ghost use Rattle.closed.specs.Answer.{refusalTold, closingTold, FirstCause};
 
 // The low ends are 0.
 fn begin(scratch: &mut [u16], n: u16)
@@ -20,17 +20,6 @@ fn begin(scratch: &mut [u16], n: u16)
         scratch[2 * c] = 0;
         c += 1;
     }
-}
-
-// The closed reading of every condition reached from the queries, in the scratch.
-fn solve(a: &[u16], queries: &[u16], lines: &[u16], users: &[u16], scratch: &mut [u16])
-    requires { ⌜ SolveReady (now a) (now queries) (now scratch) × MaybeIndex (now a) (now lines) (now users) ⌝ }
-    ensures { λ r. ⌜ Solved (now (a .entry)) (now (queries .entry)) (now (scratch .entry)) (now (scratch .exit)) ⌝ }
-{
-    let mut marks = [false; 512];
-    reach::mark_closure(a, queries, &mut marks);
-    begin(scratch, a[1]);
-    rounds::alternate(a, lines, users, &marks, scratch);
 }
 
 // Low and high of each query, in list order.
@@ -48,10 +37,36 @@ fn write_answers(scratch: &[u16], n: u16, queries: &[u16], answers: &mut [u16])
     }
 }
 
-// The answer of the closed reading: the number of the refusal, or that the work is done.
+// The closed reading of every condition reached from the queries, in the scratch; its answers; and the count of rounds if it is asked for, which
+// leaves other numbers in the scratch.
+fn solve(
+    a: &[u16],
+    queries: &[u16],
+    lines: &[u16],
+    users: &[u16],
+    scratch: &mut [u16],
+    answers: &mut [u16],
+    counting: bool,
+) -> u32
+    requires { ⌜ SolveReady (now a) (now queries) (now scratch) (now answers) × MaybeIndex (now a) (now lines) (now users) ⌝ }
+    ensures { λ r. ⌜ Solved (now (a .entry)) (now (queries .entry)) (now (scratch .entry)) (now (answers .entry)) (now (scratch .exit)) (now (answers .exit)) counting r ⌝ }
+{
+    let n = a[1];
+    let mut marks = [false; 512];
+    reach::mark_closure(a, queries, &mut marks);
+    begin(scratch, n);
+    rounds::alternate(a, lines, users, &marks, scratch);
+    write_answers(scratch, n, queries, answers);
+    if !counting {
+        return 0;
+    }
+    stages::count_rounds(a, lines, users, &marks, scratch)
+}
+
+// The answer of the closed reading: the number of the refusal, or the count of rounds where the work is done.
 pub enum ClosedAnswer {
     Refused(u8),
-    Done,
+    Done(u32),
 }
 
 // The first cause of a refusal, if there is one.
@@ -74,63 +89,75 @@ fn refusal(page: &[u16], queries: &[u16], scratch: &[u16], answers: &[u16]) -> C
     if answers.len() < 2 * queries.len() {
         return ClosedAnswer::Refused(19);
     }
-    ClosedAnswer::Done
+    ClosedAnswer::Done(0)
 }
 
-// Low and high of each query from a solved scratch, which is then erased.
-fn answer(page: &[u16], queries: &[u16], scratch: &mut [u16], answers: &mut [u16])
-    requires { ⌜ FirstCause none (now page) (now queries) (now scratch) (now answers) ⌝ }
-    ensures { λ r. ⌜ AnswersWritten (now (page .entry)) (now (queries .entry)) (now (scratch .entry)) (now (answers .entry)) (now (scratch .exit)) (now (answers .exit)) ⌝ }
+// The scratch ends as zeros.
+fn clear(scratch: &mut [u16], n: u16)
+    requires { ⌜ (4 * n ≤ length (now scratch)) × (n ≤ 512) ⌝ }
+    ensures { λ r. ⌜ now (scratch .exit) ≡ zeros (4 * n) ++ drop (4 * n) (now (scratch .entry)) ⌝ }
 {
-    let n = page[1];
-    write_answers(scratch, n, queries, answers);
     index::erase(scratch, 4 * n as usize);
 }
 
-// Closed reading: low and high of each query in the closed reading of the page.
+// Closed reading: low and high of each query in the closed reading of the page, and its count of rounds.
 pub fn closed_reading(
     page: &[u16],
     queries: &[u16],
     scratch: &mut [u16],
     answers: &mut [u16],
 ) -> ClosedAnswer
-    ensures { λ r. ⌜ ClosedOf (refusalTold r) (now (page .entry)) (now (queries .entry)) (now (scratch .entry)) (now (answers .entry)) (now (scratch .exit)) (now (answers .exit)) ⌝ }
+    ensures { λ r. ⌜ ClosedOf (closingTold r) (now (page .entry)) (now (queries .entry)) (now (scratch .entry)) (now (answers .entry)) (now (scratch .exit)) (now (answers .exit)) ⌝ }
 {
     let refused = refusal(page, queries, scratch, answers);
     if let ClosedAnswer::Refused(k) = refused {
         return ClosedAnswer::Refused(k);
     }
     let none = &page[0..0];
-    solve(page, queries, none, none, scratch);
-    answer(page, queries, scratch, answers);
-    ClosedAnswer::Done
+    let rounds = solve(page, queries, none, none, scratch, answers, true);
+    clear(scratch, page[1]);
+    ClosedAnswer::Done(rounds)
 }
 
 // The same as `solve`, with an index that is built in `w`.
-fn solve_indexed(a: &[u16], queries: &[u16], scratch: &mut [u16], w: &mut [u16])
-    requires { ⌜ SolveReady (now a) (now queries) (now scratch) × (length (now w) ≡ indexLength (now a)) ⌝ }
-    ensures { λ r. ⌜ Solved (now (a .entry)) (now (queries .entry)) (now (scratch .entry)) (now (scratch .exit)) ⌝ }
+fn solve_indexed(
+    a: &[u16],
+    queries: &[u16],
+    scratch: &mut [u16],
+    answers: &mut [u16],
+    w: &mut [u16],
+    counting: bool,
+) -> u32
+    requires { ⌜ SolveReady (now a) (now queries) (now scratch) (now answers) × (length (now w) ≡ indexLength (now a)) ⌝ }
+    ensures { λ r. ⌜ Solved (now (a .entry)) (now (queries .entry)) (now (scratch .entry)) (now (answers .entry)) (now (scratch .exit)) (now (answers .exit)) counting r ⌝ }
 {
     index::build(a, w);
     let k = index::lines_length(a);
     let lines = &w[0..k];
     let users = &w[k..];
-    solve(a, queries, lines, users, scratch);
+    solve(a, queries, lines, users, scratch, answers, counting)
 }
 
 // The same as `solve`, with an index if the workspace has room for it.
-fn solve_over(a: &[u16], queries: &[u16], scratch: &mut [u16], workspace: &mut [u16])
-    requires { ⌜ SolveReady (now a) (now queries) (now scratch) ⌝ }
-    ensures { λ r. ⌜ Solved (now (a .entry)) (now (queries .entry)) (now (scratch .entry)) (now (scratch .exit)) × (now (workspace .exit) ≡ usedWorkspace (now (a .entry)) (now (workspace .entry))) ⌝ }
+pub fn solve_over(
+    a: &[u16],
+    queries: &[u16],
+    scratch: &mut [u16],
+    answers: &mut [u16],
+    workspace: &mut [u16],
+    counting: bool,
+) -> u32
+    requires { ⌜ SolveReady (now a) (now queries) (now scratch) (now answers) ⌝ }
+    ensures { λ r. ⌜ Solved (now (a .entry)) (now (queries .entry)) (now (scratch .entry)) (now (answers .entry)) (now (scratch .exit)) (now (answers .exit)) counting r × (now (workspace .exit) ≡ usedWorkspace (now (a .entry)) (now (workspace .entry))) ⌝ }
 {
     let m = index::index_length(a);
     if workspace.len() < m {
         let none = &a[0..0];
-        solve(a, queries, none, none, scratch);
-        return;
+        return solve(a, queries, none, none, scratch, answers, counting);
     }
-    solve_indexed(a, queries, scratch, &mut workspace[..m]);
+    let rounds = solve_indexed(a, queries, scratch, answers, &mut workspace[..m], counting);
     index::erase(workspace, m);
+    rounds
 }
 
 // Closed reading with a lent workspace: the same answers, and fast where the workspace has room for an index of the page.
@@ -141,13 +168,13 @@ pub fn closed_indexed(
     answers: &mut [u16],
     workspace: &mut [u16],
 ) -> ClosedAnswer
-    ensures { λ r. ⌜ ClosedOf (refusalTold r) (now (page .entry)) (now (queries .entry)) (now (scratch .entry)) (now (answers .entry)) (now (scratch .exit)) (now (answers .exit)) × (now (workspace .exit) ≡ closedWorkspace (now (page .entry)) (now (queries .entry)) (now (scratch .entry)) (now (answers .entry)) (now (workspace .entry))) ⌝ }
+    ensures { λ r. ⌜ ClosedOf (closingTold r) (now (page .entry)) (now (queries .entry)) (now (scratch .entry)) (now (answers .entry)) (now (scratch .exit)) (now (answers .exit)) × (now (workspace .exit) ≡ closedWorkspace (now (page .entry)) (now (queries .entry)) (now (scratch .entry)) (now (answers .entry)) (now (workspace .entry))) ⌝ }
 {
     let refused = refusal(page, queries, scratch, answers);
     if let ClosedAnswer::Refused(k) = refused {
         return ClosedAnswer::Refused(k);
     }
-    solve_over(page, queries, scratch, workspace);
-    answer(page, queries, scratch, answers);
-    ClosedAnswer::Done
+    let rounds = solve_over(page, queries, scratch, answers, workspace, true);
+    clear(scratch, page[1]);
+    ClosedAnswer::Done(rounds)
 }

@@ -33,7 +33,7 @@ fn start_highs(a: &[u16], scratch: &mut [u16])
 }
 
 // The negation of c has its number over the high ends; if it is another, whoever negates c waits.
-fn negate(a: &[u16], users: &[u16], scratch: &mut [u16], words: &mut [u64], c: u16)
+pub fn negate(a: &[u16], users: &[u16], scratch: &mut [u16], words: &mut [u64], c: u16)
     requires { ⌜ (sound (now a) ≡ true) × MaybeUsers (now a) (now users) × (4 * conditionsOf (now a) ≤ length (now scratch)) × (c < conditionsOf (now a)) × (getD (now scratch) (2 * conditionsOf (now a) + 2 * c) 0 ≤ topOf (now a)) × WaitSet (conditionsOf (now a)) (now words) ⌝ }
     ensures { λ r. ⌜ Renegated (now (a .entry)) (now (users .entry)) c (now (scratch .entry)) (now (scratch .exit)) (now (words .entry)) (now (words .exit)) ⌝ }
 {
@@ -63,6 +63,20 @@ fn start_lows(a: &[u16], users: &[u16], scratch: &mut [u16], words: &mut [u64])
     }
 }
 
+// Every reached condition waits.
+pub fn wait_marked(marks: &[bool], n: u16, words: &mut [u64])
+    requires { ⌜ (n ≤ length (now marks)) × (n ≤ 512) × WaitSet n (now words) ⌝ }
+    ensures { λ r. ⌜ AllWait n (now (marks .entry)) (now (words .exit)) ⌝ }
+{
+    let mut c: u16 = 0;
+    while c < n {
+        if marks[c as usize] {
+            bits::insert(words, c);
+        }
+        c += 1;
+    }
+}
+
 // Every reached condition waits, if there is an index.
 fn wait_all(marks: &[bool], users: &[u16], n: u16, words: &mut [u64])
     requires { ⌜ (n ≤ length (now marks)) × (n ≤ 512) × WaitSet n (now words) ⌝ }
@@ -71,13 +85,7 @@ fn wait_all(marks: &[bool], users: &[u16], n: u16, words: &mut [u64])
     if users.len() == 0 {
         return;
     }
-    let mut c: u16 = 0;
-    while c < n {
-        if marks[c as usize] {
-            bits::insert(words, c);
-        }
-        c += 1;
-    }
+    wait_marked(marks, n, words);
 }
 
 // Whether the literal is a negation whose number at its high end is not that over the low end held.
@@ -121,7 +129,7 @@ fn line_stale(a: &[u16], at: usize, scratch: &[u16]) -> bool
 }
 
 // Whether a literal of the page is: only then can a high end come out as another.
-fn negation_stale(a: &[u16], scratch: &[u16]) -> bool
+pub fn negation_stale(a: &[u16], scratch: &[u16]) -> bool
     requires { ⌜ Comparable (now a) (now scratch) ⌝ }
     ensures { λ r. ⌜ Searched (now (a .entry)) (now (scratch .entry)) (LinesHave (pageOf (now (a .entry)) .lines)) r ⌝ }
 {

@@ -2,12 +2,11 @@
 -- One list, one claim (`area-bench`). Assumes nothing.
 use mathlib.Core.Path.{_≡_}
 use mathlib.Core.List.{List, [], _∷_}
-use mathlib.Core.Option.{none, some}
 use Prim.Native.Nat.{ℕ}
 use Rattle.fixpoint.specs.Interval.{Interval}
 use Rattle.semantics.specs.Worklist.{rest, spent}
 use Rattle.semantics.specs.Call.{Call, evaluate, drive, value, lineHeld, Answer, refused, unchanged, changed, drove, valued, heldBy}
-use Rattle.semantics.specs.Operation.{Opening, refusedOpening, openedWith, openOf, operation, ClosedOf}
+use Rattle.semantics.specs.Operation.{Opening, refusedOpening, openedWith, openOf, operation, refusedClosing, closedAfter, ClosedOf}
 use Rattle.semantics.proofs.Rows.{interval}
 
 pub data AreaRow : Type 0 where
@@ -15,16 +14,16 @@ pub data AreaRow : Type 0 where
   opensOn : (area queries run : List ℕ) → Opening → (left : List ℕ) → AreaRow
   -- a call: its answer, and the run area that it leaves
   callsOn : (area run : List ℕ) → Call → Answer → (left : List ℕ) → AreaRow
-  -- a closed reading that does its work: what it leaves in scratch and answers
-  closesOn : (area queries scratch answers : List ℕ) → (scratch′ answers′ : List ℕ) → AreaRow
+  -- a closed reading that does its work: its count of rounds, and what it leaves in scratch and answers
+  closesOn : (area queries scratch answers : List ℕ) → (rounds : ℕ) → (scratch′ answers′ : List ℕ) → AreaRow
   -- one that is refused, by its number, and leaves both as they are
   refusesOn : (area queries scratch answers : List ℕ) → (number : ℕ) → AreaRow
 
 abbrev pub HoldsOn : AreaRow → Type 0
 HoldsOn (opensOn a qs r o left) = (openOf a qs r .answer ≡ o) × (openOf a qs r .run ≡ left)
 HoldsOn (callsOn a r c o left) = (operation a r c .answer ≡ o) × (operation a r c .run ≡ left)
-HoldsOn (closesOn a qs s w s′ w′) = ClosedOf none a qs s w s′ w′
-HoldsOn (refusesOn a qs s w k) = ClosedOf (some k) a qs s w s w
+HoldsOn (closesOn a qs s w k s′ w′) = ClosedOf (closedAfter k) a qs s w s′ w′
+HoldsOn (refusesOn a qs s w k) = ClosedOf (refusedClosing k) a qs s w s w
 
 abbrev pub AllHoldOn : List AreaRow → Type 0
 AllHoldOn [] = Unit {0}
@@ -134,13 +133,13 @@ areaRows =
     ∷ callsOn areaAsked (0 ∷ 10 ∷ 2 ∷ 0 ∷ 10 ∷ 2 ∷ []) (evaluate 1) (changed 0) (0 ∷ 10 ∷ 2 ∷ 0 ∷ 0 ∷ 1 ∷ [])
     ∷ callsOn areaAsked (0 ∷ 4 ∷ 1 ∷ 0 ∷ 10 ∷ 2 ∷ []) (drive 9) (drove 1 0 rest) (0 ∷ 4 ∷ 1 ∷ 0 ∷ 0 ∷ 1 ∷ [])
     ∷ callsOn areaAsked (0 ∷ 10 ∷ 2 ∷ 0 ∷ 10 ∷ 2 ∷ []) (lineHeld 1) (heldBy 0) (0 ∷ 10 ∷ 2 ∷ 0 ∷ 10 ∷ 2 ∷ [])
-    ∷ closesOn area1 (1 ∷ []) scratch1 (9 ∷ 9 ∷ 9 ∷ []) (0 ∷ 0 ∷ 0 ∷ 0 ∷ 0 ∷ 0 ∷ 0 ∷ 0 ∷ 9 ∷ 9 ∷ 9 ∷ 9 ∷ 9 ∷ []) (3 ∷ 8 ∷ 9 ∷ [])
-    ∷ closesOn area1 (1 ∷ []) (9 ∷ nines) (9 ∷ 9 ∷ []) (0 ∷ 0 ∷ 0 ∷ 0 ∷ 0 ∷ 0 ∷ 0 ∷ 0 ∷ []) (3 ∷ 8 ∷ [])
+    ∷ closesOn area1 (1 ∷ []) scratch1 (9 ∷ 9 ∷ 9 ∷ []) 2 (0 ∷ 0 ∷ 0 ∷ 0 ∷ 0 ∷ 0 ∷ 0 ∷ 0 ∷ 9 ∷ 9 ∷ 9 ∷ 9 ∷ 9 ∷ []) (3 ∷ 8 ∷ 9 ∷ [])
+    ∷ closesOn area1 (1 ∷ []) (9 ∷ nines) (9 ∷ 9 ∷ []) 2 (0 ∷ 0 ∷ 0 ∷ 0 ∷ 0 ∷ 0 ∷ 0 ∷ 0 ∷ []) (3 ∷ 8 ∷ [])
     -- a division rounds the low end down and the high end up
     ∷ callsOn areaHalf opened1 (drive 3) (drove 3 3 rest) (2 ∷ 3 ∷ 1 ∷ 5 ∷ 5 ∷ 1 ∷ 9 ∷ [])
     ∷ callsOn areaNine (0 ∷ 10 ∷ 2 ∷ []) (evaluate 0) (changed 2) (0 ∷ 9 ∷ 2 ∷ [])
     ∷ callsOn areaNine (0 ∷ 9 ∷ 2 ∷ []) (evaluate 0) (unchanged 2) (0 ∷ 9 ∷ 1 ∷ [])
-    ∷ closesOn areaHalf (0 ∷ []) scratch1 (9 ∷ 9 ∷ 9 ∷ []) (0 ∷ 0 ∷ 0 ∷ 0 ∷ 0 ∷ 0 ∷ 0 ∷ 0 ∷ 9 ∷ 9 ∷ 9 ∷ 9 ∷ 9 ∷ []) (2 ∷ 3 ∷ 9 ∷ [])
+    ∷ closesOn areaHalf (0 ∷ []) scratch1 (9 ∷ 9 ∷ 9 ∷ []) 2 (0 ∷ 0 ∷ 0 ∷ 0 ∷ 0 ∷ 0 ∷ 0 ∷ 0 ∷ 9 ∷ 9 ∷ 9 ∷ 9 ∷ 9 ∷ []) (2 ∷ 3 ∷ 9 ∷ [])
     ∷ refusesOn area7 (1 ∷ []) scratch1 nines 10
     ∷ refusesOn area1 [] scratch1 nines 11
     ∷ refusesOn area1 (2 ∷ []) scratch1 nines 12

@@ -62,7 +62,7 @@ module _ (page : Page) (w : Proper page) where
       held-table n (T page (join (intervalOf ps) (roof (intervalOf (supportList page ps))))) c l
       ∙ ext O _ _ (λ b m. ap (λ (q : Interval). record { low = max (intervalOf ps b .low) (q .low); high = min (intervalOf ps b .high) (q .high) }) (support-list ps v b m)) c l
 
-  rounds-iter : (k c : ℕ) → c < n → intervalOf (rounds page k (allUnknown n top)) c ≡ iter top (close n top (T page) (unknownByDefault page)) k c
+  pub rounds-iter : (k c : ℕ) → c < n → intervalOf (rounds page k (allUnknown n top)) c ≡ iter top (close n top (T page) (unknownByDefault page)) k c
   unfolding rounds iter bottom allUnknown
   rounds-iter zero c l = held-table n (λ c. record { low = 0; high = top }) c l
   rounds-iter (suc k) c l =

@@ -12,7 +12,7 @@ use borrow.Author.Tests.{not-false, ltb-true}
 use Rattle.fixpoint.specs.Interval.{Interval, Assign}
 use Rattle.semantics.specs.Area.{sound, pageOf, allUnder}
 use Rattle.semantics.specs.Call.{Call, evaluate, drive, value, lineHeld, Answer, refused, changed, unchanged, drove, valued, heldBy, Cause, cause, firstOf, Outcome, unless, valueCauses, outcome}
-use Rattle.semantics.specs.Operation.{Left, leftAs, operation, ends, ClosedAnswers, ClosedAs, ClosedOf, closedCauses, scratchLength, zeros}
+use Rattle.semantics.specs.Operation.{Left, leftAs, operation, ends, Closing, closedAfter, ClosedAnswers, ClosedAs, ClosedOf, closedCauses, scratchLength, zeros}
 use Rattle.semantics.specs.Page.{Page}
 use Rattle.semantics.proofs.Proper.{Proper}
 use Rattle.semantics.specs.Reading.{IsClosed}
@@ -21,6 +21,7 @@ use Rattle.semantics.specs.Table.{member, intervalOf, listed}
 use Rattle.semantics.specs.Worklist.{Worklist, changes, evaluated, holder, lowest, Status, rest, status, statusAs, Driven, oneMore, driveFrom, driven}
 use Rattle.semantics.proofs.Areas.{reencoded}
 use Rattle.semantics.proofs.Invariant.{NoCause, no-cause-holds}
+use Rattle.semantics.proofs.RoundCounts.{rounds-one}
 use Rattle.semantics.proofs.Readings.{closed-one}
 use Rattle.semantics.proofs.Soundness.{sound-proper, both-true}
 
@@ -124,7 +125,7 @@ ends-same n C D h (q ∷ qs) u =
     let b = both-true (ltb q n) (allUnder n qs) u in
     ap₂ {C = List ℕ} (λ (p : Interval) (l : List ℕ). p .low ∷ p .high ∷ l) (h q (ltb-true q n (b .0))) (ends-same n C D h qs (b .1))
 
-pub closed-call-one : (answer answer′ : Option ℕ) (a qs s w s₁ w₁ s₂ w₂ : List ℕ) → ClosedOf answer a qs s w s₁ w₁ → ClosedOf answer′ a qs s w s₂ w₂
+pub closed-call-one : (answer answer′ : Closing) (a qs s w s₁ w₁ s₂ w₂ : List ℕ) → ClosedOf answer a qs s w s₁ w₁ → ClosedOf answer′ a qs s w s₂ w₂
     → (answer ≡ answer′) × (s₁ ≡ s₂) × (w₁ ≡ w₂)
 unfolding ClosedOf
 closed-call-one answer answer′ a qs s w s₁ w₁ s₂ w₂ p q = go (firstOf (closedCauses a qs s w)) refl p q
@@ -136,7 +137,7 @@ closed-call-one answer answer′ a qs s w s₁ w₁ s₂ w₂ p q = go (firstOf 
         let h = no-cause-holds (closedCauses a qs s w) e in
         let v = sound-proper a (not-false (sound a) (h .0)) in
         let u = not-false (allUnder (pageOf a .conditions) qs) (h .1 .1 .0) in (
-          p .0 ∙ sym (q .0),
-          p .1 .cleared ∙ sym (q .1 .cleared),
-          p .1 .written ∙ ap (λ (l : List ℕ). l ++ drop (2 * length qs) w) (ends-same (pageOf a .conditions) (p .1 .reading) (q .1 .reading) (closed-one (pageOf a) v (p .1 .is-closed) (q .1 .is-closed)) qs u) ∙ sym (q .1 .written),
+          p .told ∙ ap closedAfter (rounds-one (pageOf a) v qs (p .is-rounds) (q .is-rounds)) ∙ sym (q .told),
+          p .cleared ∙ sym (q .cleared),
+          p .written ∙ ap (λ (l : List ℕ). l ++ drop (2 * length qs) w) (ends-same (pageOf a .conditions) (p .reading) (q .reading) (closed-one (pageOf a) v (p .is-closed) (q .is-closed)) qs u) ∙ sym (q .written),
         )

@@ -24,6 +24,9 @@ pub mod WrittenPages
 -- the computed closure is what is reached
 pub mod Table
 pub mod Closure
+-- the count of rounds: it exists, there is one, and it is at most R × top
+pub mod RoundsReached
+pub mod RoundCounts
 -- the plain reading covers the exact figures
 pub mod Fractions
 pub mod Cover
@@ -33,6 +36,8 @@ pub mod Computed
 pub mod Same
 pub mod Rows
 pub mod Bench
+pub mod RoundRows
+pub mod RoundBench
 pub mod AreaRows
 pub mod AreaBench
 pub mod TextRows
@@ -41,6 +46,8 @@ pub mod TextBench
 pub mod CoverExample
 -- what operations keep
 pub mod Keeps
+-- the closed reading as an operation
+pub mod ClosedCalls
 -- what the program `attach` prints
 pub mod Outputs
 pub mod OutputRow

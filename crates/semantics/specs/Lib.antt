@@ -10,6 +10,8 @@ pub mod Holding
 pub mod Table
 -- "The two readings"; reached, R and E
 pub mod Reading
+-- document 02, ticket 10: the count of rounds of the closed reading
+pub mod Rounds
 -- ticket 2: fractions, the exact body value, and that the plain reading covers it
 pub mod Exact
 -- "Areas"

@@ -11,6 +11,7 @@ use Rattle.fixpoint.specs.Interval.{Interval, Assign}
 use Rattle.semantics.specs.Page.{Page}
 use Rattle.semantics.specs.Area.{sound, pageOf, firstLine, conditionsOf, countOf, usedOf, allUnder}
 use Rattle.semantics.specs.Reading.{IsClosed, closure, passCount, countR, countE, bound}
+use Rattle.semantics.specs.Rounds.{IsRounds}
 use Rattle.semantics.specs.Worklist.{Worklist, start}
 use Rattle.semantics.specs.RunArea.{runOf, worklistOf, reachedOf, runSound}
 use Rattle.semantics.specs.Call.{Call, evaluate, drive, value, lineHeld, Answer, refused, Cause, cause, firstOf, Outcome, outcome}
@@ -122,18 +123,27 @@ abbrev pub ends : Assign → List ℕ → List ℕ
 ends C [] = []
 ends C (q ∷ qs) = C q .low ∷ C q .high ∷ ends C qs
 
--- What an accepted call leaves: the page has a closed reading, and these are its answers. (It has exactly one: `closed-one`.)
-pub record ClosedAnswers (a qs scratch answers scratch′ answers′ : List ℕ) : Type 0 where
+-- Closed reading: a refusal's number, or the count of rounds where the call did its work
+pub data Closing : Type 0 where
+  refusedClosing : ℕ → Closing
+  closedAfter : (rounds : ℕ) → Closing
+
+-- What an accepted call answers and leaves: the page has a closed reading, and these are its answers; the queries have a count of rounds, and it is told.
+-- (There is exactly one of each: `closed-one`, `rounds-one`.)
+pub record ClosedAnswers (answer : Closing) (a qs scratch answers scratch′ answers′ : List ℕ) : Type 0 where
   pub reading : Assign
   pub is-closed : IsClosed (pageOf a) reading
+  pub rounds : ℕ
+  pub is-rounds : IsRounds (pageOf a) qs rounds
+  pub told : answer ≡ closedAfter rounds
   pub written : answers′ ≡ ends reading qs ++ drop (2 * length qs) answers
   pub cleared : scratch′ ≡ zeros (scratchLength (pageOf a)) ++ drop (scratchLength (pageOf a)) scratch
 
--- The answer is the number of a refusal, or none where the call did its work. A refusal leaves both slices as they are.
-abbrev pub ClosedAs : Option ℕ → (answer : Option ℕ) → (a qs scratch answers scratch′ answers′ : List ℕ) → Type 0
-ClosedAs (some k) answer a qs scratch answers scratch′ answers′ = (answer ≡ some k) × (scratch′ ≡ scratch) × (answers′ ≡ answers)
-ClosedAs none answer a qs scratch answers scratch′ answers′ = (answer ≡ none) × ClosedAnswers a qs scratch answers scratch′ answers′
+-- A refusal leaves both slices as they are.
+abbrev pub ClosedAs : Option ℕ → (answer : Closing) → (a qs scratch answers scratch′ answers′ : List ℕ) → Type 0
+ClosedAs (some k) answer a qs scratch answers scratch′ answers′ = (answer ≡ refusedClosing k) × (scratch′ ≡ scratch) × (answers′ ≡ answers)
+ClosedAs none answer a qs scratch answers scratch′ answers′ = ClosedAnswers answer a qs scratch answers scratch′ answers′
 
-unfoldable pub ClosedOf : (answer : Option ℕ) → (a qs scratch answers scratch′ answers′ : List ℕ) → Type 0
+unfoldable pub ClosedOf : (answer : Closing) → (a qs scratch answers scratch′ answers′ : List ℕ) → Type 0
 ClosedOf answer a qs scratch answers scratch′ answers′ =
     ClosedAs (firstOf (closedCauses a qs scratch answers)) answer a qs scratch answers scratch′ answers′

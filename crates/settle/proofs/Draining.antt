@@ -1,17 +1,14 @@
 -- An end settled over an index: whoever is reached and does not wait rests, until nobody waits. Assumes nothing.
 use mathlib.Core.Path.{_≡_, refl, sym, _∙_, ap, subst}
 use mathlib.Core.Logic.{_≢_}
-use mathlib.Core.Bool.{Bool, true, false, not, _&&_, _||_, or-true, and-true, true≢false}
+use mathlib.Core.Bool.{Bool, true, false, _&&_, _||_, or-true, true≢false}
 use mathlib.Core.List.{List, [], _∷_}
 use Prim.Native.Nat.{ℕ, zero, suc, _+_, _*_, _-_, _≤_, _<_}
 use native.Mathlib.Decide.{ℕ-discrete}
 use native.Mathlib.Omega.{arith}
 use lib.Dec.{eqb}
 use lib.ListN.{length, getD, drop}
-use borrow.Author.Tests.{eq-eqb, ne-eqb}
-use Rattle.fixpoint.specs.Sum.{sum, bit}
 use Rattle.fixpoint.proofs.Cond.{by-bool}
-use Rattle.fixpoint.proofs.Sum.{sum-le, sum-const, sum-drop}
 use Rattle.semantics.specs.Area.{sound, lineAt, pageOf, topOf, conditionsOf, countOf}
 use Rattle.semantics.specs.Grade.{End}
 use Rattle.semantics.specs.Page.{Line, fact, rule, query}
@@ -28,6 +25,7 @@ use Rattle.value.specs.Table.{endOf, other}
 use Rattle.value.proofs.BodyEnds.{body-most}
 use Rattle.settle.specs.Scratch.{held, roomAt, Half, Lookable, Looked, RestsAt, Settled}
 use Rattle.settle.specs.Waiting.{WaitSet, Woken, Waiting}
+use Rattle.settle.proofs.Members.{waiters, few-wait, else-same, rest-in, fewer}
 use Rattle.settle.proofs.Raising.{E}
 use Rattle.settle.proofs.Settling.{Settling, settling-first, settling-next, settling-last}
 use Rattle.index.proofs.Grouped.{group-within}
@@ -103,19 +101,9 @@ module _ (a first places : List ℕ) (ok : sound a ≡ true) (g : LinesByHead a 
         ])
         p (rw z d))
 
--- how many wait, and what is left to do
-abbrev waiters : List ℕ → ℕ
-waiters words = sum 512 (λ c. bit (has words c))
-
+-- what is left to do
 abbrev pub left : End → (a s words : List ℕ) → ℕ
 left e a s words = roomAt e a s * 513 + waiters words
-
-few-wait : (words : List ℕ) → waiters words ≤ 512
-few-wait words = omega (arith, sum-le 512 (λ c. bit (has words c)) (λ c. 1) (λ c l. small (has words c)), sum-const 512 1)
-  where
-    small : (b : Bool) → bit b ≤ 1
-    small true = omega arith
-    small false = omega arith
 
 module _ (e : End) (a : List ℕ) (m : List Bool) (first places s₀ : List ℕ) where
   pub record Draining (s words : List ℕ) (changed : Bool) : Type 0 where
@@ -137,30 +125,10 @@ module _ (e : End) (a : List ℕ) (m : List Bool) (first places s₀ : List ℕ)
 
     -- whoever is out now was out before, or is c
     out-before : (d : ℕ) → d < 512 → d ≢ c → has words₁ d ≡ false → has words d ≡ false
-    out-before d l z q = sym (and-true (has words d)) ∙ rw (← ne-not d z) (sym (x .1 d l)) ∙ q
-      where
-        ne-not : (d : ℕ) → d ≢ c → not (eqb d c) ≡ true
-        ne-not d z = rw (ne-eqb d c z)
-
-    taken-out : (d : ℕ) → d < 512 → has words₁ d ≡ true → has words d ≡ true
-    taken-out d l q = by-bool (has words d) (λ y. y) (λ y. absurd (true≢false (sym q ∙ x .1 d l ∙ rw y)))
+    out-before d l z q = sym (else-same words words₁ c x d l z) ∙ q
 
     pub set₁ : WaitSet (conditionsOf a) words₁
-    set₁ = record { size = x .0; inside = λ d l q. v .waiting .set .inside d l (taken-out d l q) }
-
-    gone : has words₁ c ≡ false
-    gone = x .1 c small ∙ rw (waits, eq-eqb c c refl)
-
-    fewer : waiters words₁ < waiters words
-    fewer =
-        omega (
-          arith,
-          sum-drop 512 (λ d. bit (has words₁ d)) (λ d. bit (has words d)) 1 c small (λ d l z. bits d l (taken-out d l))
-              (rw (gone, waits) (omega arith)),
-        )
-      where
-        bits : (d : ℕ) → d < 512 → (has words₁ d ≡ true → has words d ≡ true) → bit (has words₁ d) ≤ bit (has words d)
-        bits d l h = by-bool (has words₁ d) (λ q. rw (q, h q) (omega arith)) (λ q. rw q (omega arith))
+    set₁ = rest-in words words₁ c x (v .waiting .set)
 
     module _ {s′ : List ℕ} {t : Bool} (r : Looked e a m (λ i. getD places i 0) (getD first c 0) (getD first (c + 1) 0) s s′ t) where
       abbrev n : ℕ
@@ -190,7 +158,7 @@ module _ (e : End) (a : List ℕ) (m : List Bool) (first places s₀ : List ℕ)
                 ];
               };
             },
-            omega (arith, fewer),
+            omega (arith, fewer words words₁ c x small waits),
           )
 
       -- c rose, and whoever names it plainly waits

@@ -10,5 +10,6 @@ pub mod Raising
 pub mod Looking
 pub mod Settling
 -- those that wait, and an end settled over an index
+pub mod Members
 pub mod Waking
 pub mod Draining

@@ -5,8 +5,9 @@ use crate::area::{encode, PAGE_MAX};
 use crate::body::Pair;
 use crate::closed;
 use crate::enumerate;
+use crate::fast::Index;
 use crate::gen::{self, Size};
-use crate::page::{Page, QUERIES_MAX};
+use crate::page::{self, Page, QUERIES_MAX};
 use crate::plain;
 use crate::runner::Case;
 use crate::trial::{figure, Check, Trial};
@@ -60,6 +61,18 @@ pub fn cases() -> Vec<Case> {
                 ("closed_indexed", SCRATCH_SHORT),
                 ("closed_indexed without room", 0),
             ],
+        },
+        Case {
+            name: "rounds_of_worked_pages",
+            items: 1,
+            each: worked_rounds,
+            must_see: &[("closed", 0), ("closed_indexed", 0)],
+        },
+        Case {
+            name: "rounds_of_rings_and_counters",
+            items: 4,
+            each: many_rounds,
+            must_see: &[("closed_indexed", 0)],
         },
         Case {
             name: "closed_answers_lie_inside_the_plain_ones",
@@ -206,6 +219,74 @@ fn parts_of_the_scratch(trial: &mut Trial, item: u64) -> Check {
     let code = trial.closed(&area, &queries, &mut scratch, &mut answers)?;
     figure("one number short", code, Err(SCRATCH_SHORT))?;
     figure("the refused scratch", scratch, before)
+}
+
+/// The count of rounds of some pages, by the lines of the page and the query. Most have loops without negation, where the support
+/// decides.
+const WORKED: &[(&str, u16, u32)] = &[
+    ("G,10,2\nF,0,2,2\nF,1,3,3\nR,0,10,M,!1\nR,1,10,M,!0\n", 0, 2),
+    ("G,10,3\nF,0,3,3\nF,2,6,6\nR,0,10,M,1,2\nR,1,10,M,1\n", 0, 1),
+    ("G,1,1\n", 0, 1),
+    ("G,1,1\nR,0,1,M,!0\n", 0, 0),
+    ("G,1,1\nR,0,1,M,0\n", 0, 1),
+    ("G,10,1\nF,0,0,10\n", 0, 0),
+    // A chain: only what is reached counts.
+    ("G,10,3\nR,0,10,M,1\nR,1,10,M,2\nF,2,5,5\n", 0, 3),
+    ("G,10,3\nR,0,10,M,1\nR,1,10,M,2\nF,2,5,5\n", 1, 2),
+    ("G,10,3\nR,0,10,M,1\nR,1,10,M,2\nF,2,5,5\n", 2, 1),
+    // A loop of two that nothing supports, its negation, and the negation of that.
+    (
+        "G,1,4\nR,0,1,M,1\nR,1,1,M,0\nR,2,1,M,!0\nR,3,1,M,!2\n",
+        0,
+        1,
+    ),
+    (
+        "G,1,4\nR,0,1,M,1\nR,1,1,M,0\nR,2,1,M,!0\nR,3,1,M,!2\n",
+        2,
+        1,
+    ),
+    (
+        "G,1,4\nR,0,1,M,1\nR,1,1,M,0\nR,2,1,M,!0\nR,3,1,M,!2\n",
+        3,
+        2,
+    ),
+    // A loop that a fact supports in part: the low end climbs one grade a round.
+    ("G,10,2\nF,1,1,1\nF,0,0,4\nR,0,10,B,0,1\n", 0, 11),
+    // The loop of 0 and 1 loses its support when 2 is known to be true.
+    (
+        "G,1,3\nR,0,1,M,1,!2\nR,1,1,M,0\nF,2,1,1\nR,0,1,M,!2\n",
+        0,
+        2,
+    ),
+];
+
+fn worked_rounds(trial: &mut Trial, _: u64) -> Check {
+    for (text, query, wanted) in WORKED {
+        trial.pages += 1;
+        let page = page::read(text.as_bytes()).map_err(|_| format!("{text} is refused"))?;
+        let mut scratch = trial.rubbish(closed::scratch_length(page.count));
+        let mut answers = trial.rubbish(2);
+        let area = encode(&page);
+        let got = trial.rounds(&area, &[*query], &mut scratch, &mut answers)?;
+        figure(text, got, Ok(*wanted))?;
+    }
+    Ok(())
+}
+
+/// Pages of many rounds, as the fast reference counts them: the count needs more than 16 bits.
+fn many_rounds(trial: &mut Trial, item: u64) -> Check {
+    trial.pages += 1;
+    let (page, wanted) = match item {
+        0 => (gen::adding_ring(512, 200), 102_201),
+        1 => (gen::weak_ring(255, 200), 51_001),
+        2 => (gen::adding_ring(256, 200), 51_001),
+        _ => (gen::adding_ring(4, 2), 7),
+    };
+    let index = Index::new(&page);
+    figure("the count of rounds", index.rounds(&[0]), wanted)?;
+    let pair = index.closed()[0];
+    let answers = [pair.low, pair.high];
+    trial.closed_answers(&encode(&page), &[0], (&answers, wanted), false)
 }
 
 fn inside_plain(trial: &mut Trial, item: u64) -> Check {

@@ -317,6 +317,7 @@ type Closed = unsafe extern "C" fn(
     usize,
     *mut u16,
     usize,
+    *mut u32,
 ) -> i32;
 type ClosedIndexed = unsafe extern "C" fn(
     *const u16,
@@ -329,6 +330,7 @@ type ClosedIndexed = unsafe extern "C" fn(
     usize,
     *mut u16,
     usize,
+    *mut u32,
 ) -> i32;
 
 /// Rules of which a closed reading is asked at once.
@@ -367,6 +369,7 @@ fn closed_values(trial: &mut Trial, top: u16, rules: &[PointRule]) -> Check<Vec<
     let mut scratch = [0; 4 * 3 * ASKED];
     let mut workspace = [0; 400];
     let mut answers = [[0; 2 * ASKED]; 2];
+    let mut rounds = [0; 2];
     let [one, other] = &mut answers;
     // SAFETY: the slices are valid and apart.
     let codes = unsafe {
@@ -380,6 +383,7 @@ fn closed_values(trial: &mut Trial, top: u16, rules: &[PointRule]) -> Check<Vec<
                 scratch.len(),
                 one.as_mut_ptr(),
                 one.len(),
+                &mut rounds[0],
             ),
             closed_indexed(
                 area.as_ptr(),
@@ -392,11 +396,13 @@ fn closed_values(trial: &mut Trial, top: u16, rules: &[PointRule]) -> Check<Vec<
                 other.len(),
                 workspace.as_mut_ptr(),
                 workspace.len(),
+                &mut rounds[1],
             ),
         )
     };
     trial.engine.calls += 2;
     figure("the codes", codes, (0, 0))?;
+    figure("the rounds", rounds[0], rounds[1])?;
     if one != other {
         return Err(format!(
             "{one:?} without an index, {other:?} with one; {area:?}"

@@ -62,6 +62,8 @@ fn fast_reference(trial: &mut Trial, item: u64) -> Check {
     let index = Index::new(&page);
     figure("the closed reading", index.closed(), closed::reading(&page))?;
     let queries = gen::queries(&mut trial.rng, page.count);
+    let rounds = closed::rounds(&page, &queries);
+    figure("the count of rounds", index.rounds(&queries), rounds)?;
     let (mut run, mut book) = (Run::open(&index, &queries), Book::new(&page, &queries));
     let opened = crate::reach::measure(&page, &queries);
     let wanted = (opened.reached, opened.edges, opened.bound);
@@ -124,7 +126,8 @@ fn compare(trial: &mut Trial, page: &Page, scanning: Scanning) -> Check {
         .map(|query| reading[usize::from(*query)])
         .flat_map(|pair: Pair| [pair.low, pair.high])
         .collect();
-    trial.closed_answers(&area, &queries, &answers, scanning.closed)
+    let rounds = index.rounds(&queries);
+    trial.closed_answers(&area, &queries, (&answers, rounds), scanning.closed)
 }
 
 const BOTH_FORMS: Scanning = Scanning {

@@ -241,7 +241,8 @@ impl Bench<'_> {
 
     fn closed(&mut self, lent: &Lent) -> Check<i32> {
         self.call(&CLOSED, Call::Closed.function(), lent, |lent| {
-            [lent.page(), lent.queries(), lent.area(), lent.answers()].concat()
+            let slices = [lent.page(), lent.queries(), lent.area()].concat();
+            [slices, lent.answers(), lent.out(0)].concat()
         })
     }
 
@@ -249,7 +250,7 @@ impl Bench<'_> {
         let pointer = Call::ClosedIndexed.function();
         self.call(&CLOSED_INDEXED, pointer, lent, |lent| {
             let slices = [lent.page(), lent.queries(), lent.area()].concat();
-            [slices, lent.answers(), lent.workspace()].concat()
+            [slices, lent.answers(), lent.workspace(), lent.out(0)].concat()
         })
     }
 

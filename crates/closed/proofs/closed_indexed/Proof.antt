@@ -1,8 +1,10 @@
--- `closed_indexed` refuses, or solves, answers and erases (`accepted`).
+-- `closed_indexed` refuses, or solves, counts and clears (`accepted`).
 use mathlib.Core.Option.{none}
+use native.Mathlib.Omega.{arith}
 use borrow.Author.Needs.{needs}
+use Rattle.page.proofs.Head.{head-of}
 use Rattle.closed.specs.Answer.{FirstCause}
-use Rattle.closed.proofs.Answering.{refused-by, solve-ready, still-none, accepted, workspace-used, workspace-kept}
+use Rattle.closed.proofs.Answering.{refused-by, solve-ready, accepted, workspace-used, workspace-kept}
 use Rattle.closed.proofs.closed_indexed.Statement.{statement}
 use Rattle.closed.proofs.closed_indexed.Tie as tie
 
@@ -32,10 +34,13 @@ enum-told : tie.Need-enum-told
 enum-told c = search needs
 
 solve-over-requires : tie.Need-solve-over-requires
-solve-over-requires c κs = solve-ready _ _ _ _ (none-holds (c .before .before))
+solve-over-requires c κs = solve-ready _ _ _ _ (none-holds (c .before .before .before))
 
-answer-requires : tie.Need-answer-requires
-answer-requires c κs = still-none _ _ _ _ (none-holds (c .before .before .before .before .before .before .before .before .before)) (c .before .before .before .before .before .before .solve-over .ensures .0)
+shared-slice-read-clear : tie.Need-shared-slice-read-clear
+shared-slice-read-clear c = omega (arith, head-of _ (solve-ready _ _ _ _ (none-holds (c .before .before .before .before .before .before .before .before .before .before .before .before)) .page-sound))
+
+clear-requires : tie.Need-clear-requires
+clear-requires c κs = (omega (arith, solve-ready _ _ _ _ (none-holds (c .before .before .before .before .before .before .before .before .before .before .before .before)) .long, c .before .before .before .before .before .before .before .before .solve-over .ensures .0 .same-length), head-of _ (solve-ready _ _ _ _ (none-holds (c .before .before .before .before .before .before .before .before .before .before .before .before)) .page-sound) .few)
 
 same-length-3 : tie.Need-same-length-3
 same-length-3 c = search needs
@@ -47,7 +52,7 @@ same-length-5 : tie.Need-same-length-5
 same-length-5 c = search needs
 
 returns-2 : tie.Need-returns-2
-returns-2 c = (accepted _ _ _ _ (none-holds (c .before .before .before .before .before .before .before .before .before .before .before .before .before .before)) (c .before .before .before .before .before .before .before .before .before .before .before .solve-over .ensures .0) (c .before .before .before .before .answer .ensures), workspace-used _ _ _ _ (none-holds (c .before .before .before .before .before .before .before .before .before .before .before .before .before .before)) _ (c .before .before .before .before .before .before .before .before .before .before .before .solve-over .ensures .1))
+returns-2 c = (accepted _ _ _ _ (none-holds (c .before .before .before .before .before .before .before .before .before .before .before .before .before .before .before)) (c .before .before .before .before .before .before .before .before .before .before .before .solve-over .ensures .0) (c .before .before .clear .ensures), workspace-used _ _ _ _ (none-holds (c .before .before .before .before .before .before .before .before .before .before .before .before .before .before .before)) _ (c .before .before .before .before .before .before .before .before .before .before .before .solve-over .ensures .1))
 
 pub closed-indexed-spec : {M : Type 1} → statement M
 closed-indexed-spec =
@@ -60,7 +65,8 @@ closed-indexed-spec =
     returns
     enum-told
     solve-over-requires
-    answer-requires
+    shared-slice-read-clear
+    clear-requires
     same-length-3
     same-length-4
     same-length-5

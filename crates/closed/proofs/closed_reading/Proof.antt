@@ -1,10 +1,12 @@
--- `closed_reading` refuses, or solves, answers and erases (`accepted`).
+-- `closed_reading` refuses, or solves, counts and clears (`accepted`).
 use mathlib.Core.Path.{refl}
 use mathlib.Core.Logic.{inl}
 use mathlib.Core.Option.{none}
+use native.Mathlib.Omega.{arith}
 use borrow.Author.Needs.{needs}
+use Rattle.page.proofs.Head.{head-of}
 use Rattle.closed.specs.Answer.{FirstCause}
-use Rattle.closed.proofs.Answering.{refused-by, solve-ready, still-none, accepted}
+use Rattle.closed.proofs.Answering.{refused-by, solve-ready, accepted}
 use Rattle.closed.proofs.closed_reading.Statement.{statement}
 use Rattle.closed.proofs.closed_reading.Tie as tie
 
@@ -43,10 +45,13 @@ part-none-end : tie.Need-part-none-end
 part-none-end c = search needs
 
 solve-requires : tie.Need-solve-requires
-solve-requires c κs = (solve-ready _ _ _ _ (none-holds (c .before .before)), inl refl)
+solve-requires c κs = (solve-ready _ _ _ _ (none-holds (c .before .before .before)), inl refl)
 
-answer-requires : tie.Need-answer-requires
-answer-requires c κs = still-none _ _ _ _ (none-holds (c .before .before .before .before .before .before .before)) (c .before .before .before .before .solve .ensures)
+shared-slice-read-clear : tie.Need-shared-slice-read-clear
+shared-slice-read-clear c = omega (arith, head-of _ (solve-ready _ _ _ _ (none-holds (c .before .before .before .before .before .before .before .before .before .before)) .page-sound))
+
+clear-requires : tie.Need-clear-requires
+clear-requires c κs = (omega (arith, solve-ready _ _ _ _ (none-holds (c .before .before .before .before .before .before .before .before .before .before)) .long, c .before .before .before .before .before .before .solve .ensures .same-length), head-of _ (solve-ready _ _ _ _ (none-holds (c .before .before .before .before .before .before .before .before .before .before)) .page-sound) .few)
 
 same-length-3 : tie.Need-same-length-3
 same-length-3 c = search needs
@@ -55,7 +60,7 @@ same-length-4 : tie.Need-same-length-4
 same-length-4 c = search needs
 
 returns-2 : tie.Need-returns-2
-returns-2 c = accepted _ _ _ _ (none-holds (c .before .before .before .before .before .before .before .before .before .before .before .before)) (c .before .before .before .before .before .before .before .before .before .solve .ensures) (c .before .before .before .before .answer .ensures)
+returns-2 c = accepted _ _ _ _ (none-holds (c .before .before .before .before .before .before .before .before .before .before .before .before .before)) (c .before .before .before .before .before .before .before .before .before .solve .ensures) (c .before .before .clear .ensures)
 
 pub closed-reading-spec : {M : Type 1} → statement M
 closed-reading-spec =
@@ -71,7 +76,8 @@ closed-reading-spec =
     part-none-start
     part-none-end
     solve-requires
-    answer-requires
+    shared-slice-read-clear
+    clear-requires
     same-length-3
     same-length-4
     returns-2)

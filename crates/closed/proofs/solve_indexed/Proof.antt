@@ -32,13 +32,16 @@ part-users-end : tie.Need-part-users-end
 part-users-end c = search needs
 
 solve-requires : tie.Need-solve-requires
-solve-requires c κs = let s = c .before .before .before .before .before .before .before .before .before .before .before .before .before in (s .pre .0, built-index _ _ (c .before .before .before .before .before .before .before .build .ensures) _ (c .before .before .before .before .lines-length .ensures .0))
+solve-requires c κs = let s = c .before .before .before .before .before .before .before .before .before .before .before .before .before .before .before in (s .pre .0, built-index _ _ (c .before .before .before .before .before .before .before .before .build .ensures) _ (c .before .before .before .before .before .lines-length .ensures .0))
 
 same-length : tie.Need-same-length
 same-length c = search needs
 
 same-length-2 : tie.Need-same-length-2
 same-length-2 c = search needs
+
+same-length-3 : tie.Need-same-length-3
+same-length-3 c = search needs
 
 returns : tie.Need-returns
 returns c = search needs
@@ -59,4 +62,5 @@ solve-indexed-spec =
     solve-requires
     same-length
     same-length-2
+    same-length-3
     returns)

@@ -21,13 +21,16 @@ part-none-end : tie.Need-part-none-end
 part-none-end c = search needs
 
 solve-requires : tie.Need-solve-requires
-solve-requires c κs = let s = c .before .before .before .before .before .before .before .before in (s .pre, inl refl)
+solve-requires c κs = let s = c .before .before .before .before .before .before .before .before .before .before in (s .pre, inl refl)
 
 same-length : tie.Need-same-length
 same-length c = search needs
 
+same-length-2 : tie.Need-same-length-2
+same-length-2 c = search needs
+
 returns : tie.Need-returns
-returns c = let s = c .before .before .before .before .before .before .before .before .before .before .before in (c .before .before .solve .ensures, workspace-short (s .args .a .now) (s .args .workspace .now) (omega (arith, c .before .before .before .before .before .before .index-length .ensures .0)))
+returns c = let s = c .before .before .before .before .before .before .before .before .before .before .before .before .before .before .before in (c .before .before .before .before .solve .ensures, workspace-short (s .args .a .now) (s .args .workspace .now) (omega (arith, c .before .before .before .before .before .before .before .before .before .index-length .ensures .0)))
 
 slice-relend-prefix-solve-indexed : tie.Need-slice-relend-prefix-solve-indexed
 slice-relend-prefix-solve-indexed c = search needs
@@ -36,19 +39,22 @@ slice-aggregate-solve-indexed : tie.Need-slice-aggregate-solve-indexed
 slice-aggregate-solve-indexed c = sym (length-take-le _ _ (omega arith))
 
 solve-indexed-requires : tie.Need-solve-indexed-requires
-solve-indexed-requires c κs = let s = c .before .before .before .before .before .before .before .before in (s .pre, length-take-le _ _ (omega arith) ∙ c .before .before .before .index-length .ensures .0)
+solve-indexed-requires c κs = let s = c .before .before .before .before .before .before .before .before .before .before in (s .pre, length-take-le _ _ (omega arith) ∙ c .before .before .before .before .index-length .ensures .0)
 
 erase-requires : tie.Need-erase-requires
 erase-requires c κs = search needs
 
-same-length-2 : tie.Need-same-length-2
-same-length-2 c = search needs
-
 same-length-3 : tie.Need-same-length-3
 same-length-3 c = search needs
 
+same-length-4 : tie.Need-same-length-4
+same-length-4 c = search needs
+
+same-length-5 : tie.Need-same-length-5
+same-length-5 c = search needs
+
 returns-2 : tie.Need-returns-2
-returns-2 c = let s = c .before .before .before .before .before .before .before .before .before .before .before .before .before .before .before .before .before in (c .before .before .before .before .before .before .before .before .solve-indexed .ensures, c .before .before .erase .ensures ∙ workspace-long (s .args .a .now) (s .args .workspace .now) (c .before .before .before .before .before .before .before .before .solve-indexed .last .1 .1 .1 .0) _ (c .before .before .before .before .before .before .before .before .before .before .before .before .index-length .ensures .0) (omega arith) (c .before .before .before .before .before .before .before .before .solve-indexed .kept .1 .1 .1 .0))
+returns-2 c = let s = c .before .before .before .before .before .before .before .before .before .before .before .before .before .before .before .before .before .before .before .before .before in (c .before .before .before .before .before .before .before .before .before .before .solve-indexed .ensures, c .before .before .erase .ensures ∙ workspace-long (s .args .a .now) (s .args .workspace .now) (c .before .before .before .before .before .before .before .before .before .before .solve-indexed .last .1 .1 .1 .1 .0) _ (c .before .before .before .before .before .before .before .before .before .before .before .before .before .before .before .index-length .ensures .0) (omega arith) (c .before .before .before .before .before .before .before .before .before .before .solve-indexed .kept .1 .1 .1 .1 .0))
 
 pub solve-over-spec : {M : Type 1} → statement M
 solve-over-spec =
@@ -60,11 +66,13 @@ solve-over-spec =
     part-none-end
     solve-requires
     same-length
+    same-length-2
     returns
     slice-relend-prefix-solve-indexed
     slice-aggregate-solve-indexed
     solve-indexed-requires
     erase-requires
-    same-length-2
     same-length-3
+    same-length-4
+    same-length-5
     returns-2)
