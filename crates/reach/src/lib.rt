@@ -180,7 +180,7 @@ fn sweep(a: &[u16], set: &mut [u64]) -> u32
 }
 
 // The closure of the queries, by passes over all lines until one adds nothing: fewer scans, where E is not asked for.
-fn spread(a: &[u16], queries: &[u16]) -> [u64; 8]
+pub fn spread(a: &[u16], queries: &[u16]) -> [u64; 8]
     requires { ⌜ (sound (now a) ≡ true) × (allUnder (conditionsOf (now a)) (now queries) ≡ true) ⌝ }
     ensures { λ r. ⌜ ClosureSet (pageOf (now (a .entry))) (now (queries .entry)) r ⌝ }
 {
