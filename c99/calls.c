@@ -12,7 +12,7 @@
 #include <string.h>
 #include "simjorad.h"
 
-enum { READ, SHOW_LINE, OPEN, EVALUATE, DRIVE, DRIVE_INDEXED, VALUE, LINE, CLOSED, CLOSED_INDEXED, LAYERS, FUNCTIONS };
+enum { READ, SHOW_LINE, OPEN, EVALUATE, DRIVE, DRIVE_INDEXED, VALUE, LINE, CLOSED, CLOSED_INDEXED, LAYERS, CHECK_PICKS, FUNCTIONS };
 enum { SLICES = 5, OUTS = 4 };
 
 /* What a call is lent and answers. A slice that is not lent has no place here: its size is 0. */
@@ -43,6 +43,7 @@ int32_t engine_closed(const uint16_t *, size_t, const uint16_t *, size_t, uint16
 int32_t engine_closed_indexed(const uint16_t *, size_t, const uint16_t *, size_t, uint16_t *, size_t, uint16_t *, size_t, uint16_t *,
                               size_t, uint32_t *);
 int32_t engine_layers(const uint16_t *, size_t, uint16_t *, size_t, uint32_t *);
+int32_t engine_check_picks(const uint16_t *, size_t, const uint16_t *, size_t, const uint16_t *, size_t, const uint16_t *, size_t, uint32_t *);
 #else
 #define NAME(f) simjorad_##f
 #endif
@@ -91,8 +92,12 @@ static void make(struct call *c)
         c->answer = (uint32_t)NAME(closed_indexed)(s[0].at, s[0].length, s[1].at, s[1].length, s[2].at, s[2].length, s[3].at,
                                                    s[3].length, s[4].at, s[4].length, &c->outs[0]);
         break;
-    default:
+    case LAYERS:
         c->answer = (uint32_t)NAME(layers)(s[0].at, s[0].length, s[1].at, s[1].length, &c->outs[0]);
+        break;
+    default:
+        c->answer = (uint32_t)NAME(check_picks)(s[0].at, s[0].length, s[1].at, s[1].length, s[2].at, s[2].length, s[3].at,
+                                                s[3].length, &c->outs[0]);
     }
 }
 
@@ -293,10 +298,21 @@ int32_t simjorad_layers(const uint16_t *page, size_t page_length, uint16_t *laye
     return (int32_t)c.answer;
 }
 
+int32_t simjorad_check_picks(const uint16_t *page, size_t page_length, const uint16_t *queries, size_t queries_length,
+                             const uint16_t *picks, size_t picks_length, const uint16_t *figures, size_t figures_length,
+                             uint32_t *place)
+{
+    struct call c = {.function = CHECK_PICKS, NUMBERS(0, page), NUMBERS(1, queries), NUMBERS(2, picks), NUMBERS(3, figures),
+                     .outs = {*place}};
+    hand_on(&c);
+    *place = c.outs[0];
+    return (int32_t)c.answer;
+}
+
 #else
 
 static const char *const names[FUNCTIONS] = {"read", "show_line", "open", "evaluate", "drive", "drive_indexed", "value", "line",
-                                             "closed", "closed_indexed", "layers"};
+                                             "closed", "closed_indexed", "layers", "check_picks"};
 static FILE *file;
 
 static unsigned byte(void)

@@ -11,8 +11,8 @@
  * out-parameter of that call; this duty of the caller and these declarations are all that no proof covers.
  *
  * Results. A call returns a result of 0 or more, or minus the number of its refusal. A refused call changes nothing that was lent to
- * it and no out-parameter, but for those that tell of a refusal: *line and *place of simjorad_read and *condition of simjorad_layers are set by
- * every call, to 0 where there is nothing to tell. Out-parameters must not be NULL.
+ * it and no out-parameter, but for those that tell of a refusal: *line and *place of simjorad_read, *condition of simjorad_layers and *place of
+ * simjorad_check_picks are set by every call, to 0 where there is nothing to tell. Out-parameters must not be NULL.
  *
  * Calls. No call keeps anything between calls, allocates or blocks. Calls on different areas may run at the same time. On one run
  * area make one call at a time: there is no lock. A page area may be read by several calls at once.
@@ -41,6 +41,8 @@
  *   closed_indexed   an index, then only the lines of what waits
  *   layers           scans of the page until nothing changes, usually a few and at most C; if the page is refused 30, a search with at most
  *                    2 * C scans more
+ *   check_picks      scans of the page until the reached conditions are found, then for each pick a scan for the lines of the condition, and one
+ *                    for its dependants if it changed: a third to a half of what evaluate takes for each, since the page is checked once
  *
  * simjorad_drive_indexed and simjorad_closed_indexed give the same answers and the same areas as simjorad_drive and
  * simjorad_closed. They are lent one more slice, a workspace, for an index of the page's lines: with room for it they take
@@ -116,6 +118,7 @@ extern "C" {
 #define SIMJORAD_STACK_CLOSED 1472
 #define SIMJORAD_STACK_CLOSED_INDEXED 1536
 #define SIMJORAD_STACK_LAYERS 1280
+#define SIMJORAD_STACK_CHECK_PICKS 1664
 
 /* Refusals, each with its cause. */
 #define SIMJORAD_TEXT_TOO_LONG 1      /* more than 65,535 bytes */
@@ -139,6 +142,9 @@ extern "C" {
 #define SIMJORAD_LOW_ABOVE_HIGH 23    /* low above high, both at most top */
 #define SIMJORAD_NEGATED_LOOP 30      /* a chain through a negation leads back */
 #define SIMJORAD_LAYERS_SHORT 31      /* the slice for the layers is shorter than C */
+#define SIMJORAD_PICK_NOT_WAITING 50  /* a pick is not waiting, or not a condition */
+#define SIMJORAD_PICKS_NOT_AT_REST 51 /* the run is not at rest after the last pick */
+#define SIMJORAD_FIGURES_WRONG 52     /* the figures have another length, or are not the plain answers */
 
 /*
  * Read a page: the text becomes a page area. Returns the used length (4 or more), or minus 1, 2, 5, 3, 4, 21, 22, 23 or 6.
@@ -233,6 +239,18 @@ int32_t simjorad_closed_indexed(const uint16_t *page, size_t page_length, const 
  * each condition that its rules name, more than that of each one that they negate, all as small as possible. A layer is below C.
  */
 int32_t simjorad_layers(const uint16_t *page, size_t page_length, uint16_t *layers, size_t layers_length, uint32_t *condition);
+
+/*
+ * Check a simulator: whether its picks are a run of the page, and its figures the plain answers. The queries are opened as by simjorad_open, and
+ * each pick is evaluated in turn as by simjorad_evaluate, on a run that the call holds itself. Returns 0, or minus 10, 11, 12, 50, 51 or 52.
+ * It is 0 exactly if each pick waits when its turn comes, none waits after the last, and figures holds low, high of the plain answer per
+ * query, in list order, and no more. So the picks that any order of evaluations makes until rest are accepted with the intervals then held.
+ * *place is the place of the first pick that is refused 50, counted from 1, and 0 after every other outcome; it is at most the bound of the
+ * opening plus 1, since no run takes more evaluations. Picks and figures may have any length; a list without picks is refused 51. Writes nothing else.
+ */
+int32_t simjorad_check_picks(const uint16_t *page, size_t page_length, const uint16_t *queries, size_t queries_length,
+                             const uint16_t *picks, size_t picks_length, const uint16_t *figures, size_t figures_length,
+                             uint32_t *place);
 
 #ifdef __cplusplus
 }

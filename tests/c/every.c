@@ -174,6 +174,24 @@ static void layered(void)
     CHECK(simjorad_layers(page, 20, layers, 5, &condition) == 0 && condition == 0 && same(layers, wanted, 4) && layers[4] == 77);
 }
 
+static void picked(void)
+{
+    static const uint16_t queries[] = {1, 0}, picks[] = {1, 0, 1, 0, 0}, figures[] = {3, 8, 2, 7};
+    uint32_t place = 77;
+
+    CHECK(simjorad_check_picks(area, USED, queries, 2, picks, 4, figures, 4, &place) == 0 && place == 0);
+    place = 77;
+    CHECK(simjorad_check_picks(area, USED, queries, 2, picks, 5, figures, 4, &place) == -SIMJORAD_PICK_NOT_WAITING && place == 5);
+    CHECK(simjorad_check_picks(area, USED, queries, 2, picks, 3, figures, 4, &place) == -SIMJORAD_PICKS_NOT_AT_REST && place == 0);
+    place = 77;
+    CHECK(simjorad_check_picks(area, USED, queries, 2, picks, 4, figures, 3, &place) == -SIMJORAD_FIGURES_WRONG && place == 0);
+    place = 77;
+    CHECK(simjorad_check_picks(area, USED, queries + 1, 1, picks, 4, figures, 2, &place) == -SIMJORAD_FIGURES_WRONG && place == 0);
+    CHECK(simjorad_check_picks(area, USED, area + 1, 1, NULL, 0, NULL, 0, &place) == -SIMJORAD_QUERY_RANGE && place == 0);
+    place = 77;
+    CHECK(simjorad_check_picks(area, USED - 1, NULL, 0, NULL, 0, NULL, 0, &place) == -SIMJORAD_PAGE_UNSOUND && place == 0);
+}
+
 int main(void)
 {
     reads();
@@ -183,6 +201,7 @@ int main(void)
     held_lines();
     closed();
     layered();
+    picked();
     printf("%d passed, %d failed\n", passed, failed);
     return failed != 0;
 }

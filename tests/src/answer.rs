@@ -24,6 +24,9 @@ pub const GRADE_RANGE: Refusal = 22;
 pub const LOW_ABOVE_HIGH: Refusal = 23;
 pub const NEGATED_LOOP: Refusal = 30;
 pub const LAYERS_SHORT: Refusal = 31;
+pub const PICK_NOT_WAITING: Refusal = 50;
+pub const PICKS_NOT_AT_REST: Refusal = 51;
+pub const FIGURES_WRONG: Refusal = 52;
 
 /// Why a page's text is refused; the line, and the place of the field in it, count from 1 and are 0 where none is at fault.
 #[derive(Clone, Copy, Debug, PartialEq, Eq)]
@@ -48,6 +51,13 @@ impl ReadRefusal {
 pub struct LayersRefusal {
     pub number: Refusal,
     pub condition: u32,
+}
+
+/// Why picks and figures are refused; the place of a pick counts from 1 and is 0 where none is told.
+#[derive(Clone, Copy, Debug, PartialEq, Eq)]
+pub struct PicksRefusal {
+    pub number: Refusal,
+    pub place: u32,
 }
 
 /// What an opening returns: R, E, R + top * E and the count of passes.

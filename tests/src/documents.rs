@@ -301,6 +301,7 @@ impl Document {
             "fields," => fields(rest, table),
             "runs," => runs(rest, table),
             "layers," => layers_of_pages(rest, table),
+            "picks," => picks_of_pages(rest, table),
             "limits" => limits(table),
             "refusals" => refusals(table),
             "operations" => operations(table),
@@ -523,6 +524,39 @@ fn layers_of_pages(how: &str, table: &Table) -> Check {
         };
         figure(&text, table.cell(row, "answer")?, &answer)?;
         figure(&text, table.cell(row, "layers")?, &numbers.join(", "))?;
+    }
+    Ok(())
+}
+
+/// Numbers with commas between them; a cell without text has none.
+fn numbers(cell: &str) -> Check<Vec<u16>> {
+    let parts = cell.split(", ").filter(|part| !part.is_empty());
+    parts
+        .map(|part| part.parse().map_err(|_| format!("{part:?} is no number")))
+        .collect()
+}
+
+/// `picks, top N`: columns page, queries, picks, figures and answer. The answer is 0, 50 with the place, 51 or 52.
+fn picks_of_pages(how: &str, table: &Table) -> Check {
+    let top = how.strip_prefix("top ").ok_or("no top")?;
+    let mut trial = Trial::new();
+    for row in &table.rows {
+        let lines = page_lines(&quoted(table.cell(row, "page")?), top, "0")?;
+        let text = lines.join("\n") + "\n";
+        let mut area = vec![0; 200];
+        let used = trial.read(text.as_bytes(), &mut area)?;
+        let used = used.map_err(|refusal| format!("{text:?} is refused {refusal:?}"))?;
+        let queries = numbers(table.cell(row, "queries")?)?;
+        let picks = numbers(table.cell(row, "picks")?)?;
+        let figures = numbers(table.cell(row, "figures")?)?;
+        let answer = match trial.check_picks(&area[..used], &queries, &picks, &figures)? {
+            Ok(()) => "0".to_string(),
+            Err(refusal) if refusal.place > 0 => {
+                format!("{} at {}", refusal.number, refusal.place)
+            }
+            Err(refusal) => refusal.number.to_string(),
+        };
+        figure(&text, table.cell(row, "answer")?, &answer)?;
     }
     Ok(())
 }

@@ -561,6 +561,53 @@ impl Engine {
             _ => Err(format!("returned {code}")),
         }
     }
+
+    pub fn check_picks(
+        &mut self,
+        page: &[u16],
+        queries: &[u16],
+        picks: &[u16],
+        figures: &[u16],
+    ) -> Result<Result<(), PicksRefusal>, String> {
+        let (page_loan, page_length) = self.lend_area(0, page);
+        let queries_loan = self.lend(1, queries);
+        let queries_start = self.queries_start(&page_loan, page, queries, &queries_loan);
+        let picks_loan = self.lend(2, picks);
+        let figures_loan = self.lend(3, figures);
+        let mut place = self.out(|number| number as u32);
+        let slices = [
+            Self::note(page, page_loan.ptr() as usize),
+            Self::note(queries, queries_start),
+            Self::note(picks, picks_loan.ptr() as usize),
+            Self::note(figures, figures_loan.ptr() as usize),
+        ];
+        let arguments = [
+            page_loan.ptr() as usize,
+            page_length,
+            queries_start,
+            queries.len(),
+            picks_loan.ptr() as usize,
+            picks.len(),
+            figures_loan.ptr() as usize,
+            figures.len(),
+            place.ptr() as usize,
+        ];
+        let code = self.call(Call::CheckPicks, 0, &slices, &arguments)? as i32;
+        page_loan.end_const("page", page)?;
+        queries_loan.end_const("queries", queries)?;
+        picks_loan.end_const("picks", picks)?;
+        figures_loan.end_const("figures", figures)?;
+        let place = place.set("place")?;
+        match code {
+            -12..=-10 | -52..=-50 => Ok(Err(PicksRefusal {
+                number: -code,
+                place,
+            })),
+            0 if place == 0 => Ok(Ok(())),
+            0 => Err(format!("accepted picks leave {place} in `*place`")),
+            _ => Err(format!("returned {code}")),
+        }
+    }
 }
 
 fn driven(code: i32, taken: &Out<u32>, line: &Out<u32>) -> Result<Result<Driven, Refusal>, String> {

@@ -13,9 +13,11 @@ use crate::answer::*;
 use crate::area::{self, held_pairs, NOT_REACHED_MARK, REACHED_MARK, WAITING_MARK};
 use crate::attach;
 use crate::body::{combine, divided, End, Pair};
+use crate::book::Book;
 use crate::fast::{Index, Run};
 use crate::layers;
 use crate::page::{self, Line, Op, Page};
+use crate::picks;
 use crate::plain::{self, check_queries};
 use crate::reach;
 use crate::workspace;
@@ -790,6 +792,67 @@ pub const FAULTS: &[(&str, &str, &str)] = &[
         "condition_not_set_to_zero",
         "quick only CASE",
         "layers_have_their_stated_figures",
+    ),
+    // The check of picks and figures.
+    (
+        "pick_of_a_reached_condition_accepted",
+        "quick only CASE",
+        "picks_have_their_stated_answers",
+    ),
+    (
+        "pick_judged_at_the_opening",
+        "quick only CASE",
+        "picks_have_their_stated_answers",
+    ),
+    (
+        "pick_cut_to_a_byte",
+        "quick only CASE",
+        "picks_have_their_stated_answers",
+    ),
+    (
+        "pick_place_from_zero",
+        "quick only CASE",
+        "picks_have_their_stated_answers",
+    ),
+    (
+        "last_bad_pick_told",
+        "quick only CASE",
+        "picks_have_their_stated_answers",
+    ),
+    (
+        "rest_not_asked_after_the_last_pick",
+        "quick only CASE",
+        "picks_have_their_stated_answers",
+    ),
+    (
+        "figures_in_another_order",
+        "quick only CASE",
+        "picks_have_their_stated_answers",
+    ),
+    (
+        "low_ends_of_figures_only",
+        "quick only CASE",
+        "picks_have_their_stated_answers",
+    ),
+    (
+        "more_figures_than_queries_accepted",
+        "quick only CASE",
+        "picks_have_their_stated_answers",
+    ),
+    (
+        "picks_before_queries",
+        "quick only CASE",
+        "picks_have_their_stated_answers",
+    ),
+    (
+        "place_of_picks_not_set_to_zero",
+        "quick only CASE",
+        "picks_have_their_stated_answers",
+    ),
+    (
+        "picks_in_another_order_than_a_drive_refused",
+        "quick only CASE",
+        "any_order_of_picks_to_rest_is_accepted",
     ),
 ];
 
@@ -2161,6 +2224,100 @@ pub unsafe extern "C" fn simjorad_layers(
             -refusal.number
         }
     }
+}
+
+/// Whether the pick is refused; a pick that is not is evaluated.
+fn bad_pick(book: &mut Book, opened: &Book, pick: u16) -> bool {
+    let pick = match fault("pick_cut_to_a_byte") {
+        true => pick % 256,
+        false => pick,
+    };
+    if fault("picks_in_another_order_than_a_drive_refused") {
+        return book.waiting().first() != Some(&pick) || book.evaluate(u32::from(pick)).is_err();
+    }
+    let bad = book.evaluate(u32::from(pick)).is_err();
+    let excused = fault("pick_of_a_reached_condition_accepted") && book.reached().contains(&pick);
+    let early = fault("pick_judged_at_the_opening") && opened.waiting().contains(&pick);
+    bad && !excused && !early
+}
+
+/// The number of the refusal, or 0; and the place.
+fn picks_call(
+    page_area: &[u16],
+    queries: &[u16],
+    picks: &[u16],
+    figures: &[u16],
+) -> (Refusal, u32) {
+    let Some(page) = sound_page(page_area) else {
+        return (PAGE_UNSOUND, 0);
+    };
+    if fault("picks_before_queries") && picks.iter().any(|pick| *pick >= page.count) {
+        return (PICK_NOT_WAITING, 1);
+    }
+    if let Err(number) = check_queries(&page, queries) {
+        return (number, 0);
+    }
+    let opened = Book::new(&page, queries);
+    let mut book = opened.clone();
+    let mut told = 0;
+    for (pick, place) in picks.iter().zip(1..) {
+        if bad_pick(&mut book, &opened, *pick) {
+            told = place;
+            if !fault("last_bad_pick_told") {
+                break;
+            }
+        }
+    }
+    if told > 0 {
+        return (
+            PICK_NOT_WAITING,
+            told - u32::from(fault("pick_place_from_zero")),
+        );
+    }
+    if !book.at_rest() && !fault("rest_not_asked_after_the_last_pick") {
+        return (PICKS_NOT_AT_REST, 0);
+    }
+    let mut wanted = picks::plain_figures(&page, queries);
+    let mut sent = figures.to_vec();
+    if fault("more_figures_than_queries_accepted") {
+        sent.truncate(wanted.len());
+    }
+    if fault("figures_in_another_order") {
+        wanted = wanted.chunks(2).rev().flatten().copied().collect();
+    }
+    if fault("low_ends_of_figures_only") && sent.len() == wanted.len() {
+        for at in (1..sent.len()).step_by(2) {
+            sent[at] = wanted[at];
+        }
+    }
+    match sent == wanted {
+        true => (0, 0),
+        false => (FIGURES_WRONG, 0),
+    }
+}
+
+#[allow(clippy::too_many_arguments)]
+pub unsafe extern "C" fn simjorad_check_picks(
+    page: *const u16,
+    page_length: usize,
+    queries: *const u16,
+    queries_length: usize,
+    picks: *const u16,
+    picks_length: usize,
+    figures: *const u16,
+    figures_length: usize,
+    place: *mut u32,
+) -> i32 {
+    let (number, told) = picks_call(
+        lent(page, page_length),
+        lent(queries, queries_length),
+        lent(picks, picks_length),
+        lent(figures, figures_length),
+    );
+    if told > 0 || !fault("place_of_picks_not_set_to_zero") {
+        *place = told;
+    }
+    -number
 }
 
 /// Plants one fault after another and runs the case that is named beside it, or all cases; true if every fault is noticed.

@@ -13,6 +13,7 @@ use crate::guard::first_difference;
 use crate::input::{Input, Slice};
 use crate::layers;
 use crate::page;
+use crate::picks;
 use crate::plain;
 use crate::rng::Rng;
 use crate::workspace;
@@ -480,6 +481,34 @@ impl Trial {
         same(&input, &got, &wanted)?;
         same_numbers(&input, "layers", slice, &expected)?;
         self.saw("layers", wanted.err().map_or(0, |refusal| refusal.number));
+        Ok(got)
+    }
+
+    pub fn check_picks(
+        &mut self,
+        page: &[u16],
+        queries: &[u16],
+        picks: &[u16],
+        figures: &[u16],
+    ) -> Check<Result<(), PicksRefusal>> {
+        let wanted = picks::check(page, queries, picks, figures);
+        let got = self.engine.check_picks(page, queries, picks, figures);
+        let input = Input {
+            op: "check_picks",
+            slices: vec![
+                ("page", Slice::Numbers(page)),
+                ("queries", Slice::Numbers(queries)),
+                ("picks", Slice::Numbers(picks)),
+                ("figures", Slice::Numbers(figures)),
+            ],
+            numbers: Vec::new(),
+        };
+        let got = got.map_err(|reason| breach(&input, reason))?;
+        same(&input, &got, &wanted)?;
+        self.saw(
+            "check_picks",
+            wanted.err().map_or(0, |refusal| refusal.number),
+        );
         Ok(got)
     }
 }

@@ -7,6 +7,7 @@ use Rattle.fixpoint.specs.Interval.{Interval}
 use Rattle.semantics.specs.Call.{Answer, refused, unchanged, changed, drove, valued, heldBy}
 use Rattle.semantics.specs.Layers.{LayersAnswer, refusedLayers, loopsAt, layered, LayersOf}
 use Rattle.semantics.specs.Operation.{Opening, refusedOpening, openedWith, Closing, refusedClosing, closedAfter, ClosedOf}
+use Rattle.semantics.specs.Picks.{PicksAnswer, refusedQueries, notWaiting, notAtRest, wrongFigures, acceptedPicks, picksNumber, PicksOf}
 use Rattle.semantics.specs.ReadPage.{ReadAnswer, refusedPage, readPage}
 use Rattle.semantics.specs.Worklist.{Status, rest, spent}
 
@@ -120,3 +121,22 @@ pub record LayersCall (code : ℤ) (condition : ℕ) (area slice slice′ : List
   pub is : LayersOf answer area slice slice′
   pub code-is : code ≡ layersCode answer
   pub condition-is : condition ≡ conditionTold answer
+
+-- the check of picks: minus the refusal number, or 0 where the picks and figures are accepted
+abbrev pub picksCode : PicksAnswer → ℤ
+picksCode r = minus (picksNumber r)
+
+-- "the place of the first such pick, counted from 1": the place of 50, and 0 where there is nothing to tell
+abbrev pub pickTold : PicksAnswer → ℕ
+pickTold (refusedQueries k) = 0
+pickTold (notWaiting place) = place
+pickTold notAtRest = 0
+pickTold wrongFigures = 0
+pickTold acceptedPicks = 0
+
+-- what the check of picks returns and tells. There is one such answer: `picks-one`.
+pub record PicksCall (code : ℤ) (place : ℕ) (area qs picks figures : List ℕ) : Type 0 where
+  pub answer : PicksAnswer
+  pub is : PicksOf answer area qs picks figures
+  pub code-is : code ≡ picksCode answer
+  pub place-is : place ≡ pickTold answer

@@ -6,9 +6,10 @@ ghost use Rattle.semantics.specs.ReadPage.{readOf, lineOf, startOf};
 ghost use Rattle.semantics.specs.Operation.{openOf, evaluateOf, driveOf, valueOf, lineHeldOf, driveWorkspace, closedWorkspace};
 ghost use Rattle.run.specs.Answers.{statusIf, driveAnswerOf};
 ghost use Rattle.closed.specs.Answer.{closingTold};
-ghost use Rattle.capi.specs.Codes.{minus as Codes·minus, statusCode, answerCode, takenOr, lineOr, intervalOr, openCode, countsOr, readCode, lineTold, placeTold, closedCode, roundsOr, ClosedCall, LayersCall};
+ghost use Rattle.capi.specs.Codes.{minus as Codes·minus, statusCode, answerCode, takenOr, lineOr, intervalOr, openCode, countsOr, readCode, lineTold, placeTold, closedCode, roundsOr, ClosedCall, LayersCall, PicksCall};
 use closed::ClosedAnswer;
 use layers::Verdict;
+use picks::Checked;
 use run::DriveAnswer;
 
 // Minus the number of a refusal.
@@ -275,5 +276,30 @@ pub extern "C" fn simjorad_layers(page: &[u16], layers: &mut [u16], condition: &
             minus(30)
         }
         Verdict::Layered => 0,
+    }
+}
+
+// The check of picks and figures: 0, or minus 10, 11, 12, 50, 51 or 52.
+#[no_mangle]
+pub extern "C" fn simjorad_check_picks(
+    page: &[u16],
+    queries: &[u16],
+    picks: &[u16],
+    figures: &[u16],
+    place: &mut u32,
+) -> i32
+    ensures { λ r. ⌜ PicksCall r (now (place .exit)) (now (page .entry)) (now (queries .entry)) (now (picks .entry)) (now (figures .entry)) ⌝ }
+{
+    let answer = picks::check_picks(page, queries, picks, figures);
+    *place = 0;
+    match answer {
+        Checked::Refused(k) => minus(k),
+        Checked::NotWaiting(bad) => {
+            *place = bad;
+            minus(50)
+        }
+        Checked::NotAtRest => minus(51),
+        Checked::WrongFigures => minus(52),
+        Checked::Accepted => 0,
     }
 }

@@ -15,7 +15,7 @@ ghost use Rattle.page.specs.Graded.{RuleAt, SoundEntry};
 ghost use Rattle.page.specs.Lines.{lineNames};
 ghost use Rattle.reach.specs.Opening.{openingOf, accepted, Written};
 ghost use Rattle.reach.specs.Marks.{Unmarked, ClosureMarks};
-ghost use Rattle.reach.specs.Sets.{Joins, Inserts, Inside, Followed, Passed, FoundIn, Counted, Swept, MarksBelow};
+ghost use Rattle.reach.specs.Sets.{Joins, Inserts, Inside, Followed, Passed, ClosureSet, FoundIn, Counted, Swept, MarksBelow};
 
 // Puts the queries into the set.
 fn insert_queries(queries: &[u16], words: &mut [u64])
@@ -223,6 +223,15 @@ fn sweep(a: &[u16], marks: &mut [bool]) -> u32
     new
 }
 
+// The closure of the queries as a set.
+pub fn spread(a: &[u16], queries: &[u16]) -> [u64; 8]
+    requires { ⌜ (sound (now a) ≡ true) × (allUnder (conditionsOf (now a)) (now queries) ≡ true) ⌝ }
+    ensures { λ r. ⌜ ClosureSet (pageOf (now (a .entry))) (now (queries .entry)) r ⌝ }
+{
+    let found = find(a, queries);
+    found.set
+}
+
 // Marks the closure of the queries, where nothing is marked yet, by passes over all lines until one adds nothing: fewer scans, where E is
 // not asked for.
 pub fn mark_closure(a: &[u16], queries: &[u16], marks: &mut [bool])
@@ -321,14 +330,12 @@ fn open_accepted(page: &[u16], queries: &[u16], run: &mut [u16]) -> OpenAnswer
     }
 }
 
-// Open a run.
-pub fn open_run(page: &[u16], queries: &[u16], run: &mut [u16]) -> OpenAnswer
+// Open a run on a page that is sound.
+pub fn open_sound(page: &[u16], queries: &[u16], run: &mut [u16]) -> OpenAnswer
+    requires { ⌜ sound (now page) ≡ true ⌝ }
     ensures answer { λ r. ⌜ openingOf r ≡ openOf (now (page .entry)) (now (queries .entry)) (now (run .entry)) .answer ⌝ }
     ensures left { λ _. ⌜ now (run .exit) ≡ openOf (now (page .entry)) (now (queries .entry)) (now (run .entry)) .run ⌝ }
 {
-    if !page::page_sound(page) {
-        return OpenAnswer::Refused(10);
-    }
     if !count_ok(queries) {
         return OpenAnswer::Refused(11);
     }
@@ -339,4 +346,15 @@ pub fn open_run(page: &[u16], queries: &[u16], run: &mut [u16]) -> OpenAnswer
         return OpenAnswer::Refused(13);
     }
     open_accepted(page, queries, run)
+}
+
+// Open a run.
+pub fn open_run(page: &[u16], queries: &[u16], run: &mut [u16]) -> OpenAnswer
+    ensures answer { λ r. ⌜ openingOf r ≡ openOf (now (page .entry)) (now (queries .entry)) (now (run .entry)) .answer ⌝ }
+    ensures left { λ _. ⌜ now (run .exit) ≡ openOf (now (page .entry)) (now (queries .entry)) (now (run .entry)) .run ⌝ }
+{
+    if !page::page_sound(page) {
+        return OpenAnswer::Refused(10);
+    }
+    open_sound(page, queries, run)
 }

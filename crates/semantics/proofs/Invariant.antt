@@ -49,7 +49,7 @@ pub rest-none : (o : Option ℕ) → statusAs o ≡ rest → o ≡ none
 rest-none none e = refl
 rest-none (some a) e = absurd (let z : _≡_ {A = ℕ} 0 1 = cc in omega arith)
 
-takes-one : (t : Bool) (line : ℕ) → takenBy (cond t changed unchanged line) ≡ 1
+pub takes-one : (t : Bool) (line : ℕ) → takenBy (cond t changed unchanged line) ≡ 1
 takes-one true line = refl
 takes-one false line = refl
 

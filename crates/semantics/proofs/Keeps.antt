@@ -1,14 +1,14 @@
 -- What the operations on areas keep: a refusal, a value call and a line call leave the area, a drive takes exactly its count. Assumes nothing.
 use mathlib.Core.Path.{_≡_, refl, sym, _∙_, ap, ap₂}
 use mathlib.Core.Logic.{_≢_}
-use mathlib.Core.Bool.{Bool, true, false, not, cond}
+use mathlib.Core.Bool.{Bool, true, false, not, cond, or-true}
 use mathlib.Core.List.{List, [], _∷_, _++_}
 use mathlib.Core.Option.{Option, none, some}
 use Prim.Native.Nat.{ℕ, zero, suc, _+_, _*_, _≤_, _<_}
 use native.Mathlib.Omega.{arith}
-use lib.Dec.{leb, ltb}
+use lib.Dec.{leb}
 use lib.ListN.{length, drop}
-use borrow.Author.Tests.{not-false, ltb-true}
+use borrow.Author.Tests.{not-false, eq-eqb}
 use Rattle.fixpoint.specs.Interval.{Interval, Assign}
 use Rattle.semantics.specs.Area.{sound, pageOf, allUnder}
 use Rattle.semantics.specs.Call.{Call, evaluate, drive, value, lineHeld, Answer, refused, changed, unchanged, drove, valued, heldBy, Cause, cause, firstOf, Outcome, unless, valueCauses, outcome}
@@ -20,10 +20,11 @@ use Rattle.semantics.specs.RunArea.{runSound, runOf, reachedOf, worklist
 use Rattle.semantics.specs.Table.{member, intervalOf, listed}
 use Rattle.semantics.specs.Worklist.{Worklist, changes, evaluated, holder, lowest, Status, rest, status, statusAs, Driven, oneMore, driveFrom, driven}
 use Rattle.semantics.proofs.Areas.{reencoded}
+use Rattle.semantics.proofs.Demand.{under-listed}
 use Rattle.semantics.proofs.Invariant.{NoCause, no-cause-holds}
 use Rattle.semantics.proofs.RoundCounts.{rounds-one}
 use Rattle.semantics.proofs.Readings.{closed-one}
-use Rattle.semantics.proofs.Soundness.{sound-proper, both-true}
+use Rattle.semantics.proofs.Soundness.{sound-proper}
 
 -- b′ is b after t evaluations, each of the lowest waiting condition
 pub data After (page : Page) (m : List Bool) : ℕ → Worklist → Worklist → Type 0 where
@@ -117,14 +118,22 @@ pub line-keeps : (a r : List ℕ) (c : ℕ) → operation a r (lineHeld c) .run 
 unfolding operation
 line-keeps a r c = keeps a r (lineHeld c) (firstOf (causes a r (lineHeld c))) refl (λ h. line-state (pageOf a) _ _ c)
 
--- A closed call leaves one result and one content of each slice.
-pub ends-same : (n : ℕ) (C D : Assign) → ((c : ℕ) → c < n → C c ≡ D c) → (qs : List ℕ) → allUnder n qs ≡ true → ends C qs ≡ ends D qs
-unfolding allUnder
-ends-same n C D h [] u = refl
-ends-same n C D h (q ∷ qs) u =
-    let b = both-true (ltb q n) (allUnder n qs) u in
-    ap₂ {C = List ℕ} (λ (p : Interval) (l : List ℕ). p .low ∷ p .high ∷ l) (h q (ltb-true q n (b .0))) (ends-same n C D h qs (b .1))
+-- figures of a list of queries
+pub length-ends : (C : Assign) (qs : List ℕ) → length (ends C qs) ≡ 2 * length qs
+length-ends C [] = omega arith
+length-ends C (q ∷ qs) = omega (arith, length-ends C qs)
 
+pub ends-listed : (C D : Assign) (qs : List ℕ) → ((c : ℕ) → listed c qs ≡ true → C c ≡ D c) → ends C qs ≡ ends D qs
+unfolding listed
+ends-listed C D [] h = refl
+ends-listed C D (q ∷ qs) h =
+    ap₂ {C = List ℕ} (λ (p : Interval) (l : List ℕ). p .low ∷ p .high ∷ l) (h q (rw (eq-eqb q q refl)))
+    (ends-listed C D qs (λ c e. h c (rw (e, or-true))))
+
+pub ends-same : (n : ℕ) (C D : Assign) → ((c : ℕ) → c < n → C c ≡ D c) → (qs : List ℕ) → allUnder n qs ≡ true → ends C qs ≡ ends D qs
+ends-same n C D h qs u = ends-listed C D qs (λ c e. h c (under-listed n qs u c e))
+
+-- A closed call leaves one result and one content of each slice.
 pub closed-call-one : (answer answer′ : Closing) (a qs s w s₁ w₁ s₂ w₂ : List ℕ) → ClosedOf answer a qs s w s₁ w₁ → ClosedOf answer′ a qs s w s₂ w₂
     → (answer ≡ answer′) × (s₁ ≡ s₂) × (w₁ ≡ w₂)
 unfolding ClosedOf

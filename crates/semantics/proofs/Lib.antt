@@ -80,3 +80,7 @@ pub mod Exactness
 pub mod ExactnessNeeds
 pub mod LayersRows
 pub mod LayersBench
+-- ticket 9: the check of picks
+pub mod Picks
+pub mod PicksRows
+pub mod PicksBench

@@ -31,7 +31,7 @@ use Rattle.semantics.proofs.Soundness.{sound-proper}
 use Rattle.semantics.proofs.Steps.{puts-same, puts-other}
 
 -- the book after more calls is that of the state before them
-performed-on : (page : Page) (m : List Bool) (cs ds : List Call) (b : Worklist)
+pub performed-on : (page : Page) (m : List Bool) (cs ds : List Call) (b : Worklist)
     → performFrom page m b (cs ++ ds) .state ≡ performFrom page m (performFrom page m b cs .state) ds .state
 unfolding performFrom
 performed-on page m [] ds b = refl

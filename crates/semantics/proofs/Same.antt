@@ -1,12 +1,13 @@
 -- Tests of equality that compute, for the worked rows. Assumes nothing.
 use mathlib.Core.Path.{_≡_, refl, sym, _∙_, ap, ap₂}
+use mathlib.Core.Logic.{_≢_}
 use mathlib.Core.Bool.{Bool, true, false, not, cond, _&&_, false≢true}
 use mathlib.Core.List.{List, [], _∷_}
 use mathlib.Core.Option.{Option, none, some}
 use Prim.Native.Nat.{ℕ}
 use lib.Dec.{eqb}
 use lib.ListN.{getD}
-use borrow.Author.Tests.{eqb-true, not-true}
+use borrow.Author.Tests.{eq-eqb, eqb-true, not-true}
 use Rattle.fixpoint.specs.Interval.{same, Interval}
 use Rattle.semantics.specs.Call.{Answer, refused, unchanged, changed, drove, valued, heldBy}
 use Rattle.semantics.specs.Operation.{Opening, refusedOpening, openedWith}
@@ -35,6 +36,14 @@ sameNumbers = sameList eqb
 
 pub same-numbers : (xs ys : List ℕ) → sameNumbers xs ys ≡ true → xs ≡ ys
 same-numbers = same-list eqb eqb-true
+
+same-self : (xs : List ℕ) → sameNumbers xs xs ≡ true
+unfolding sameList
+same-self [] = refl
+same-self (x ∷ xs) = rw (eq-eqb x x refl) (same-self xs)
+
+pub differ-numbers : (xs ys : List ℕ) → sameNumbers xs ys ≡ false → xs ≢ ys
+differ-numbers xs ys e q = false≢true (sym e ∙ ap (sameNumbers xs) (sym q) ∙ same-self xs)
 
 unfoldable pub sameStatus : Status → Status → Bool
 sameStatus rest rest = true

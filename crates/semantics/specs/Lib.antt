@@ -32,3 +32,5 @@ pub mod Fields
 pub mod Output
 -- document 02, ticket 3: loops through an absence
 pub mod Layers
+-- document 02, ticket 9: checking the picks of a simulator
+pub mod Picks

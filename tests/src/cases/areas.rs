@@ -24,6 +24,7 @@ pub fn cases() -> Vec<Case> {
                 ("closed", 10),
                 ("closed_indexed", 10),
                 ("layers", 10),
+                ("check_picks", 10),
             ],
         },
         Case {
@@ -95,6 +96,8 @@ fn each_operation(trial: &mut Trial, page: &Page, area: &[u16]) -> Check<Vec<Opt
     let mut layers = trial.rubbish(usize::from(page.count));
     let code = trial.layers(area, &mut layers)?;
     codes.push(code.err().map(|refusal| refusal.number));
+    let code = trial.check_picks(area, &queries, &[cond as u16], &answers)?;
+    codes.push(code.err().map(|refusal| refusal.number));
     Ok(codes)
 }
 
@@ -110,7 +113,7 @@ fn wrong_page_areas(trial: &mut Trial, item: u64) -> Check {
         trial.pages += 1;
         figure(&bad.how, decode(&bad.numbers), None)?;
         let codes = each_operation(trial, &page, &bad.numbers)?;
-        figure(&bad.how, codes, vec![Some(PAGE_UNSOUND); 6])?;
+        figure(&bad.how, codes, vec![Some(PAGE_UNSOUND); 7])?;
     }
     Ok(())
 }
@@ -164,7 +167,7 @@ fn too_many_lines(trial: &mut Trial, _: u64) -> Check {
         trial.pages += 2;
         let area = spoil::too_many_lines(&page, &line);
         let codes = each_operation(trial, &page, &area)?;
-        figure("1,025 lines", codes, vec![Some(PAGE_UNSOUND); 6])?;
+        figure("1,025 lines", codes, vec![Some(PAGE_UNSOUND); 7])?;
         let full = Page {
             lines: vec![line; 1024],
             ..page.clone()

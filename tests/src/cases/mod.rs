@@ -8,6 +8,7 @@ mod grades;
 pub mod large;
 mod layers;
 mod lists;
+mod picks;
 mod reader;
 mod refusals;
 mod rows;
@@ -35,6 +36,7 @@ pub fn calls() -> Vec<Case> {
     cases.extend(closed::cases());
     cases.extend(cover::cases());
     cases.extend(layers::cases());
+    cases.extend(picks::cases());
     cases.extend(thresholds::cases());
     cases.extend(lists::cases());
     cases.extend(large::cases());

@@ -4,6 +4,7 @@ use std::sync::atomic::{AtomicUsize, Ordering::SeqCst};
 
 use crate::answer::*;
 use crate::area::encode;
+use crate::book::Book;
 use crate::closed::scratch_length;
 use crate::ffi::{stands_in, Call};
 use crate::gen;
@@ -58,8 +59,9 @@ static LINE: Function = function("SIMJORAD_STACK_LINE", 2048);
 static CLOSED: Function = function("SIMJORAD_STACK_CLOSED", 2048);
 static CLOSED_INDEXED: Function = function("SIMJORAD_STACK_CLOSED_INDEXED", 3072);
 static LAYERS: Function = function("SIMJORAD_STACK_LAYERS", 2048);
+static CHECK_PICKS: Function = function("SIMJORAD_STACK_CHECK_PICKS", 2048);
 
-static FUNCTIONS: [&Function; 11] = [
+static FUNCTIONS: [&Function; 12] = [
     &READ,
     &SHOW_LINE,
     &OPEN,
@@ -71,6 +73,7 @@ static FUNCTIONS: [&Function; 11] = [
     &CLOSED,
     &CLOSED_INDEXED,
     &LAYERS,
+    &CHECK_PICKS,
 ];
 
 /// Evaluations of a drive.
@@ -260,6 +263,14 @@ impl Bench<'_> {
         })
     }
 
+    /// The picks are lent as the area, the figures as the answers.
+    fn check_picks(&mut self, lent: &Lent) -> Check<i32> {
+        self.call(&CHECK_PICKS, Call::CheckPicks.function(), lent, |lent| {
+            let slices = [lent.page(), lent.queries(), lent.area(), lent.answers()];
+            [slices.concat(), lent.out(0)].concat()
+        })
+    }
+
     /// Texts read, and refused for each cause.
     fn reads(&mut self, text: &[u8], used: usize) -> Check {
         let mut lent = Lent {
@@ -401,6 +412,40 @@ impl Bench<'_> {
         figure("layers", self.layers(&lent)?, -PAGE_UNSOUND)
     }
 
+    /// Picks in the order of a drive, until rest or for some thousands of evaluations, and the causes before that.
+    fn picked(&mut self, good: &Lent, page: &Page) -> Check {
+        let mut lent = good.clone();
+        let mut book = Book::new(page, &lent.queries);
+        lent.area.clear();
+        while lent.area.len() < ALLOWANCE {
+            let Some(pick) = book.waiting().first().copied() else {
+                break;
+            };
+            lent.area.push(pick);
+            book.drive(1);
+        }
+        let ends = lent
+            .queries
+            .iter()
+            .map(|query| book.pairs()[usize::from(*query)]);
+        lent.answers = ends.flat_map(|pair| [pair.low, pair.high]).collect();
+        let (wanted, wrong) = match book.at_rest() {
+            true => (0, -FIGURES_WRONG),
+            false => (-PICKS_NOT_AT_REST, -PICKS_NOT_AT_REST),
+        };
+        figure("check_picks", self.check_picks(&lent)?, wanted)?;
+        lent.answers.pop();
+        figure("check_picks", self.check_picks(&lent)?, wrong)?;
+        lent.area.push(512);
+        figure("check_picks", self.check_picks(&lent)?, -PICK_NOT_WAITING)?;
+        lent.queries[15] = 512;
+        figure("check_picks", self.check_picks(&lent)?, -QUERY_RANGE)?;
+        lent.queries.push(0);
+        figure("check_picks", self.check_picks(&lent)?, -QUERY_COUNT)?;
+        lent.page.pop();
+        figure("check_picks", self.check_picks(&lent)?, -PAGE_UNSOUND)
+    }
+
     fn workspace_lengths(&self, lent: &Lent) -> [usize; 4] {
         let needed = workspace::needed(&lent.page);
         [0, needed - 1, needed, workspace::WORKSPACE_MAX]
@@ -452,5 +497,6 @@ fn on_a_large_page(trial: &mut Trial, item: u64) -> Check {
     bench.closeds(&lent)?;
     lent.area = vec![7; 512];
     bench.layered(&lent)?;
+    bench.picked(&lent, &page)?;
     bench.over
 }
