@@ -30,3 +30,6 @@ pub mod Fields
 pub mod Output
 -- document 02, ticket 3: loops through an absence
 pub mod Layers
+-- document 02, ticket 11: two stalls on one page, and demand 3 for one stall's own part
+pub mod Stalls
+pub mod StallsDemand
