@@ -290,14 +290,12 @@ fn open_accepted(page: &[u16], queries: &[u16], run: &mut [u16]) -> OpenAnswer
     }
 }
 
-// Open a run.
-pub fn open_run(page: &[u16], queries: &[u16], run: &mut [u16]) -> OpenAnswer
+// Open a run on a page that is sound.
+pub fn open_sound(page: &[u16], queries: &[u16], run: &mut [u16]) -> OpenAnswer
+    requires { ⌜ sound (now page) ≡ true ⌝ }
     ensures answer { λ r. ⌜ openingOf r ≡ openOf (now (page .entry)) (now (queries .entry)) (now (run .entry)) .answer ⌝ }
     ensures left { λ _. ⌜ now (run .exit) ≡ openOf (now (page .entry)) (now (queries .entry)) (now (run .entry)) .run ⌝ }
 {
-    if !page::page_sound(page) {
-        return OpenAnswer::Refused(10);
-    }
     if !count_ok(queries) {
         return OpenAnswer::Refused(11);
     }
@@ -308,4 +306,15 @@ pub fn open_run(page: &[u16], queries: &[u16], run: &mut [u16]) -> OpenAnswer
         return OpenAnswer::Refused(13);
     }
     open_accepted(page, queries, run)
+}
+
+// Open a run.
+pub fn open_run(page: &[u16], queries: &[u16], run: &mut [u16]) -> OpenAnswer
+    ensures answer { λ r. ⌜ openingOf r ≡ openOf (now (page .entry)) (now (queries .entry)) (now (run .entry)) .answer ⌝ }
+    ensures left { λ _. ⌜ now (run .exit) ≡ openOf (now (page .entry)) (now (queries .entry)) (now (run .entry)) .run ⌝ }
+{
+    if !page::page_sound(page) {
+        return OpenAnswer::Refused(10);
+    }
+    open_sound(page, queries, run)
 }
