@@ -24,6 +24,7 @@ pub const GRADE_RANGE: Refusal = 22;
 pub const LOW_ABOVE_HIGH: Refusal = 23;
 pub const NEGATED_LOOP: Refusal = 30;
 pub const LAYERS_SHORT: Refusal = 31;
+pub const SHARED_SHORT: Refusal = 60;
 
 /// Why a page's text is refused; the line, and the place of the field in it, count from 1 and are 0 where none is at fault.
 #[derive(Clone, Copy, Debug, PartialEq, Eq)]
@@ -48,6 +49,20 @@ impl ReadRefusal {
 pub struct LayersRefusal {
     pub number: Refusal,
     pub condition: u32,
+}
+
+/// Why a turn is refused; the stall is 0 where none is told.
+#[derive(Clone, Copy, Debug, PartialEq, Eq)]
+pub struct TurnRefusal {
+    pub number: Refusal,
+    pub stall: u32,
+}
+
+/// What a turn tells of one stall.
+#[derive(Clone, Copy, Debug, PartialEq, Eq)]
+pub struct StallTurn {
+    pub taken: u32,
+    pub rest: bool,
 }
 
 /// What an opening returns: R, E, R + top * E and the count of passes.

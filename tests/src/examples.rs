@@ -68,6 +68,12 @@ const RUNS: &[(&str, &str, &str, i32)] = &[
         "examples/closed-attach-cup.expected",
         0,
     ),
+    (
+        "twin",
+        "examples/two-stalls.page",
+        "examples/twin-two-stalls.expected",
+        0,
+    ),
 ];
 
 fn lines(ended: &Ended) -> Vec<String> {
@@ -133,7 +139,7 @@ fn every_function(_: &mut Trial, _: u64) -> Check {
     figure(
         "tests/c/every.c",
         lines(&ended),
-        vec!["66 passed, 0 failed".to_string()],
+        vec!["82 passed, 0 failed".to_string()],
     )?;
     figure("the exit status", ended.status, Some(0))?;
     let test = file("tests/c/every.c")?;

@@ -9,6 +9,7 @@ use Rattle.semantics.specs.Call.{Answer, refused, unchanged, changed, drove, va
 use Rattle.semantics.specs.Layers.{LayersAnswer, refusedLayers, loopsAt, layered, LayersOf}
 use Rattle.semantics.specs.Operation.{Opening, refusedOpening, openedWith, closedCauses}
 use Rattle.semantics.specs.ReadPage.{ReadAnswer, refusedPage, readPage}
+use Rattle.semantics.specs.Stalls.{Told, TurnAnswer, refusedTurn, turned}
 use Rattle.semantics.specs.Worklist.{Status, rest, spent}
 
 -- "minus the refusal number"
@@ -113,3 +114,33 @@ pub record LayersCall (code : ℤ) (condition : ℕ) (area slice slice′ : List
   pub is : LayersOf answer area slice slice′
   pub code-is : code ≡ layersCode answer
   pub condition-is : condition ≡ conditionTold answer
+
+-- a turn: minus the refusal number, or 0
+abbrev pub turnCode : TurnAnswer → ℤ
+turnCode (refusedTurn k stall) = minus k
+turnCode (turned x y) = pos 0
+
+-- the stall of 14, and 0 where there is nothing to tell
+abbrev pub stallTold : TurnAnswer → ℕ
+stallTold (refusedTurn k stall) = stall
+stallTold (turned x y) = 0
+
+-- "for each stall the count taken and whether it rests", 1 or 0; a refusal leaves what was there
+pub record StallTold : Type 0 where
+  pub taken : ℕ
+  pub rest : ℕ
+
+abbrev pub restTold : Status → ℕ
+restTold rest = 1
+restTold spent = 0
+
+abbrev pub stallAs : Told → StallTold
+stallAs t = record { taken = t .count; rest = restTold (t .rests) }
+
+abbrev pub firstOr : StallTold → TurnAnswer → StallTold
+firstOr old (refusedTurn k stall) = old
+firstOr old (turned x y) = stallAs x
+
+abbrev pub secondOr : StallTold → TurnAnswer → StallTold
+secondOr old (refusedTurn k stall) = old
+secondOr old (turned x y) = stallAs y

@@ -94,7 +94,9 @@ fn turn_sound(page: &[u16], area: &mut [u16], allowance: u32) -> TurnAnswer
     ensures answer { λ r. ⌜ turnAnswerOf r ≡ turnOf (now (page .entry)) (now (area .entry)) allowance .answer ⌝ }
     ensures left { λ _. ⌜ now (area .exit) ≡ turnOf (now (page .entry)) (now (area .entry)) allowance .area ⌝ }
 {
-    let half = drive_part(page, Stall::First, area, allowance - allowance / 2);
+    let smaller = allowance / 2;
+    let larger = allowance - smaller;
+    let half = drive_part(page, Stall::First, area, larger);
     let second = drive_part(page, Stall::Second, area, allowance - half.taken);
     let more = drive_part(
         page,

@@ -13,6 +13,7 @@ mod refusals;
 mod rows;
 mod runs;
 pub mod stack;
+mod stalls;
 mod thresholds;
 
 use crate::runner::Case;
@@ -35,6 +36,7 @@ pub fn calls() -> Vec<Case> {
     cases.extend(closed::cases());
     cases.extend(cover::cases());
     cases.extend(layers::cases());
+    cases.extend(stalls::cases());
     cases.extend(thresholds::cases());
     cases.extend(lists::cases());
     cases.extend(large::cases());

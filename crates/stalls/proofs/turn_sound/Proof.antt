@@ -6,9 +6,9 @@ use Rattle.stalls.proofs.Turning.{within-1, long-1, sound-1, within-2, 
 use Rattle.stalls.proofs.turn_sound.Statement.{statement}
 use Rattle.stalls.proofs.turn_sound.Tie as tie
 
-sub-drive-part-2 : tie.Need-sub-drive-part-2
+sub-drive-part : tie.Need-sub-drive-part
 unfolding half
-sub-drive-part-2 c =
+sub-drive-part c =
     let z = c .before .before .before .before .before .before .before .before in
     within-1 (z .args .page .now) (z .args .area .now) (z .args .allowance) (z .pre .0) (z .pre .1) (z .pre .2) (z .pre .3) (c .before .before .before .before .drive-part .ensures)
 
@@ -28,9 +28,9 @@ add-drive-part c =
     let z = c .before .before .before .before .before .before .before .before .before .before .before .before .before .before in
     omega (arith, within-2 (z .args .page .now) (z .args .area .now) (z .args .allowance) (z .pre .0) (z .pre .1) (z .pre .2) (z .pre .3) (c .before .before .before .before .before .before .before .before .before .before .drive-part .ensures) (c .before .before .before .before .before .drive-part2 .ensures))
 
-sub-drive-part-3 : tie.Need-sub-drive-part-3
+sub-drive-part-2 : tie.Need-sub-drive-part-2
 unfolding half
-sub-drive-part-3 c =
+sub-drive-part-2 c =
     let z = c .before .before .before .before .before .before .before .before .before .before .before .before .before .before in
     within-2 (z .args .page .now) (z .args .area .now) (z .args .allowance) (z .pre .0) (z .pre .1) (z .pre .2) (z .pre .3) (c .before .before .before .before .before .before .before .before .before .before .drive-part .ensures) (c .before .before .before .before .before .drive-part2 .ensures)
 
@@ -64,5 +64,5 @@ returns c =
 
 pub turn-sound-spec : {M : Type 1} → statement M
 turn-sound-spec =
-    tie.close (tie.spec (search needs) (λ c κs. search needs) sub-drive-part-2 drive-part-requires-2 add-drive-part sub-drive-part-3
+    tie.close (tie.spec (search needs) (λ c κs. search needs) sub-drive-part drive-part-requires-2 add-drive-part sub-drive-part-2
     drive-part-requires-3 add-taken (search needs) returns)
