@@ -244,7 +244,7 @@ int32_t simjorad_layers(const uint16_t *page, size_t page_length, uint16_t *laye
  * Two stalls on one page. One shared area of 6 * C numbers holds two runs: the first stall's is its first 3 * C numbers, the second stall's
  * the next 3 * C. simjorad_drive, simjorad_value and simjorad_line are lent a stall's part, area or area + 3 * C.
  *
- * Open the run of the first or of the second stall. Returns 0, or minus 10, 60, 11 or 12, and sets and writes what simjorad_open does on that
+ * Open the run of the first or of the second stall. Returns 0, or minus 10, 60, 11 or 12. Sets and writes what simjorad_open does, on that
  * stall's part. The other part is neither read nor written.
  */
 int32_t simjorad_open_first(const uint16_t *page, size_t page_length, uint16_t *area, size_t area_length,

@@ -189,7 +189,7 @@ fn exported_functions(_: &mut Trial, _: u64) -> Check {
 }
 
 /// The version of the header and a fingerprint of what it declares. A change of either asks for the other.
-const VERSION: (usize, u64) = (7, 8_337_664_093_650_673_267);
+const VERSION: (usize, u64) = (7, 9_634_602_885_864_503_450);
 
 /// What a program may depend on: the figures but those of stack, and the declarations.
 fn version(_: &mut Trial, _: u64) -> Check {
