@@ -97,14 +97,11 @@ fn turn_sound(page: &[u16], area: &mut [u16], allowance: u32) -> TurnAnswer
     let smaller = allowance / 2;
     let larger = allowance - smaller;
     let half = drive_part(page, Stall::First, area, larger);
-    let second = drive_part(page, Stall::Second, area, allowance - half.taken);
-    let more = drive_part(
-        page,
-        Stall::First,
-        area,
-        allowance - (half.taken + second.taken),
-    );
-    let taken = half.taken + more.taken;
+    let used = half.taken;
+    let second = drive_part(page, Stall::Second, area, allowance - used);
+    let both = used + second.taken;
+    let more = drive_part(page, Stall::First, area, allowance - both);
+    let taken = used + more.taken;
     let rest = more.rest;
     let first = Drove { taken, rest };
     TurnAnswer::Turned { first, second }
