@@ -12,6 +12,8 @@ drive-filled-requires c κs =
     let z = c .before .before .before .before .before in
     (z .pre .0, z .pre .1, inl refl, inl refl, omega (arith, head-of (z .args .page .now) (z .pre .0)))
 
+returns : tie.Need-returns
+returns c = c .before .before .before .drive-filled .ensures .drives
+
 pub drive-counted-spec : {M : Type 1} → statement M
-drive-counted-spec =
-    tie.close (tie.spec (search needs) (search needs) (search needs) (search needs) drive-filled-requires (search needs) (λ c. c .before .before .before .drive-filled .ensures .drives))
+drive-counted-spec = tie.close (tie.spec (search needs) (search needs) (search needs) (search needs) drive-filled-requires (search needs) returns)
