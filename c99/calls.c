@@ -12,8 +12,9 @@
 #include <string.h>
 #include "simjorad.h"
 
-enum { READ, SHOW_LINE, OPEN, EVALUATE, DRIVE, DRIVE_INDEXED, VALUE, LINE, CLOSED, CLOSED_INDEXED, LAYERS, CHECK_PICKS, FUNCTIONS };
-enum { SLICES = 5, OUTS = 4 };
+enum { READ, SHOW_LINE, OPEN, EVALUATE, DRIVE, DRIVE_INDEXED, VALUE, LINE, CLOSED, CLOSED_INDEXED, LAYERS, CHECK_PICKS, OPEN_FIRST,
+       OPEN_SECOND, EVALUATE_FIRST, EVALUATE_SECOND, TURN, FUNCTIONS };
+enum { SLICES = 5, OUTS = 5 };
 
 /* What a call is lent and answers. A slice that is not lent has no place here: its size is 0. */
 struct slice {
@@ -44,6 +45,13 @@ int32_t engine_closed_indexed(const uint16_t *, size_t, const uint16_t *, size_t
                               size_t, uint32_t *);
 int32_t engine_layers(const uint16_t *, size_t, uint16_t *, size_t, uint32_t *);
 int32_t engine_check_picks(const uint16_t *, size_t, const uint16_t *, size_t, const uint16_t *, size_t, const uint16_t *, size_t, uint32_t *);
+int32_t engine_open_first(const uint16_t *, size_t, uint16_t *, size_t, const uint16_t *, size_t, uint32_t *, uint32_t *, uint32_t *,
+                          uint32_t *);
+int32_t engine_open_second(const uint16_t *, size_t, uint16_t *, size_t, const uint16_t *, size_t, uint32_t *, uint32_t *, uint32_t *,
+                           uint32_t *);
+int32_t engine_evaluate_first(const uint16_t *, size_t, uint16_t *, size_t, uint32_t);
+int32_t engine_evaluate_second(const uint16_t *, size_t, uint16_t *, size_t, uint32_t);
+int32_t engine_turn(const uint16_t *, size_t, uint16_t *, size_t, uint32_t, uint32_t *, uint32_t *, uint32_t *, uint32_t *, uint32_t *);
 #else
 #define NAME(f) simjorad_##f
 #endif
@@ -95,9 +103,27 @@ static void make(struct call *c)
     case LAYERS:
         c->answer = (uint32_t)NAME(layers)(s[0].at, s[0].length, s[1].at, s[1].length, &c->outs[0]);
         break;
-    default:
+    case LAYERS:
         c->answer = (uint32_t)NAME(check_picks)(s[0].at, s[0].length, s[1].at, s[1].length, s[2].at, s[2].length, s[3].at,
                                                 s[3].length, &c->outs[0]);
+        break;
+    case OPEN_FIRST:
+        c->answer = (uint32_t)NAME(open_first)(s[0].at, s[0].length, s[1].at, s[1].length, s[2].at, s[2].length, &c->outs[0],
+                                               &c->outs[1], &c->outs[2], &c->outs[3]);
+        break;
+    case OPEN_SECOND:
+        c->answer = (uint32_t)NAME(open_second)(s[0].at, s[0].length, s[1].at, s[1].length, s[2].at, s[2].length, &c->outs[0],
+                                                &c->outs[1], &c->outs[2], &c->outs[3]);
+        break;
+    case EVALUATE_FIRST:
+        c->answer = (uint32_t)NAME(evaluate_first)(s[0].at, s[0].length, s[1].at, s[1].length, c->number);
+        break;
+    case EVALUATE_SECOND:
+        c->answer = (uint32_t)NAME(evaluate_second)(s[0].at, s[0].length, s[1].at, s[1].length, c->number);
+        break;
+    default:
+        c->answer = (uint32_t)NAME(turn)(s[0].at, s[0].length, s[1].at, s[1].length, c->number, &c->outs[0], &c->outs[1], &c->outs[2],
+                                         &c->outs[3], &c->outs[4]);
     }
 }
 
@@ -309,10 +335,64 @@ int32_t simjorad_check_picks(const uint16_t *page, size_t page_length, const uin
     return (int32_t)c.answer;
 }
 
+/* An opening of either stall. */
+static int32_t open_stall(struct call *c, uint32_t *reached, uint32_t *edges, uint32_t *bound, uint32_t *passes)
+{
+    uint32_t *const outs[] = {reached, edges, bound, passes};
+    for (int k = 0; k < 4; k++)
+        c->outs[k] = *outs[k];
+    hand_on(c);
+    for (int k = 0; k < 4; k++)
+        *outs[k] = c->outs[k];
+    return (int32_t)c->answer;
+}
+
+int32_t simjorad_open_first(const uint16_t *page, size_t page_length, uint16_t *area, size_t area_length, const uint16_t *queries,
+                            size_t queries_length, uint32_t *reached, uint32_t *edges, uint32_t *bound, uint32_t *passes)
+{
+    struct call c = {.function = OPEN_FIRST, NUMBERS(0, page), NUMBERS(1, area), NUMBERS(2, queries)};
+    return open_stall(&c, reached, edges, bound, passes);
+}
+
+int32_t simjorad_open_second(const uint16_t *page, size_t page_length, uint16_t *area, size_t area_length, const uint16_t *queries,
+                             size_t queries_length, uint32_t *reached, uint32_t *edges, uint32_t *bound, uint32_t *passes)
+{
+    struct call c = {.function = OPEN_SECOND, NUMBERS(0, page), NUMBERS(1, area), NUMBERS(2, queries)};
+    return open_stall(&c, reached, edges, bound, passes);
+}
+
+int32_t simjorad_evaluate_first(const uint16_t *page, size_t page_length, uint16_t *area, size_t area_length, uint32_t condition)
+{
+    struct call c = {.function = EVALUATE_FIRST, NUMBERS(0, page), NUMBERS(1, area), .number = condition};
+    hand_on(&c);
+    return (int32_t)c.answer;
+}
+
+int32_t simjorad_evaluate_second(const uint16_t *page, size_t page_length, uint16_t *area, size_t area_length, uint32_t condition)
+{
+    struct call c = {.function = EVALUATE_SECOND, NUMBERS(0, page), NUMBERS(1, area), .number = condition};
+    hand_on(&c);
+    return (int32_t)c.answer;
+}
+
+int32_t simjorad_turn(const uint16_t *page, size_t page_length, uint16_t *area, size_t area_length, uint32_t allowance,
+                      uint32_t *taken_first, uint32_t *rest_first, uint32_t *taken_second, uint32_t *rest_second, uint32_t *stall)
+{
+    uint32_t *const outs[] = {taken_first, rest_first, taken_second, rest_second, stall};
+    struct call c = {.function = TURN, NUMBERS(0, page), NUMBERS(1, area), .number = allowance};
+    for (int k = 0; k < 5; k++)
+        c.outs[k] = *outs[k];
+    hand_on(&c);
+    for (int k = 0; k < 5; k++)
+        *outs[k] = c.outs[k];
+    return (int32_t)c.answer;
+}
+
 #else
 
 static const char *const names[FUNCTIONS] = {"read", "show_line", "open", "evaluate", "drive", "drive_indexed", "value", "line",
-                                             "closed", "closed_indexed", "layers", "check_picks"};
+                                             "closed", "closed_indexed", "layers", "check_picks", "open_first", "open_second", "evaluate_first",
+                                             "evaluate_second", "turn"};
 static FILE *file;
 
 static unsigned byte(void)

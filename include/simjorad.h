@@ -11,8 +11,8 @@
  * out-parameter of that call; this duty of the caller and these declarations are all that no proof covers.
  *
  * Results. A call returns a result of 0 or more, or minus the number of its refusal. A refused call changes nothing that was lent to
- * it and no out-parameter, but for those that tell of a refusal: *line and *place of simjorad_read, *condition of simjorad_layers and *place of
- * simjorad_check_picks are set by every call, to 0 where there is nothing to tell. Out-parameters must not be NULL.
+ * it and no out-parameter, but for those that tell of a refusal: *line and *place of simjorad_read, *condition of simjorad_layers, *place of
+ * simjorad_check_picks and *stall of simjorad_turn are set by every call, to 0 where there is nothing to tell. Out-parameters must not be NULL.
  *
  * Calls. No call keeps anything between calls, allocates or blocks. Calls on different areas may run at the same time. On one run
  * area make one call at a time: there is no lock. A page area may be read by several calls at once.
@@ -43,6 +43,8 @@
  *                    2 * C scans more
  *   check_picks      scans of the page until the reached conditions are found, then for each pick a scan for the lines of the condition, and one
  *                    for its dependants if it changed: a third to a half of what evaluate takes for each, since the page is checked once
+ *   open_first, open_second, evaluate_first, evaluate_second   as open and evaluate
+ *   turn             as a drive of each run by the evaluations that it takes; both runs are checked once, and no line is looked for
  *
  * simjorad_drive_indexed and simjorad_closed_indexed give the same answers and the same areas as simjorad_drive and
  * simjorad_closed. They are lent one more slice, a workspace, for an index of the page's lines: with room for it they take
@@ -94,6 +96,7 @@ extern "C" {
 #define SIMJORAD_PAGE_MAX 12292       /* numbers of the longest page area */
 #define SIMJORAD_RUN_LENGTH(c) (3 * (c))     /* numbers of a run area for c conditions */
 #define SIMJORAD_SCRATCH_LENGTH(c) (4 * (c)) /* numbers of scratch for the closed reading of c conditions */
+#define SIMJORAD_SHARED_LENGTH(c) (6 * (c))  /* numbers of an area for the runs of two stalls of c conditions */
 
 /*
  * Numbers of a workspace with room for a page's index, and the most that any page needs. The page area holds the counts: conditions is
@@ -111,14 +114,19 @@ extern "C" {
 #define SIMJORAD_STACK_SHOW_LINE 64
 #define SIMJORAD_STACK_OPEN 1280
 #define SIMJORAD_STACK_EVALUATE 1600
-#define SIMJORAD_STACK_DRIVE 1792
-#define SIMJORAD_STACK_DRIVE_INDEXED 1856
+#define SIMJORAD_STACK_DRIVE 1920
+#define SIMJORAD_STACK_DRIVE_INDEXED 1984
 #define SIMJORAD_STACK_VALUE 192
 #define SIMJORAD_STACK_LINE 1408
 #define SIMJORAD_STACK_CLOSED 1472
 #define SIMJORAD_STACK_CLOSED_INDEXED 1536
 #define SIMJORAD_STACK_LAYERS 1280
 #define SIMJORAD_STACK_CHECK_PICKS 1664
+#define SIMJORAD_STACK_OPEN_FIRST 1344
+#define SIMJORAD_STACK_OPEN_SECOND 1344
+#define SIMJORAD_STACK_EVALUATE_FIRST 1664
+#define SIMJORAD_STACK_EVALUATE_SECOND 1664
+#define SIMJORAD_STACK_TURN 1856
 
 /* Refusals, each with its cause. */
 #define SIMJORAD_TEXT_TOO_LONG 1      /* more than 65,535 bytes */
@@ -145,6 +153,7 @@ extern "C" {
 #define SIMJORAD_PICK_NOT_WAITING 50  /* a pick is not waiting, or not a condition */
 #define SIMJORAD_PICKS_NOT_AT_REST 51 /* the run is not at rest after the last pick */
 #define SIMJORAD_FIGURES_WRONG 52     /* the figures have another length, or are not the plain answers */
+#define SIMJORAD_SHARED_SHORT 60      /* the shared area is shorter than 6 * C */
 
 /*
  * Read a page: the text becomes a page area. Returns the used length (4 or more), or minus 1, 2, 5, 3, 4, 21, 22, 23 or 6.
@@ -251,6 +260,38 @@ int32_t simjorad_layers(const uint16_t *page, size_t page_length, uint16_t *laye
 int32_t simjorad_check_picks(const uint16_t *page, size_t page_length, const uint16_t *queries, size_t queries_length,
                              const uint16_t *picks, size_t picks_length, const uint16_t *figures, size_t figures_length,
                              uint32_t *place);
+
+/*
+ * Two stalls on one page. One shared area of 6 * C numbers holds two runs: the first stall's is its first 3 * C numbers, the second stall's
+ * the next 3 * C. simjorad_drive, simjorad_value and simjorad_line are lent a stall's part, area or area + 3 * C.
+ *
+ * Open the run of the first or of the second stall. Returns 0, or minus 10, 60, 11 or 12. Sets and writes what simjorad_open does, on that
+ * stall's part. The other part is neither read nor written.
+ */
+int32_t simjorad_open_first(const uint16_t *page, size_t page_length, uint16_t *area, size_t area_length,
+                            const uint16_t *queries, size_t queries_length, uint32_t *reached, uint32_t *edges,
+                            uint32_t *bound, uint32_t *passes);
+int32_t simjorad_open_second(const uint16_t *page, size_t page_length, uint16_t *area, size_t area_length,
+                             const uint16_t *queries, size_t queries_length, uint32_t *reached, uint32_t *edges,
+                             uint32_t *bound, uint32_t *passes);
+
+/*
+ * Evaluate a condition of the first or of the second stall. Returns 1 or 0 as simjorad_evaluate does, or minus 10, 60, 14, 15 or 16. The other
+ * part is neither read nor written.
+ */
+int32_t simjorad_evaluate_first(const uint16_t *page, size_t page_length, uint16_t *area, size_t area_length, uint32_t condition);
+int32_t simjorad_evaluate_second(const uint16_t *page, size_t page_length, uint16_t *area, size_t area_length, uint32_t condition);
+
+/*
+ * A turn: an allowance of b evaluations for both stalls. The first has the larger half of b, the second the smaller, and what one does not
+ * need before its rest goes to the other; so together they take b, or both needs if these sum to less. Each picks as simjorad_drive does.
+ * Returns 0, or minus 10, 60 or 14. Sets for each stall the evaluations taken, and its rest to 1 if it is then at rest and to 0 if not. For 14
+ * *stall is 1 or 2, the first stall before the second; after every other outcome it is 0. What is refused for one stall leaves both. Writes
+ * among the first 6 * C numbers of area.
+ */
+int32_t simjorad_turn(const uint16_t *page, size_t page_length, uint16_t *area, size_t area_length, uint32_t allowance,
+                      uint32_t *taken_first, uint32_t *rest_first, uint32_t *taken_second, uint32_t *rest_second,
+                      uint32_t *stall);
 
 #ifdef __cplusplus
 }

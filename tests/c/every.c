@@ -192,6 +192,34 @@ static void picked(void)
     CHECK(simjorad_check_picks(area, USED - 1, NULL, 0, NULL, 0, NULL, 0, &place) == -SIMJORAD_PAGE_UNSOUND && place == 0);
 }
 
+/* Two runs of the page in one area: each is 4 evaluations from its rest when it is opened. */
+static void stalls(void)
+{
+    static const uint16_t query[] = {0}, after[][6] = {{0, 10, 2, 0, 10, 2}, {2, 10, 1, 0, 10, 2}, {2, 7, 1, 3, 8, 2}, {2, 7, 1, 3, 8, 1}};
+    uint16_t both[SIMJORAD_SHARED_LENGTH(2) + 1];
+    uint32_t reached = 77, edges = 77, bound = 77, passes = 77, one = 77, rests = 77, two = 77, rest = 77, stall = 77;
+
+    memset(both, 0xff, sizeof both);
+    CHECK(simjorad_open_first(area, USED, both, 11, query, 1, &reached, &edges, &bound, &passes) == -SIMJORAD_SHARED_SHORT && bound == 77);
+    CHECK(simjorad_open_first(area, 3, both, 11, query, 1, &reached, &edges, &bound, &passes) == -SIMJORAD_PAGE_UNSOUND);
+    CHECK(simjorad_open_second(area, USED, both, 13, NULL, 0, &reached, &edges, &bound, &passes) == -SIMJORAD_QUERY_COUNT && reached == 77);
+    CHECK(simjorad_open_second(area, USED, both, 13, query, 1, &reached, &edges, &bound, &passes) == 0);
+    CHECK(reached == 2 && edges == 2 && bound == 22 && passes == 2 && both[0] == 0xffff && same(both + 6, after[0], 6) && both[12] == 0xffff);
+    CHECK(simjorad_turn(area, USED, both, 13, 7, &one, &rests, &two, &rest, &stall) == -SIMJORAD_RUN_UNSOUND && stall == 1 && one == 77);
+    CHECK(simjorad_open_first(area, USED, both, 13, query, 1, &reached, &edges, &bound, &passes) == 0 && same(both, after[0], 6));
+    CHECK(simjorad_turn(area, USED, both, 11, 7, &one, &rests, &two, &rest, &stall) == -SIMJORAD_SHARED_SHORT && stall == 0);
+    CHECK(simjorad_evaluate_second(area, USED, both, 13, 0) == 1 && same(both, after[0], 6) && same(both + 6, after[1], 6));
+    CHECK(simjorad_evaluate_second(area, USED, both, 13, 0) == -SIMJORAD_NOT_WAITING);
+    CHECK(simjorad_evaluate_first(area, USED, both, 11, 0) == -SIMJORAD_SHARED_SHORT);
+    CHECK(simjorad_evaluate_first(area, USED, both, 13, 0) == 1 && same(both, after[1], 6));
+    stall = 77;
+    CHECK(simjorad_turn(area, USED, both, 13, 5, &one, &rests, &two, &rest, &stall) == 0 && one == 3 && rests == 1 && two == 2 && rest == 0);
+    CHECK(stall == 0 && same(both, after[3], 6) && same(both + 6, after[2], 6) && both[12] == 0xffff);
+    CHECK(simjorad_turn(area, USED, both, 13, UINT32_MAX, &one, &rests, &two, &rest, &stall) == 0 && one == 0 && two == 1 && rest == 1);
+    both[11] = 3;
+    CHECK(simjorad_turn(area, USED, both, 13, 5, &one, &rests, &two, &rest, &stall) == -SIMJORAD_RUN_UNSOUND && stall == 2 && two == 1);
+}
+
 int main(void)
 {
     reads();
@@ -202,6 +230,7 @@ int main(void)
     closed();
     layered();
     picked();
+    stalls();
     printf("%d passed, %d failed\n", passed, failed);
     return failed != 0;
 }

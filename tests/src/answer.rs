@@ -27,6 +27,7 @@ pub const LAYERS_SHORT: Refusal = 31;
 pub const PICK_NOT_WAITING: Refusal = 50;
 pub const PICKS_NOT_AT_REST: Refusal = 51;
 pub const FIGURES_WRONG: Refusal = 52;
+pub const SHARED_SHORT: Refusal = 60;
 
 /// Why a page's text is refused; the line, and the place of the field in it, count from 1 and are 0 where none is at fault.
 #[derive(Clone, Copy, Debug, PartialEq, Eq)]
@@ -58,6 +59,20 @@ pub struct LayersRefusal {
 pub struct PicksRefusal {
     pub number: Refusal,
     pub place: u32,
+}
+
+/// Why a turn is refused; the stall is 0 where none is told.
+#[derive(Clone, Copy, Debug, PartialEq, Eq)]
+pub struct TurnRefusal {
+    pub number: Refusal,
+    pub stall: u32,
+}
+
+/// What a turn tells of one stall.
+#[derive(Clone, Copy, Debug, PartialEq, Eq)]
+pub struct StallTurn {
+    pub taken: u32,
+    pub rest: bool,
 }
 
 /// What an opening returns: R, E, R + top * E and the count of passes.

@@ -13,6 +13,7 @@ use crate::guard::{Loan, Pool, Side};
 use crate::rng::Rng;
 use crate::slot;
 use crate::stack::Stack;
+use crate::stalls::Stall;
 
 /// A call that takes longer has failed.
 fn limit() -> Duration {
@@ -524,6 +525,150 @@ impl Engine {
             loan.end_mut("workspace", numbers)?;
         }
         read_closed(code, &rounds)
+    }
+
+    pub fn open_stall(
+        &mut self,
+        page: &[u16],
+        stall: Stall,
+        area: &mut [u16],
+        queries: &[u16],
+    ) -> Result<Result<Opened, Refusal>, String> {
+        let (page_loan, page_length) = self.lend_area(0, page);
+        let (area_loan, area_length) = self.lend_area(1, area);
+        let queries_loan = self.lend(2, queries);
+        let mut outs = [(); 4].map(|()| self.out(|number| number as u32));
+        let slices = [
+            Self::note(page, page_loan.ptr() as usize),
+            Self::note(area, area_loan.ptr() as usize),
+            Self::note(queries, queries_loan.ptr() as usize),
+        ];
+        let mut arguments = vec![
+            page_loan.ptr() as usize,
+            page_length,
+            area_loan.ptr_mut() as usize,
+            area_length,
+            queries_loan.ptr() as usize,
+            queries.len(),
+        ];
+        arguments.extend(outs.iter_mut().map(|out| out.ptr() as usize));
+        let call = match stall {
+            Stall::First => Call::OpenFirst,
+            Stall::Second => Call::OpenSecond,
+        };
+        let code = self.call(call, 0, &slices, &arguments)? as i32;
+        page_loan.end_const("page", page)?;
+        area_loan.end_mut("area", area)?;
+        queries_loan.end_const("queries", queries)?;
+        match code {
+            0 => Ok(Ok(Opened {
+                reached: outs[0].set("reached")?,
+                edges: outs[1].set("edges")?,
+                bound: outs[2].set("bound")?,
+                passes: outs[3].set("passes")?,
+            })),
+            -12..=-10 | -60 => {
+                for (out, name) in outs.iter().zip(["reached", "edges", "bound", "passes"]) {
+                    out.kept(name)?;
+                }
+                Ok(Err(-code))
+            }
+            _ => Err(format!("returned {code}")),
+        }
+    }
+
+    pub fn evaluate_stall(
+        &mut self,
+        page: &[u16],
+        stall: Stall,
+        area: &mut [u16],
+        cond: u32,
+    ) -> Result<Result<bool, Refusal>, String> {
+        let (page_loan, page_length) = self.lend_area(0, page);
+        let (area_loan, area_length) = self.lend_area(1, area);
+        let slices = [
+            Self::note(page, page_loan.ptr() as usize),
+            Self::note(area, area_loan.ptr() as usize),
+        ];
+        let arguments = [
+            page_loan.ptr() as usize,
+            page_length,
+            area_loan.ptr_mut() as usize,
+            area_length,
+            cond as usize,
+        ];
+        let call = match stall {
+            Stall::First => Call::EvaluateFirst,
+            Stall::Second => Call::EvaluateSecond,
+        };
+        let code = self.call(call, u64::from(cond), &slices, &arguments)? as i32;
+        page_loan.end_const("page", page)?;
+        area_loan.end_mut("area", area)?;
+        match code {
+            0 | 1 => Ok(Ok(code == 1)),
+            -10 | -60 | -16..=-14 => Ok(Err(-code)),
+            _ => Err(format!("returned {code}")),
+        }
+    }
+
+    pub fn turn(
+        &mut self,
+        page: &[u16],
+        area: &mut [u16],
+        allowance: u32,
+    ) -> Result<Result<[StallTurn; 2], TurnRefusal>, String> {
+        let (page_loan, page_length) = self.lend_area(0, page);
+        let (area_loan, area_length) = self.lend_area(1, area);
+        let mut outs = [(); 4].map(|()| self.out(|number| number as u32));
+        let mut stall = self.out(|number| number as u32);
+        let slices = [
+            Self::note(page, page_loan.ptr() as usize),
+            Self::note(area, area_loan.ptr() as usize),
+        ];
+        let mut arguments = vec![
+            page_loan.ptr() as usize,
+            page_length,
+            area_loan.ptr_mut() as usize,
+            area_length,
+            allowance as usize,
+        ];
+        arguments.extend(outs.iter_mut().map(|out| out.ptr() as usize));
+        arguments.push(stall.ptr() as usize);
+        let code = self.call(Call::Turn, u64::from(allowance), &slices, &arguments)? as i32;
+        page_loan.end_const("page", page)?;
+        area_loan.end_mut("area", area)?;
+        let names = ["taken_first", "rest_first", "taken_second", "rest_second"];
+        let stall = stall.set("stall")?;
+        match (code, stall) {
+            (0, 0) => {
+                let mut numbers = [0; 4];
+                for ((number, out), name) in numbers.iter_mut().zip(&outs).zip(names) {
+                    *number = out.set(name)?;
+                }
+                let [taken_first, rest_first, taken_second, rest_second] = numbers;
+                if rest_first > 1 || rest_second > 1 {
+                    return Err(format!("a rest of {rest_first} or {rest_second}"));
+                }
+                let told = |taken, rest| StallTurn {
+                    taken,
+                    rest: rest == 1,
+                };
+                Ok(Ok([
+                    told(taken_first, rest_first),
+                    told(taken_second, rest_second),
+                ]))
+            }
+            (-10 | -60 | -14, _) => {
+                for (out, name) in outs.iter().zip(names) {
+                    out.kept(name)?;
+                }
+                Ok(Err(TurnRefusal {
+                    number: -code,
+                    stall,
+                }))
+            }
+            _ => Err(format!("returned {code} with {stall} in `*stall`")),
+        }
     }
 
     pub fn layers(

@@ -54,6 +54,11 @@ calls! {
     ClosedIndexed simjorad_closed_indexed,
     Layers simjorad_layers,
     CheckPicks simjorad_check_picks,
+    OpenFirst simjorad_open_first,
+    OpenSecond simjorad_open_second,
+    EvaluateFirst simjorad_evaluate_first,
+    EvaluateSecond simjorad_evaluate_second,
+    Turn simjorad_turn,
 }
 
 /// Whether the stand-in is under test: the variable STANDIN_FAULT is set, to a fault or to nothing.

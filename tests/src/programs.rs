@@ -126,6 +126,7 @@ pub fn built(name: &'static str) -> Check<PathBuf> {
         .get_or_init(|| {
             build("controller", &["examples/controller.c"], &[])?;
             build("closed", &["examples/closed.c"], &[])?;
+            build("twin", &["examples/twin.c"], &[])?;
             build("every", &["tests/c/every.c"], &[])?;
             let wrapped: Vec<String> = ["open", "evaluate", "drive", "value", "line"]
                 .iter()

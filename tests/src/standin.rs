@@ -20,6 +20,7 @@ use crate::page::{self, Line, Op, Page};
 use crate::picks;
 use crate::plain::{self, check_queries};
 use crate::reach;
+use crate::stalls::{half, shared_length, Stall, STALLS};
 use crate::workspace;
 
 /// The faults that can be planted, each with the words of the run that notices it and the case that does.
@@ -853,6 +854,82 @@ pub const FAULTS: &[(&str, &str, &str)] = &[
         "picks_in_another_order_than_a_drive_refused",
         "quick only CASE",
         "any_order_of_picks_to_rest_is_accepted",
+    ),
+    // Two stalls.
+    (
+        "the_smaller_half_to_the_first",
+        "quick only CASE",
+        "stalls_have_their_stated_figures",
+    ),
+    (
+        "leftover_of_the_first_lost",
+        "quick only CASE",
+        "stalls_have_their_stated_figures",
+    ),
+    (
+        "leftover_of_the_second_lost",
+        "quick only CASE",
+        "stalls_have_their_stated_figures",
+    ),
+    (
+        "second_part_one_number_on",
+        "quick only CASE",
+        "stalls_have_their_stated_figures",
+    ),
+    (
+        "second_refused_after_the_first_is_driven",
+        "quick only CASE",
+        "stalls_have_their_stated_figures",
+    ),
+    (
+        "unsound_part_told_with_the_other_stall",
+        "quick only CASE",
+        "stalls_have_their_stated_figures",
+    ),
+    (
+        "the_second_stall_told_before_the_first",
+        "quick only CASE",
+        "stalls_have_their_stated_figures",
+    ),
+    (
+        "need_beyond_the_turn_counted",
+        "quick only CASE",
+        "stalls_have_their_stated_figures",
+    ),
+    (
+        "shared_area_short_after_the_queries",
+        "quick only CASE",
+        "stalls_have_their_stated_figures",
+    ),
+    (
+        "shared_length_of_one_run",
+        "quick only CASE",
+        "stalls_have_their_stated_figures",
+    ),
+    (
+        "turn_allowance_cut_to_16_bits",
+        "quick only CASE",
+        "stalls_have_their_stated_figures",
+    ),
+    (
+        "stall_not_set_to_zero",
+        "quick only CASE",
+        "stalls_have_their_stated_figures",
+    ),
+    (
+        "refused_turn_sets_the_rest",
+        "quick only CASE",
+        "stalls_have_their_stated_figures",
+    ),
+    (
+        "second_evaluated_in_the_first_part",
+        "quick only CASE",
+        "stalls_have_their_stated_figures",
+    ),
+    (
+        "turn_writes_past_the_shared_area",
+        "quick only CASE",
+        "stalls_have_their_stated_figures",
     ),
 ];
 
@@ -2318,6 +2395,278 @@ pub unsafe extern "C" fn simjorad_check_picks(
         *place = told;
     }
     -number
+}
+
+/// Where the part of a stall lies in the shared area.
+fn part_of(stall: Stall, count: u16) -> std::ops::Range<usize> {
+    let part = stall.part(count);
+    if stall == Stall::Second && fault("second_part_one_number_on") {
+        return part.start + 1..part.end + 1;
+    }
+    part
+}
+
+/// The refusals 10 and 60, and the page if neither comes.
+fn check_shared(page_area: &[u16], area: &[u16]) -> Result<Page, Refusal> {
+    let page = sound_page(page_area).ok_or(PAGE_UNSOUND)?;
+    let needed = if fault("shared_length_of_one_run") {
+        shared_length(page.count) / 2
+    } else {
+        shared_length(page.count)
+    };
+    if area.len() < needed {
+        return Err(SHARED_SHORT);
+    }
+    Ok(page)
+}
+
+fn open_stall(
+    page_area: &[u16],
+    stall: Stall,
+    area: &mut [u16],
+    queries: &[u16],
+) -> Result<Opened, Refusal> {
+    if fault("shared_area_short_after_the_queries") {
+        let page = sound_page(page_area).ok_or(PAGE_UNSOUND)?;
+        check_queries(&page, queries)?;
+    }
+    let page = check_shared(page_area, area)?;
+    let part = part_of(stall, page.count);
+    let end = part.end.min(area.len());
+    open(page_area, queries, &mut area[part.start.min(end)..end])
+}
+
+/// What an opening of either stall hands back.
+#[allow(clippy::too_many_arguments)]
+unsafe fn open_stall_code(
+    stall: Stall,
+    page: *const u16,
+    page_length: usize,
+    area: *mut u16,
+    area_length: usize,
+    queries: &[u16],
+    outs: [*mut u32; 4],
+) -> i32 {
+    let page = lent(page, page_length);
+    match open_stall(page, stall, lent_mut(area, area_length), queries) {
+        Ok(opened) => {
+            let numbers = [opened.reached, opened.edges, opened.bound, opened.passes];
+            for (out, number) in outs.into_iter().zip(numbers) {
+                *out = number;
+            }
+            0
+        }
+        Err(number) => -number,
+    }
+}
+
+pub unsafe extern "C" fn simjorad_open_first(
+    page: *const u16,
+    page_length: usize,
+    area: *mut u16,
+    area_length: usize,
+    queries: *const u16,
+    queries_length: usize,
+    reached: *mut u32,
+    edges: *mut u32,
+    bound: *mut u32,
+    passes: *mut u32,
+) -> i32 {
+    let queries = lent(queries, queries_length);
+    let outs = [reached, edges, bound, passes];
+    open_stall_code(
+        Stall::First,
+        page,
+        page_length,
+        area,
+        area_length,
+        queries,
+        outs,
+    )
+}
+
+pub unsafe extern "C" fn simjorad_open_second(
+    page: *const u16,
+    page_length: usize,
+    area: *mut u16,
+    area_length: usize,
+    queries: *const u16,
+    queries_length: usize,
+    reached: *mut u32,
+    edges: *mut u32,
+    bound: *mut u32,
+    passes: *mut u32,
+) -> i32 {
+    let queries = lent(queries, queries_length);
+    let outs = [reached, edges, bound, passes];
+    open_stall_code(
+        Stall::Second,
+        page,
+        page_length,
+        area,
+        area_length,
+        queries,
+        outs,
+    )
+}
+
+/// What an evaluation of either stall hands back.
+fn evaluate_stall(page_area: &[u16], stall: Stall, area: &mut [u16], cond: u32) -> i32 {
+    let stall = if fault("second_evaluated_in_the_first_part") {
+        Stall::First
+    } else {
+        stall
+    };
+    let result = check_shared(page_area, area).and_then(|page| {
+        let part = part_of(stall, page.count);
+        let end = part.end.min(area.len());
+        evaluate(page_area, &mut area[part.start.min(end)..end], cond)
+    });
+    result.map_or_else(|number| -number, i32::from)
+}
+
+pub unsafe extern "C" fn simjorad_evaluate_first(
+    page: *const u16,
+    page_length: usize,
+    area: *mut u16,
+    area_length: usize,
+    condition: u32,
+) -> i32 {
+    let area = lent_mut(area, area_length);
+    evaluate_stall(lent(page, page_length), Stall::First, area, condition)
+}
+
+pub unsafe extern "C" fn simjorad_evaluate_second(
+    page: *const u16,
+    page_length: usize,
+    area: *mut u16,
+    area_length: usize,
+    condition: u32,
+) -> i32 {
+    let area = lent_mut(area, area_length);
+    evaluate_stall(lent(page, page_length), Stall::Second, area, condition)
+}
+
+/// The stall whose part is not sound, if there is one, as it is told.
+fn unsound_stall(page: &Page, area: &[u16]) -> Option<u32> {
+    let mut numbered: Vec<(Stall, u32)> = STALLS.into_iter().zip(1..).collect();
+    if fault("the_second_stall_told_before_the_first") {
+        numbered.reverse();
+    }
+    let unsound = |(stall, _): &(Stall, u32)| {
+        let part = part_of(*stall, page.count);
+        let end = part.end.min(area.len());
+        !run_is_sound(page, &area[part.start.min(end)..end])
+    };
+    let (_, number) = numbered.into_iter().find(unsound)?;
+    Some(if fault("unsound_part_told_with_the_other_stall") {
+        3 - number
+    } else {
+        number
+    })
+}
+
+/// What the split gives a stall.
+fn given(allowance: u32, stall: Stall, needs: [u32; 2]) -> u32 {
+    let half = |stall: Stall| {
+        if fault("the_smaller_half_to_the_first") {
+            half(allowance, stall.other())
+        } else {
+            half(allowance, stall)
+        }
+    };
+    let lost = match stall {
+        Stall::First => fault("leftover_of_the_second_lost"),
+        Stall::Second => fault("leftover_of_the_first_lost"),
+    };
+    let leftover = half(stall.other()).saturating_sub(needs[stall.other() as usize]);
+    half(stall).min(needs[stall as usize]) + if lost { 0 } else { leftover }
+}
+
+fn turn(
+    page_area: &[u16],
+    area: &mut [u16],
+    allowance: u32,
+) -> Result<[StallTurn; 2], TurnRefusal> {
+    let refuse = |number, stall| TurnRefusal { number, stall };
+    let page = check_shared(page_area, area).map_err(|number| refuse(number, 0))?;
+    let count = page.count;
+    if let Some(stall) = unsound_stall(&page, area) {
+        if fault("second_refused_after_the_first_is_driven") && stall == 2 {
+            drive(
+                &page,
+                &mut area[Stall::First.part(count)],
+                half(allowance, Stall::First),
+            );
+        }
+        return Err(refuse(RUN_UNSOUND, stall));
+    }
+    // No fault that never rests may hang the run.
+    let capped = if planted().is_empty() {
+        allowance
+    } else {
+        allowance.min(2_000_000)
+    };
+    let capped = if fault("turn_allowance_cut_to_16_bits") {
+        capped & 65_535
+    } else {
+        capped
+    };
+    let needs = STALLS.map(|stall| {
+        let driven = drive(&page, &mut area[part_of(stall, count)].to_vec(), capped);
+        match driven.rest {
+            true => driven.taken,
+            false if fault("need_beyond_the_turn_counted") => 0,
+            false => capped,
+        }
+    });
+    let told = STALLS.map(|stall| {
+        let given = given(capped, stall, needs);
+        let driven = drive(&page, &mut area[part_of(stall, count)], given);
+        StallTurn {
+            taken: driven.taken,
+            rest: driven.rest,
+        }
+    });
+    if fault("turn_writes_past_the_shared_area") {
+        area[shared_length(count)..].fill(0);
+    }
+    Ok(told)
+}
+
+#[allow(clippy::too_many_arguments)]
+pub unsafe extern "C" fn simjorad_turn(
+    page: *const u16,
+    page_length: usize,
+    area: *mut u16,
+    area_length: usize,
+    allowance: u32,
+    taken_first: *mut u32,
+    rest_first: *mut u32,
+    taken_second: *mut u32,
+    rest_second: *mut u32,
+    stall: *mut u32,
+) -> i32 {
+    let area = lent_mut(area, area_length);
+    match turn(lent(page, page_length), area, allowance) {
+        Ok([first, second]) => {
+            *taken_first = first.taken;
+            *rest_first = u32::from(first.rest);
+            *taken_second = second.taken;
+            *rest_second = u32::from(second.rest);
+            if !fault("stall_not_set_to_zero") {
+                *stall = 0;
+            }
+            0
+        }
+        Err(refusal) => {
+            if fault("refused_turn_sets_the_rest") {
+                *rest_second = 0;
+            }
+            *stall = refusal.stall;
+            -refusal.number
+        }
+    }
 }
 
 /// Plants one fault after another and runs the case that is named beside it, or all cases; true if every fault is noticed.

@@ -16,6 +16,7 @@ use crate::page;
 use crate::picks;
 use crate::plain;
 use crate::rng::Rng;
+use crate::stalls::{self, Stall};
 use crate::workspace;
 
 /// What a case returns: nothing, or why it fails.
@@ -467,6 +468,80 @@ impl Trial {
         Ok(())
     }
 
+    pub fn open_stall(
+        &mut self,
+        page: &[u16],
+        stall: Stall,
+        area: &mut [u16],
+        queries: &[u16],
+    ) -> Check<Result<Opened, Refusal>> {
+        let before = area.to_vec();
+        let mut expected = before.clone();
+        let wanted = stalls::open(page, stall, &mut expected, queries);
+        let got = self.engine.open_stall(page, stall, area, queries);
+        let op = match stall {
+            Stall::First => "open_first",
+            Stall::Second => "open_second",
+        };
+        let input = Input {
+            op,
+            slices: vec![
+                ("page", Slice::Numbers(page)),
+                ("area", Slice::Numbers(&before)),
+                ("queries", Slice::Numbers(queries)),
+            ],
+            numbers: vec![],
+        };
+        let got = got.map_err(|reason| breach(&input, reason))?;
+        same(&input, &got, &wanted)?;
+        same_numbers(&input, "area", area, &expected)?;
+        self.saw(op, wanted.err().unwrap_or(0));
+        Ok(got)
+    }
+
+    pub fn evaluate_stall(
+        &mut self,
+        page: &[u16],
+        stall: Stall,
+        area: &mut [u16],
+        cond: u32,
+    ) -> Check<Result<bool, Refusal>> {
+        let before = area.to_vec();
+        let mut expected = before.clone();
+        let wanted = stalls::evaluate(page, stall, &mut expected, cond);
+        let got = self.engine.evaluate_stall(page, stall, area, cond);
+        let op = match stall {
+            Stall::First => "evaluate_first",
+            Stall::Second => "evaluate_second",
+        };
+        let mut input = stalls_input(op, page, &before);
+        input.numbers.push(("condition", u64::from(cond)));
+        let got = got.map_err(|reason| breach(&input, reason))?;
+        same(&input, &got, &wanted)?;
+        same_numbers(&input, "area", area, &expected)?;
+        self.saw(op, wanted.map_or_else(|number| number, i32::from));
+        Ok(got)
+    }
+
+    pub fn turn(
+        &mut self,
+        page: &[u16],
+        area: &mut [u16],
+        allowance: u32,
+    ) -> Check<Result<[StallTurn; 2], TurnRefusal>> {
+        let before = area.to_vec();
+        let mut expected = before.clone();
+        let wanted = stalls::turn(page, &mut expected, allowance);
+        let got = self.engine.turn(page, area, allowance);
+        let mut input = stalls_input("turn", page, &before);
+        input.numbers.push(("allowance", u64::from(allowance)));
+        let got = got.map_err(|reason| breach(&input, reason))?;
+        same(&input, &got, &wanted)?;
+        same_numbers(&input, "area", area, &expected)?;
+        self.saw("turn", wanted.map_or_else(|refusal| refusal.number, |_| 0));
+        Ok(got)
+    }
+
     pub fn layers(&mut self, page: &[u16], slice: &mut [u16]) -> Check<Result<(), LayersRefusal>> {
         let before = slice.to_vec();
         let mut expected = before.clone();
@@ -549,6 +624,17 @@ fn drive_input<'a>(op: &'static str, page: &'a [u16], run: &'a [u16], allowance:
         op,
         slices: vec![("page", Slice::Numbers(page)), ("run", Slice::Numbers(run))],
         numbers: vec![("allowance", u64::from(allowance))],
+    }
+}
+
+fn stalls_input<'a>(op: &'static str, page: &'a [u16], area: &'a [u16]) -> Input<'a> {
+    Input {
+        op,
+        slices: vec![
+            ("page", Slice::Numbers(page)),
+            ("area", Slice::Numbers(area)),
+        ],
+        numbers: vec![],
     }
 }
 

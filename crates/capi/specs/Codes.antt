@@ -9,6 +9,7 @@ use Rattle.semantics.specs.Layers.{LayersAnswer, refusedLayers, loopsAt, layere
 use Rattle.semantics.specs.Operation.{Opening, refusedOpening, openedWith, Closing, refusedClosing, closedAfter, ClosedOf}
 use Rattle.semantics.specs.Picks.{PicksAnswer, refusedQueries, notWaiting, notAtRest, wrongFigures, acceptedPicks, picksNumber, PicksOf}
 use Rattle.semantics.specs.ReadPage.{ReadAnswer, refusedPage, readPage}
+use Rattle.semantics.specs.Stalls.{Told, TurnAnswer, refusedTurn, turned}
 use Rattle.semantics.specs.Worklist.{Status, rest, spent}
 
 -- "minus the refusal number"
@@ -140,3 +141,33 @@ pub record PicksCall (code : ℤ) (place : ℕ) (area qs picks figures : List �
   pub is : PicksOf answer area qs picks figures
   pub code-is : code ≡ picksCode answer
   pub place-is : place ≡ pickTold answer
+
+-- a turn: minus the refusal number, or 0
+abbrev pub turnCode : TurnAnswer → ℤ
+turnCode (refusedTurn k stall) = minus k
+turnCode (turned x y) = pos 0
+
+-- the stall of 14, and 0 where there is nothing to tell
+abbrev pub stallTold : TurnAnswer → ℕ
+stallTold (refusedTurn k stall) = stall
+stallTold (turned x y) = 0
+
+-- "for each stall the count taken and whether it rests", 1 or 0; a refusal leaves what was there
+pub record StallTold : Type 0 where
+  pub taken : ℕ
+  pub rest : ℕ
+
+abbrev pub restTold : Status → ℕ
+restTold rest = 1
+restTold spent = 0
+
+abbrev pub stallAs : Told → StallTold
+stallAs t = record { taken = t .count; rest = restTold (t .rests) }
+
+abbrev pub firstOr : StallTold → TurnAnswer → StallTold
+firstOr old (refusedTurn k stall) = old
+firstOr old (turned x y) = stallAs x
+
+abbrev pub secondOr : StallTold → TurnAnswer → StallTold
+secondOr old (refusedTurn k stall) = old
+secondOr old (turned x y) = stallAs y

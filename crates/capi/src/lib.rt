@@ -4,13 +4,20 @@ ghost use Prim.Native.Nat.{_+_, _≤_};
 ghost use lib.ListN.{length, take, drop};
 ghost use Rattle.semantics.specs.ReadPage.{readOf, lineOf, startOf};
 ghost use Rattle.semantics.specs.Operation.{openOf, evaluateOf, driveOf, valueOf, lineHeldOf, driveWorkspace, closedWorkspace};
-ghost use Rattle.run.specs.Answers.{statusIf, driveAnswerOf};
+ghost use Rattle.semantics.specs.Stalls.{first, second, openStall, evaluateStall, turnOf};
+ghost use Rattle.reach.specs.Opening.{openingOf};
+ghost use Rattle.run.specs.Answers.{statusIf, evaluateAnswerOf, driveAnswerOf};
+ghost use Rattle.stalls.specs.Answers.{turnAnswerOf};
 ghost use Rattle.closed.specs.Answer.{closingTold};
-ghost use Rattle.capi.specs.Codes.{minus as Codes·minus, statusCode, answerCode, takenOr, lineOr, intervalOr, openCode, countsOr, readCode, lineTold, placeTold, closedCode, roundsOr, ClosedCall, LayersCall, PicksCall};
+ghost use Rattle.capi.specs.Codes.{minus as Codes·minus, statusCode, answerCode, takenOr, lineOr, intervalOr, openCode, countsOr, readCode, lineTold, placeTold, closedCode, roundsOr, ClosedCall, LayersCall, PicksCall, restTold, turnCode, stallTold, firstOr, secondOr};
 use closed::ClosedAnswer;
 use layers::Verdict;
 use picks::Checked;
+use reach::OpenAnswer;
 use run::DriveAnswer;
+use run::EvaluateAnswer;
+use stalls::Stall;
+use stalls::TurnAnswer;
 
 // Minus the number of a refusal.
 fn minus(number: u8) -> i32
@@ -71,6 +78,34 @@ pub extern "C" fn simjorad_show_line(text: &[u8], number: usize, start: &mut usi
     span.end - span.start
 }
 
+// What an opening answers: 0, or minus a refusal; the counts are told unless it is refused.
+fn open_code(
+    answer: OpenAnswer,
+    reached: &mut u32,
+    edges: &mut u32,
+    bound: &mut u32,
+    passes: &mut u32,
+) -> i32
+    ensures code { λ r. ⌜ r ≡ openCode (openingOf answer) ⌝ }
+    ensures counts { λ _. ⌜ record { reached = now (reached .exit); edges = now (edges .exit); bound = now (bound .exit); passes = now (passes .exit) } ≡ countsOr (record { reached = now (reached .entry); edges = now (edges .entry); bound = now (bound .entry); passes = now (passes .entry) }) (openingOf answer) ⌝ }
+{
+    match answer {
+        OpenAnswer::Refused(k) => minus(k),
+        OpenAnswer::Opened {
+            reached: r,
+            edges: e,
+            bound: b,
+            passes: k,
+        } => {
+            *reached = r;
+            *edges = e;
+            *bound = b;
+            *passes = k;
+            0
+        }
+    }
+}
+
 // Open a run: 0, or minus 10, 11, 12 or 13.
 #[no_mangle]
 pub extern "C" fn simjorad_open(
@@ -87,20 +122,17 @@ pub extern "C" fn simjorad_open(
     ensures counts { λ _. ⌜ record { reached = now (reached .exit); edges = now (edges .exit); bound = now (bound .exit); passes = now (passes .exit) } ≡ countsOr (record { reached = now (reached .entry); edges = now (edges .entry); bound = now (bound .entry); passes = now (passes .entry) }) (openOf (now (page .entry)) (now (queries .entry)) (now (run .entry)) .answer) ⌝ }
 {
     let answer = reach::open_run(page, queries, run);
+    open_code(answer, reached, edges, bound, passes)
+}
+
+// What an evaluation answers: 1 changed, 0 unchanged, or minus a refusal.
+fn evaluate_code(answer: EvaluateAnswer) -> i32
+    ensures { λ r. ⌜ r ≡ answerCode (evaluateAnswerOf answer) ⌝ }
+{
     match answer {
-        reach::OpenAnswer::Refused(k) => minus(k),
-        reach::OpenAnswer::Opened {
-            reached: r,
-            edges: e,
-            bound: b,
-            passes: k,
-        } => {
-            *reached = r;
-            *edges = e;
-            *bound = b;
-            *passes = k;
-            0
-        }
+        EvaluateAnswer::Refused(k) => minus(k),
+        EvaluateAnswer::Unchanged(_) => 0,
+        EvaluateAnswer::Changed(_) => 1,
     }
 }
 
@@ -111,11 +143,7 @@ pub extern "C" fn simjorad_evaluate(page: &[u16], run: &mut [u16], condition: u3
     ensures area { λ _. ⌜ now (run .exit) ≡ evaluateOf (now (page .entry)) (now (run .entry)) condition .run ⌝ }
 {
     let answer = run::evaluate(page, run, condition);
-    match answer {
-        run::EvaluateAnswer::Refused(k) => minus(k),
-        run::EvaluateAnswer::Unchanged(_) => 0,
-        run::EvaluateAnswer::Changed(_) => 1,
-    }
+    evaluate_code(answer)
 }
 
 // What a drive answers: 1 rest, 0 spent, or minus a refusal; the count and the line are told unless it is refused.
@@ -302,4 +330,131 @@ pub extern "C" fn simjorad_check_picks(
         Checked::WrongFigures => minus(52),
         Checked::Accepted => 0,
     }
+}
+
+// Open the first stall's run: 0, or minus 10, 60, 11 or 12.
+#[no_mangle]
+pub extern "C" fn simjorad_open_first(
+    page: &[u16],
+    area: &mut [u16],
+    queries: &[u16],
+    reached: &mut u32,
+    edges: &mut u32,
+    bound: &mut u32,
+    passes: &mut u32,
+) -> i32
+    ensures code { λ r. ⌜ r ≡ openCode (openStall (now (page .entry)) first (now (queries .entry)) (now (area .entry)) .answer) ⌝ }
+    ensures area { λ _. ⌜ now (area .exit) ≡ openStall (now (page .entry)) first (now (queries .entry)) (now (area .entry)) .run ⌝ }
+    ensures counts { λ _. ⌜ record { reached = now (reached .exit); edges = now (edges .exit); bound = now (bound .exit); passes = now (passes .exit) } ≡ countsOr (record { reached = now (reached .entry); edges = now (edges .entry); bound = now (bound .entry); passes = now (passes .entry) }) (openStall (now (page .entry)) first (now (queries .entry)) (now (area .entry)) .answer) ⌝ }
+{
+    let answer = stalls::open_stall(page, Stall::First, area, queries);
+    open_code(answer, reached, edges, bound, passes)
+}
+
+// Open the second stall's run: 0, or minus 10, 60, 11 or 12.
+#[no_mangle]
+pub extern "C" fn simjorad_open_second(
+    page: &[u16],
+    area: &mut [u16],
+    queries: &[u16],
+    reached: &mut u32,
+    edges: &mut u32,
+    bound: &mut u32,
+    passes: &mut u32,
+) -> i32
+    ensures code { λ r. ⌜ r ≡ openCode (openStall (now (page .entry)) second (now (queries .entry)) (now (area .entry)) .answer) ⌝ }
+    ensures area { λ _. ⌜ now (area .exit) ≡ openStall (now (page .entry)) second (now (queries .entry)) (now (area .entry)) .run ⌝ }
+    ensures counts { λ _. ⌜ record { reached = now (reached .exit); edges = now (edges .exit); bound = now (bound .exit); passes = now (passes .exit) } ≡ countsOr (record { reached = now (reached .entry); edges = now (edges .entry); bound = now (bound .entry); passes = now (passes .entry) }) (openStall (now (page .entry)) second (now (queries .entry)) (now (area .entry)) .answer) ⌝ }
+{
+    let answer = stalls::open_stall(page, Stall::Second, area, queries);
+    open_code(answer, reached, edges, bound, passes)
+}
+
+// Evaluate a condition of the first stall: 1 changed, 0 unchanged, or minus 10, 60, 14, 15 or 16.
+#[no_mangle]
+pub extern "C" fn simjorad_evaluate_first(page: &[u16], area: &mut [u16], condition: u32) -> i32
+    ensures code { λ r. ⌜ r ≡ answerCode (evaluateStall (now (page .entry)) first (now (area .entry)) condition .answer) ⌝ }
+    ensures area { λ _. ⌜ now (area .exit) ≡ evaluateStall (now (page .entry)) first (now (area .entry)) condition .run ⌝ }
+{
+    let answer = stalls::evaluate_stall(page, Stall::First, area, condition);
+    evaluate_code(answer)
+}
+
+// Evaluate a condition of the second stall: 1 changed, 0 unchanged, or minus 10, 60, 14, 15 or 16.
+#[no_mangle]
+pub extern "C" fn simjorad_evaluate_second(page: &[u16], area: &mut [u16], condition: u32) -> i32
+    ensures code { λ r. ⌜ r ≡ answerCode (evaluateStall (now (page .entry)) second (now (area .entry)) condition .answer) ⌝ }
+    ensures area { λ _. ⌜ now (area .exit) ≡ evaluateStall (now (page .entry)) second (now (area .entry)) condition .run ⌝ }
+{
+    let answer = stalls::evaluate_stall(page, Stall::Second, area, condition);
+    evaluate_code(answer)
+}
+
+// 1 if a stall rests, 0 if not.
+fn rest_told(rest: bool) -> u32
+    ensures { λ r. ⌜ r ≡ restTold (statusIf rest) ⌝ }
+{
+    if rest {
+        return 1;
+    }
+    0
+}
+
+// What a turn answers: 0, or minus a refusal with the stall, 0 where there is none; the counts are told unless it is refused.
+fn turn_code(
+    answer: TurnAnswer,
+    taken_first: &mut u32,
+    rest_first: &mut u32,
+    taken_second: &mut u32,
+    rest_second: &mut u32,
+    stall: &mut u32,
+) -> i32
+    ensures code { λ r. ⌜ r ≡ turnCode (turnAnswerOf answer) ⌝ }
+    ensures first { λ _. ⌜ record { taken = now («taken_first» .exit); rest = now («rest_first» .exit) } ≡ firstOr (record { taken = now («taken_first» .entry); rest = now («rest_first» .entry) }) (turnAnswerOf answer) ⌝ }
+    ensures second { λ _. ⌜ record { taken = now («taken_second» .exit); rest = now («rest_second» .exit) } ≡ secondOr (record { taken = now («taken_second» .entry); rest = now («rest_second» .entry) }) (turnAnswerOf answer) ⌝ }
+    ensures stall { λ _. ⌜ now (stall .exit) ≡ stallTold (turnAnswerOf answer) ⌝ }
+{
+    match answer {
+        TurnAnswer::Refused { number, stall: s } => {
+            *stall = s as u32;
+            minus(number)
+        }
+        TurnAnswer::Turned { first, second } => {
+            *taken_first = first.taken;
+            *rest_first = rest_told(first.rest);
+            *taken_second = second.taken;
+            *rest_second = rest_told(second.rest);
+            *stall = 0;
+            0
+        }
+    }
+}
+
+// A turn of both stalls: 0, or minus 10, 60 or 14.
+#[no_mangle]
+pub extern "C" fn simjorad_turn(
+    page: &[u16],
+    area: &mut [u16],
+    allowance: u32,
+    taken_first: &mut u32,
+    rest_first: &mut u32,
+    taken_second: &mut u32,
+    rest_second: &mut u32,
+    stall: &mut u32,
+) -> i32
+    ensures code { λ r. ⌜ r ≡ turnCode (turnOf (now (page .entry)) (now (area .entry)) allowance .answer) ⌝ }
+    ensures area { λ _. ⌜ now (area .exit) ≡ turnOf (now (page .entry)) (now (area .entry)) allowance .area ⌝ }
+    ensures first { λ _. ⌜ record { taken = now («taken_first» .exit); rest = now («rest_first» .exit) } ≡ firstOr (record { taken = now («taken_first» .entry); rest = now («rest_first» .entry) }) (turnOf (now (page .entry)) (now (area .entry)) allowance .answer) ⌝ }
+    ensures second { λ _. ⌜ record { taken = now («taken_second» .exit); rest = now («rest_second» .exit) } ≡ secondOr (record { taken = now («taken_second» .entry); rest = now («rest_second» .entry) }) (turnOf (now (page .entry)) (now (area .entry)) allowance .answer) ⌝ }
+    ensures stall { λ _. ⌜ now (stall .exit) ≡ stallTold (turnOf (now (page .entry)) (now (area .entry)) allowance .answer) ⌝ }
+{
+    let answer = stalls::turn(page, area, allowance);
+    turn_code(
+        answer,
+        taken_first,
+        rest_first,
+        taken_second,
+        rest_second,
+        stall,
+    )
 }

@@ -125,13 +125,21 @@ module _ (a run₀ : List ℕ) (allowance : ℕ) where
       pub driving-rests : conditionsOf a ≤ c → Stopped a run₀ allowance run values taken true c₀ low₀ high₀
       driving-rests l =
           let e = rest-of a run low l in
-          record { ready = ready b; answers = λ line f. ends (driven-none page m (worklistOf page run) (allowance - taken) e) (ap statusAs e) (line-is f) }
+          let n = driven-none page m (worklistOf page run) (allowance - taken) e in
+          record {
+            ready = ready b;
+            drives = record { line = s .told; answered = ends n (ap statusAs e) refl };
+            answers = λ line f. ends n (ap statusAs e) (line-is f);
+          }
 
       pub driving-spends : c < conditionsOf a → allowance ≤ taken → Stopped a run₀ allowance run values taken false c₀ low₀ high₀
       driving-spends l k =
+          let n = driven-spent page m (worklistOf page run) (allowance - taken) (omega arith) in
+          let e = waits-of a run low l in
           record {
             ready = ready b;
-            answers = λ line f. ends (driven-spent page m (worklistOf page run) (allowance - taken) (omega arith)) (ap statusAs (waits-of a run low l)) (line-is f);
+            drives = record { line = s .told; answered = ends n (ap statusAs e) refl };
+            answers = λ line f. ends n (ap statusAs e) (line-is f);
           }
 
     module _ (l : c < conditionsOf a) where

@@ -46,3 +46,8 @@ driveAnswerOf (driven.Spent k l) = drove k l spent
 pub record Answered (left : Left) (answer : Answer) (run : List ℕ) : Type 0 where
   pub answer-is : answer ≡ left .answer
   pub run-is : run ≡ left .run
+
+-- a drive takes so many evaluations, is then at rest or not, and leaves the run area so, whichever line it tells
+pub record Drives (left : Left) (taken : ℕ) (rest : Bool) (run : List ℕ) : Type 0 where
+  pub line : ℕ
+  pub answered : Answered left (drove taken line (statusIf rest)) run

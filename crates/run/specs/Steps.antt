@@ -11,7 +11,7 @@ use Rattle.semantics.specs.Operation.{driveOf}
 use Rattle.semantics.specs.RunArea.{intervalAt, runSound}
 use Rattle.value.specs.Table.{EndTable}
 use Rattle.step.specs.Before.{ToldBefore}
-use Rattle.run.specs.Answers.{Answered, statusIf}
+use Rattle.run.specs.Answers.{Answered, Drives, statusIf}
 
 -- after so many evaluations the table holds the run area, and the last, if there is one, was of a condition c that held the grades low and high
 pub record Ready (a run values : List ℕ) (taken c low high : ℕ) : Type 0 where
@@ -28,7 +28,8 @@ pub record LastLine (a run : List ℕ) (taken c low high line : ℕ) : Type 0 wh
   pub none : taken ≡ 0 → line ≡ 0
   pub some : 0 < taken → ToldBefore a run c low high line
 
--- a drive stops: with the line of the last evaluation the answer is the operation's, and so is the run area
+-- a drive stops: the count, the rest and the run area are the operation's, and with the line of the last evaluation so is the answer
 pub record Stopped (a run : List ℕ) (allowance : ℕ) (run′ values′ : List ℕ) (taken : ℕ) (rest : Bool) (c low high : ℕ) : Type 0 where
   pub ready : Ready a run′ values′ taken c low high
+  pub drives : Drives (driveOf a run allowance) taken rest run′
   pub answers : (line : ℕ) → LastLine a run′ taken c low high line → Answered (driveOf a run allowance) (drove taken line (statusIf rest)) run′

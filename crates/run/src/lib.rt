@@ -1,7 +1,7 @@
 // The operations Evaluate, Drive, Value and Line held.
 ghost use mathlib.Core.Path.{_≡_};
 ghost use mathlib.Core.Bool.{true};
-ghost use Prim.Native.Nat.{_<_};
+ghost use Prim.Native.Nat.{_*_, _≤_, _<_};
 ghost use lib.ListN.{length};
 ghost use Rattle.semantics.specs.Area.{sound, pageOf, conditionsOf};
 ghost use Rattle.semantics.specs.Operation.{evaluateOf, driveOf, valueOf, lineHeldOf, driveWorkspace, indexLength};
@@ -10,7 +10,7 @@ ghost use Rattle.semantics.specs.Worklist.{holder};
 ghost use Rattle.index.specs.Parts.{MaybeLines, MaybeUsers};
 ghost use Rattle.worklist.specs.Evaluation.{Evaluated};
 ghost use Rattle.worklist.specs.Waiting.{WordsMatch};
-ghost use Rattle.run.specs.Answers.{Answered, evaluateAnswerOf, valueAnswerOf, lineAnswerOf, driveAnswerOf};
+ghost use Rattle.run.specs.Answers.{Answered, Drives, evaluateAnswerOf, valueAnswerOf, lineAnswerOf, driveAnswerOf};
 ghost use Rattle.run.specs.Steps.{Ready, LastLine, Stopped};
 ghost use Rattle.step.specs.Beside.{Beside};
 use step::Before;
@@ -43,13 +43,11 @@ fn evaluate_waiting(page: &[u16], run: &mut [u16], c: u16) -> Told
     Told { changed, line }
 }
 
-// Evaluate: 10 page area not sound, 14 run area too short or not sound, 15 condition C or more, 16 it is not waiting.
-pub fn evaluate(page: &[u16], run: &mut [u16], condition: u32) -> EvaluateAnswer
+// Evaluate on a page that is sound: 14 run area too short or not sound, 15 condition C or more, 16 it is not waiting.
+pub fn evaluate_sound(page: &[u16], run: &mut [u16], condition: u32) -> EvaluateAnswer
+    requires { ⌜ sound (now page) ≡ true ⌝ }
     ensures { λ r. ⌜ Answered (evaluateOf (now (page .entry)) (now (run .entry)) condition) (evaluateAnswerOf r) (now (run .exit)) ⌝ }
 {
-    if !page::page_sound(page) {
-        return EvaluateAnswer::Refused(10);
-    }
     if !worklist::run_sound(page, run) {
         return EvaluateAnswer::Refused(14);
     }
@@ -66,6 +64,16 @@ pub fn evaluate(page: &[u16], run: &mut [u16], condition: u32) -> EvaluateAnswer
         return EvaluateAnswer::Changed(told.line);
     }
     EvaluateAnswer::Unchanged(told.line)
+}
+
+// Evaluate: 10 page area not sound, then as on a page that is sound.
+pub fn evaluate(page: &[u16], run: &mut [u16], condition: u32) -> EvaluateAnswer
+    ensures { λ r. ⌜ Answered (evaluateOf (now (page .entry)) (now (run .entry)) condition) (evaluateAnswerOf r) (now (run .exit)) ⌝ }
+{
+    if !page::page_sound(page) {
+        return EvaluateAnswer::Refused(10);
+    }
+    evaluate_sound(page, run, condition)
 }
 
 // What a value call answers: the number of a refusal, or the interval held and whether the whole run is at rest.
@@ -203,7 +211,25 @@ fn last_line(a: &[u16], run: &[u16], values: &mut [u8], taken: u32, before: Befo
     step::line_told(a, run, values, before)
 }
 
-// A drive that nothing refuses: the table and the set are made of the run area, then the evaluations are taken.
+// The table and the set are made of the run area, then the evaluations are taken.
+fn drive_filled(
+    a: &[u16],
+    lines: &[u16],
+    users: &[u16],
+    run: &mut [u16],
+    values: &mut [u8],
+    allowance: u32,
+) -> Steps
+    requires { ⌜ (sound (now a) ≡ true) × (runSound (pageOf (now a)) (now run) ≡ true) × MaybeLines (now a) (now lines) × MaybeUsers (now a) (now users) × (2 * conditionsOf (now a) ≤ length (now values)) ⌝ }
+    ensures { λ r. ⌜ Stopped (now (a .entry)) (now (run .entry)) allowance (now (run .exit)) (now (values .exit)) (r .taken) (r .rest) (r .before .condition) (r .before .low) (r .before .high) ⌝ }
+{
+    let mut words = [0u64; 8];
+    ends::fill(run, a[1], a[0], values);
+    worklist::fill_words(run, a[1], &mut words);
+    drive_steps(a, lines, users, run, &mut words, values, allowance)
+}
+
+// A drive that nothing refuses.
 fn drive_over(
     a: &[u16],
     lines: &[u16],
@@ -214,17 +240,34 @@ fn drive_over(
     requires { ⌜ (sound (now a) ≡ true) × (runSound (pageOf (now a)) (now run) ≡ true) × MaybeLines (now a) (now lines) × MaybeUsers (now a) (now users) ⌝ }
     ensures { λ r. ⌜ Answered (driveOf (now (a .entry)) (now (run .entry)) allowance) (driveAnswerOf r) (now (run .exit)) ⌝ }
 {
-    let mut words = [0u64; 8];
     let mut values = [0u8; 1024];
-    ends::fill(run, a[1], a[0], &mut values);
-    worklist::fill_words(run, a[1], &mut words);
-    let steps = drive_steps(a, lines, users, run, &mut words, &mut values, allowance);
+    let steps = drive_filled(a, lines, users, run, &mut values, allowance);
     let taken = steps.taken;
     let line = last_line(a, run, &mut values, taken, steps.before);
     if steps.rest {
         return DriveAnswer::Rest { taken, line };
     }
     DriveAnswer::Spent { taken, line }
+}
+
+// What a drive takes, and whether the run is then at rest.
+pub struct Drove {
+    pub taken: u32,
+    pub rest: bool,
+}
+
+// A drive that nothing refuses and that tells no line.
+pub fn drive_counted(page: &[u16], run: &mut [u16], allowance: u32) -> Drove
+    requires { ⌜ (sound (now page) ≡ true) × (runSound (pageOf (now page)) (now run) ≡ true) ⌝ }
+    ensures { λ r. ⌜ Drives (driveOf (now (page .entry)) (now (run .entry)) allowance) (r .taken) (r .rest) (now (run .exit)) ⌝ }
+{
+    let mut values = [0u8; 1024];
+    let none = &page[0..0];
+    let steps = drive_filled(page, none, none, run, &mut values, allowance);
+    Drove {
+        taken: steps.taken,
+        rest: steps.rest,
+    }
 }
 
 // The same with an index, which is built in the workspace.

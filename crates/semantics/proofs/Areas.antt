@@ -36,6 +36,10 @@ unfolding cells
 length-cells zero k I mk = omega arith
 length-cells (suc n) k I mk = omega (arith, length-cells n (suc k) I mk)
 
+pub length-run : (page : Page) (m : List Bool) (b : Worklist) → length (runOf page m b) ≡ 3 * page .conditions
+unfolding runOf
+length-run page m b = length-cells (page .conditions) 0 _ _
+
 three : (i : ℕ) → 3 * suc i ≡ suc (suc (suc (3 * i)))
 three i = omega arith
 
@@ -120,10 +124,6 @@ module _ (page : Page) (m : List Bool) (b : Worklist) (h : Encodable page m b) (
   unfolding runOf
   mark-is c l = mark-cell n (intervalOf (b .intervals)) (λ c. markOf (member (b .waiting) c) (member m c)) z c l
 
-  length-run : length (runOf page m b) ≡ 3 * n
-  unfolding runOf
-  length-run = length-cells n 0 _ _
-
   pub state-back : worklistOf page r ≡ b
   unfolding worklistOf
   state-back = λ i. record { intervals = p i; waiting = q i }
@@ -152,11 +152,11 @@ module _ (page : Page) (m : List Bool) (b : Worklist) (h : Encodable page m b) (
   pub area-sound : runSound page r ≡ true
   unfolding runSound
   area-sound =
-      rw (le-leb (3 * n) (length r) (omega (arith, length-append (runOf page m b) z, length-run)))
+      rw (le-leb (3 * n) (length r) (omega (arith, length-append (runOf page m b) z, length-run page m b)))
       (all-true n _ cell-ok)
 
   pub rest-back : drop (3 * n) r ≡ z
-  rest-back = drop-at (runOf page m b) z (3 * n) length-run
+  rest-back = drop-at (runOf page m b) z (3 * n) (length-run page m b)
 
 -- the states of a run opened with the queries qs are such states
 module _ (page : Page) (w : Proper page) (qs : List ℕ) where

@@ -73,7 +73,7 @@ module _ (a : List ℕ) (ok : sound a ≡ true) (qs : List ℕ) where
   w = sound-proper a ok
 
   -- one call on an area that holds the book
-  one : (b : Worklist) (t : ℕ) → State page w qs b t → (z : List ℕ) (c : Call)
+  pub one : (b : Worklist) (t : ℕ) → State page w qs b t → (z : List ℕ) (c : Call)
       → operation a (runOf page (closure page qs) b ++ z) c
       ≡ record { answer = outcome page (closure page qs) b c .answer; run = runOf page (closure page qs) (outcome page (closure page qs) b c .state) ++ z }
   unfolding operation

@@ -84,3 +84,10 @@ pub mod LayersBench
 pub mod Picks
 pub mod PicksRows
 pub mod PicksBench
+-- ticket 11: what the split of a turn gives, the parts of the shared area, a turn, and demand 3 for one stall's own part
+pub mod StallsSplit
+pub mod StallsParts
+pub mod StallsTurn
+pub mod StallsDemand
+pub mod StallsRows
+pub mod StallsBench

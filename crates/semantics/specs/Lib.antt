@@ -34,3 +34,6 @@ pub mod Output
 pub mod Layers
 -- document 02, ticket 9: checking the picks of a simulator
 pub mod Picks
+-- document 02, ticket 11: two stalls on one page, and demand 3 for one stall's own part
+pub mod Stalls
+pub mod StallsDemand

@@ -14,6 +14,7 @@ mod refusals;
 mod rows;
 mod runs;
 pub mod stack;
+mod stalls;
 mod thresholds;
 
 use crate::runner::Case;
@@ -37,6 +38,7 @@ pub fn calls() -> Vec<Case> {
     cases.extend(cover::cases());
     cases.extend(layers::cases());
     cases.extend(picks::cases());
+    cases.extend(stalls::cases());
     cases.extend(thresholds::cases());
     cases.extend(lists::cases());
     cases.extend(large::cases());

@@ -12,6 +12,7 @@ use crate::page::Page;
 use crate::plain;
 use crate::runner::Case;
 use crate::stack::{header_figure, Stack, STANDIN_STACK};
+use crate::stalls::{self, shared_length, Stall, STALLS};
 use crate::trial::{figure, Check, Trial};
 use crate::workspace;
 
@@ -60,8 +61,13 @@ static CLOSED: Function = function("SIMJORAD_STACK_CLOSED", 2048);
 static CLOSED_INDEXED: Function = function("SIMJORAD_STACK_CLOSED_INDEXED", 3072);
 static LAYERS: Function = function("SIMJORAD_STACK_LAYERS", 2048);
 static CHECK_PICKS: Function = function("SIMJORAD_STACK_CHECK_PICKS", 2048);
+static OPEN_FIRST: Function = function("SIMJORAD_STACK_OPEN_FIRST", 2048);
+static OPEN_SECOND: Function = function("SIMJORAD_STACK_OPEN_SECOND", 2048);
+static EVALUATE_FIRST: Function = function("SIMJORAD_STACK_EVALUATE_FIRST", 2048);
+static EVALUATE_SECOND: Function = function("SIMJORAD_STACK_EVALUATE_SECOND", 2048);
+static TURN: Function = function("SIMJORAD_STACK_TURN", 2048);
 
-static FUNCTIONS: [&Function; 12] = [
+static FUNCTIONS: [&Function; 17] = [
     &READ,
     &SHOW_LINE,
     &OPEN,
@@ -74,6 +80,11 @@ static FUNCTIONS: [&Function; 12] = [
     &CLOSED_INDEXED,
     &LAYERS,
     &CHECK_PICKS,
+    &OPEN_FIRST,
+    &OPEN_SECOND,
+    &EVALUATE_FIRST,
+    &EVALUATE_SECOND,
+    &TURN,
 ];
 
 /// Evaluations of a drive.
@@ -114,7 +125,7 @@ struct Lent {
     area: Vec<u16>,
     answers: Vec<u16>,
     workspace: Vec<u16>,
-    outs: [u64; 4],
+    outs: [u64; 5],
 }
 
 impl Lent {
@@ -268,6 +279,36 @@ impl Bench<'_> {
         self.call(&CHECK_PICKS, Call::CheckPicks.function(), lent, |lent| {
             let slices = [lent.page(), lent.queries(), lent.area(), lent.answers()];
             [slices.concat(), lent.out(0)].concat()
+        })
+    }
+
+    fn open_stall(&mut self, lent: &Lent, stall: Stall) -> Check<i32> {
+        let (function, call) = match stall {
+            Stall::First => (&OPEN_FIRST, Call::OpenFirst),
+            Stall::Second => (&OPEN_SECOND, Call::OpenSecond),
+        };
+        self.call(function, call.function(), lent, |lent| {
+            let slices = [lent.page(), lent.area(), lent.queries()].concat();
+            let outs = [lent.out(0), lent.out(1), lent.out(2), lent.out(3)].concat();
+            [slices, outs].concat()
+        })
+    }
+
+    fn evaluate_stall(&mut self, lent: &Lent, stall: Stall, cond: usize) -> Check<i32> {
+        let (function, call) = match stall {
+            Stall::First => (&EVALUATE_FIRST, Call::EvaluateFirst),
+            Stall::Second => (&EVALUATE_SECOND, Call::EvaluateSecond),
+        };
+        self.call(function, call.function(), lent, |lent| {
+            [lent.page(), lent.area(), vec![cond]].concat()
+        })
+    }
+
+    fn turn(&mut self, lent: &Lent) -> Check<i32> {
+        self.call(&TURN, Call::Turn.function(), lent, |lent| {
+            let outs = [lent.out(0), lent.out(1), lent.out(2), lent.out(3)].concat();
+            let slices = [lent.page(), lent.area(), vec![ALLOWANCE]].concat();
+            [slices, outs, lent.out(4)].concat()
         })
     }
 
@@ -446,6 +487,49 @@ impl Bench<'_> {
         figure("check_picks", self.check_picks(&lent)?, -PAGE_UNSOUND)
     }
 
+    /// Both stalls opened, evaluated and turned, and refused for each cause.
+    fn stalled(&mut self, good: &Lent) -> Check {
+        let mut lent = good.clone();
+        let waiting = usize::from(good.queries[0]);
+        for stall in STALLS {
+            figure("open_stall", self.open_stall(&lent, stall)?, 0)?;
+            let opened = stalls::open(&good.page, stall, &mut lent.area, &good.queries);
+            figure("the opening's success", opened.is_ok(), true)?;
+        }
+        figure("turn", self.turn(&lent)?, 0)?;
+        for stall in STALLS {
+            for cond in 0..512 {
+                if lent.area[3 * cond + 2] == 2 {
+                    let code = self.evaluate_stall(&lent, stall, cond)?;
+                    figure("evaluate_stall", code >= 0, true)?;
+                }
+            }
+            let code = self.evaluate_stall(&lent, stall, 512)?;
+            figure("evaluate_stall", code, -CONDITION_RANGE)?;
+            let mut bad = lent.clone();
+            bad.area[stall.part(512)][3 * waiting + 2] = 1;
+            let code = self.evaluate_stall(&bad, stall, waiting)?;
+            figure("evaluate_stall", code, -NOT_WAITING)?;
+            bad.area[stall.part(512)][3 * 511 + 1] = 201;
+            let code = self.evaluate_stall(&bad, stall, waiting)?;
+            figure("evaluate_stall", code, -RUN_UNSOUND)?;
+            figure("turn", self.turn(&bad)?, -RUN_UNSOUND)?;
+            bad.queries[15] = 512;
+            figure("open_stall", self.open_stall(&bad, stall)?, -QUERY_RANGE)?;
+            bad.queries.clear();
+            figure("open_stall", self.open_stall(&bad, stall)?, -QUERY_COUNT)?;
+            bad.area.truncate(shared_length(512) - 1);
+            for number in [SHARED_SHORT, PAGE_UNSOUND] {
+                figure("open_stall", self.open_stall(&bad, stall)?, -number)?;
+                let code = self.evaluate_stall(&bad, stall, waiting)?;
+                figure("evaluate_stall", code, -number)?;
+                figure("turn", self.turn(&bad)?, -number)?;
+                bad.page.pop();
+            }
+        }
+        Ok(())
+    }
+
     fn workspace_lengths(&self, lent: &Lent) -> [usize; 4] {
         let needed = workspace::needed(&lent.page);
         [0, needed - 1, needed, workspace::WORKSPACE_MAX]
@@ -498,5 +582,7 @@ fn on_a_large_page(trial: &mut Trial, item: u64) -> Check {
     lent.area = vec![7; 512];
     bench.layered(&lent)?;
     bench.picked(&lent, &page)?;
+    lent.area = vec![7; shared_length(512)];
+    bench.stalled(&lent)?;
     bench.over
 }
