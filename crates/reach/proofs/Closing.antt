@@ -19,11 +19,10 @@ use Rattle.semantics.specs.Table.{member, listed}
 use Rattle.semantics.proofs.Closure.{closure-length, reached-sound, reached-closed, reached-real, reached-complete}
 use Rattle.semantics.proofs.Readings.{names-inside}
 use Rattle.semantics.proofs.Soundness.{both-true}
-use Rattle.semantics.proofs.Table.{or-cases}
+use Rattle.semantics.proofs.Table.{or-cases, iff-eq}
 use Rattle.bits.specs.Words.{has}
 use Rattle.index.specs.Groups.{Cleared}
 use Rattle.reach.specs.Sets.{Joins, ClosureSet, Swept}
-use Rattle.reach.proofs.Naming.{iff-eq}
 use Rattle.reach.proofs.Visiting.{blank-none}
 
 -- queries are conditions

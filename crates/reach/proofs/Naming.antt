@@ -1,5 +1,5 @@
 -- What the queries and the literals still to come name, in the code's own terms. Assumes nothing.
-use mathlib.Core.Path.{_≡_, refl, sym, ap}
+use mathlib.Core.Path.{_≡_, refl, ap}
 use mathlib.Core.Bool.{Bool, true, false, cond, _&&_, _||_}
 use mathlib.Core.List.{List, [], _∷_, map}
 use Prim.Native.Nat.{ℕ, zero, suc, _+_, _-_, _/_, _%_, _≤_, _<_}
@@ -68,8 +68,3 @@ module _ (a : List ℕ) (x b : ℕ) where
   pub mentions-none : (r : ℕ) → r ≡ 0 → mentions (map literalOf (take r (drop x a))) b ≡ false
   unfolding mentions
   mentions-none r e = rw e
-
-pub iff-eq : (a b : Bool) → (a ≡ true → b ≡ true) → (b ≡ true → a ≡ true) → a ≡ b
-iff-eq true b f g = sym (f refl)
-iff-eq false true f g = g refl
-iff-eq false false f g = refl

@@ -73,3 +73,7 @@ pub mod Exactness
 pub mod ExactnessNeeds
 pub mod LayersRows
 pub mod LayersBench
+-- ticket 12: the followers of a condition, and the call's one answer
+pub mod Followers
+pub mod FollowersRows
+pub mod FollowersBench
