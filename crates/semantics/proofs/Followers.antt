@@ -14,6 +14,7 @@ use Rattle.semantics.specs.Area.{sound, pageOf}
 use Rattle.semantics.specs.Call.{cause, firstOf}
 use Rattle.semantics.specs.Page.{Page, names}
 use Rattle.semantics.proofs.Proper.{Proper}
+use Rattle.semantics.proofs.Readings.{names-inside}
 use Rattle.semantics.proofs.Soundness.{sound-proper}
 use Rattle.semantics.proofs.Table.{iff-eq}
 use Rattle.semantics.specs.Layers.{Chain, empty, name, negate, Loops}
@@ -38,16 +39,24 @@ pub loop-follows : {page : Page} {c : ℕ} → Loops page c → Follows page c c
 loop-follows r = loop-begins r refl
 
 -- a set that holds c, and whoever names one of it, holds each condition that a chain leads from to c
-pub set-chain : {page : Page} (s : ℕ → Bool) → ((a b : ℕ) → s b ≡ true → names page a b ≡ true → s a ≡ true) → {a c : ℕ} {t : Bool} → s c ≡ true → Chain page a c t → s a ≡ true
-set-chain s g h empty = h
-set-chain s g h (name {a = a} {b = b} e r) = g a b (set-chain s g h r) e
-set-chain {page} s g h (negate {a = a} {b = b} e r) = g a b (set-chain s g h r) (negates-names page a b e)
+pub set-chain : {page : Page} → Proper page → (t : ℕ → Bool) → ((a b : ℕ) → a < page .conditions → b < page .conditions → t b ≡ true → names page a b ≡ true → t a ≡ true)
+    → {a c : ℕ} {u : Bool} → t c ≡ true → Chain page a c u → t a ≡ true
+set-chain w t g h empty = h
+set-chain {page} w t g h (name {a = a} {b = b} e r) = g a b (namer-inside page w a b e) (names-inside page w a b e) (set-chain w t g h r) e
+set-chain {page} w t g h (negate {a = a} {b = b} e r) =
+    let f = negates-names page a b e in
+    g a b (namer-inside page w a b f) (names-inside page w a b f) (set-chain w t g h r) f
 
--- so two sets, t being s with c, are the followers of c where s holds only such, and whoever names one of t: the set is s, however it was found
-pub set-exactly : {page : Page} (c : ℕ) (s t : ℕ → Bool) → ((a : ℕ) → a < page .conditions → s a ≡ true → Follows page a c) → t c ≡ true → ((a : ℕ) → s a ≡ true → t a ≡ true)
-    → ((a b : ℕ) → t b ≡ true → names page a b ≡ true → s a ≡ true) → (a : ℕ) → a < page .conditions → (s a ≡ true) ↔ Follows page a c
-set-exactly c s t only start in-t closed a l =
-    (only a l, λ f. closed a (f .next) (set-chain t (λ x y p q. in-t x (closed x y p q)) start (f .chain)) (f .step))
+-- so, with t for s and c together: where s holds only followers of c, and whoever names one of t, it is the set of the followers, however it was
+-- found
+pub set-exactly : {page : Page} → Proper page → (c : ℕ) (s t : ℕ → Bool) → ((a : ℕ) → a < page .conditions → s a ≡ true → Follows page a c) → t c ≡ true
+    → ((a : ℕ) → a < page .conditions → s a ≡ true → t a ≡ true)
+    → ((a b : ℕ) → a < page .conditions → b < page .conditions → t b ≡ true → names page a b ≡ true → s a ≡ true)
+    → (a : ℕ) → a < page .conditions → (s a ≡ true) ↔ Follows page a c
+set-exactly {page} w c s t only start in-t closed a l = (
+  only a l,
+  λ f. closed a (f .next) l (names-inside page w a (f .next) (f .step)) (set-chain w t (λ x y m o p q. in-t x m (closed x y m o p q)) start (f .chain)) (f .step),
+)
 
 -- the count is one
 pub count-one : {page : Page} {c j k : ℕ} → FollowerCount page c j → FollowerCount page c k → j ≡ k
