@@ -12,7 +12,7 @@
 #include <string.h>
 #include "simjorad.h"
 
-enum { READ, SHOW_LINE, OPEN, EVALUATE, DRIVE, DRIVE_INDEXED, VALUE, LINE, CLOSED, CLOSED_INDEXED, LAYERS, FUNCTIONS };
+enum { READ, SHOW_LINE, OPEN, EVALUATE, DRIVE, DRIVE_INDEXED, VALUE, LINE, CLOSED, CLOSED_INDEXED, LAYERS, FOLLOWERS, FUNCTIONS };
 enum { SLICES = 5, OUTS = 4 };
 
 /* What a call is lent and answers. A slice that is not lent has no place here: its size is 0. */
@@ -43,6 +43,7 @@ int32_t engine_closed(const uint16_t *, size_t, const uint16_t *, size_t, uint16
 int32_t engine_closed_indexed(const uint16_t *, size_t, const uint16_t *, size_t, uint16_t *, size_t, uint16_t *, size_t, uint16_t *,
                               size_t);
 int32_t engine_layers(const uint16_t *, size_t, uint16_t *, size_t, uint32_t *);
+int32_t engine_followers(const uint16_t *, size_t, uint32_t);
 #else
 #define NAME(f) simjorad_##f
 #endif
@@ -90,8 +91,11 @@ static void make(struct call *c)
         c->answer = (uint32_t)NAME(closed_indexed)(s[0].at, s[0].length, s[1].at, s[1].length, s[2].at, s[2].length, s[3].at,
                                                    s[3].length, s[4].at, s[4].length);
         break;
-    default:
+    case LAYERS:
         c->answer = (uint32_t)NAME(layers)(s[0].at, s[0].length, s[1].at, s[1].length, &c->outs[0]);
+        break;
+    default:
+        c->answer = (uint32_t)NAME(followers)(s[0].at, s[0].length, c->number);
     }
 }
 
@@ -289,10 +293,17 @@ int32_t simjorad_layers(const uint16_t *page, size_t page_length, uint16_t *laye
     return (int32_t)c.answer;
 }
 
+int32_t simjorad_followers(const uint16_t *page, size_t page_length, uint32_t condition)
+{
+    struct call c = {.function = FOLLOWERS, NUMBERS(0, page), .number = condition};
+    hand_on(&c);
+    return (int32_t)c.answer;
+}
+
 #else
 
 static const char *const names[FUNCTIONS] = {"read", "show_line", "open", "evaluate", "drive", "drive_indexed", "value", "line",
-                                             "closed", "closed_indexed", "layers"};
+                                             "closed", "closed_indexed", "layers", "followers"};
 static FILE *file;
 
 static unsigned byte(void)

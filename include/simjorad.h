@@ -41,6 +41,7 @@
  *   closed_indexed   an index, then only the lines of what waits
  *   layers           scans of the page until nothing changes, usually a few and at most C; if the page is refused 30, a search with at most
  *                    2 * C scans more
+ *   followers        scans of the page until one finds no further follower, usually a few and at most C + 1
  *
  * simjorad_drive_indexed and simjorad_closed_indexed give the same answers and the same areas as simjorad_drive and
  * simjorad_closed. They are lent one more slice, a workspace, for an index of the page's lines: with room for it they take
@@ -116,6 +117,7 @@ extern "C" {
 #define SIMJORAD_STACK_CLOSED 1344
 #define SIMJORAD_STACK_CLOSED_INDEXED 1408
 #define SIMJORAD_STACK_LAYERS 1280
+#define SIMJORAD_STACK_FOLLOWERS 384
 
 /* Refusals, each with its cause. */
 #define SIMJORAD_TEXT_TOO_LONG 1      /* more than 65,535 bytes */
@@ -230,6 +232,12 @@ int32_t simjorad_closed_indexed(const uint16_t *page, size_t page_length, const 
  * each condition that its rules name, more than that of each one that they negate, all as small as possible. A layer is below C.
  */
 int32_t simjorad_layers(const uint16_t *page, size_t page_length, uint16_t *layers, size_t layers_length, uint32_t *condition);
+
+/*
+ * Followers: how many conditions name a condition, directly or through others, in their R lines, plain or negated. It counts itself only if a
+ * chain of naming steps leads back to it. Returns the count, 0 to C, or minus 10 or 15. Nothing is written.
+ */
+int32_t simjorad_followers(const uint16_t *page, size_t page_length, uint32_t condition);
 
 #ifdef __cplusplus
 }

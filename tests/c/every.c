@@ -172,6 +172,17 @@ static void layered(void)
     CHECK(simjorad_layers(page, 20, layers, 5, &condition) == 0 && condition == 0 && same(layers, wanted, 4) && layers[4] == 77);
 }
 
+static void followed(void)
+{
+    static const uint16_t page[] = {1, 4, 3, 20, 0, 1, 1, 1, 3, 1, 1, 1, 1, 5, 3, 1, 1, 2, 2, 6};
+
+    CHECK(simjorad_followers(page, 20, 0) == 0 && simjorad_followers(page, 20, 1) == 2);
+    CHECK(simjorad_followers(page, 20, 2) == 3 && simjorad_followers(page, 20, 3) == 1);
+    CHECK(simjorad_followers(page, 20, 4) == -SIMJORAD_CONDITION_RANGE);
+    CHECK(simjorad_followers(page, 19, 4) == -SIMJORAD_PAGE_UNSOUND);
+    CHECK(simjorad_followers(NULL, 0, 0) == -SIMJORAD_PAGE_UNSOUND);
+}
+
 int main(void)
 {
     reads();
@@ -181,6 +192,7 @@ int main(void)
     held_lines();
     closed();
     layered();
+    followed();
     printf("%d passed, %d failed\n", passed, failed);
     return failed != 0;
 }

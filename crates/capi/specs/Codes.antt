@@ -6,6 +6,7 @@ use Prim.Native.Nat.{ℕ}
 use lib.IntN.{ℤ, pos, negℤ}
 use Rattle.fixpoint.specs.Interval.{Interval}
 use Rattle.semantics.specs.Call.{Answer, refused, unchanged, changed, drove, valued, heldBy, firstOf}
+use Rattle.semantics.specs.Followers.{FollowersAnswer, refusedFollowers, followedBy, FollowersOf}
 use Rattle.semantics.specs.Layers.{LayersAnswer, refusedLayers, loopsAt, layered, LayersOf}
 use Rattle.semantics.specs.Operation.{Opening, refusedOpening, openedWith, closedCauses}
 use Rattle.semantics.specs.ReadPage.{ReadAnswer, refusedPage, readPage}
@@ -113,3 +114,14 @@ pub record LayersCall (code : ℤ) (condition : ℕ) (area slice slice′ : List
   pub is : LayersOf answer area slice slice′
   pub code-is : code ≡ layersCode answer
   pub condition-is : condition ≡ conditionTold answer
+
+-- followers: minus the refusal number, or the count
+abbrev pub followersCode : FollowersAnswer → ℤ
+followersCode (refusedFollowers k) = minus k
+followersCode (followedBy k) = pos k
+
+-- what the call returns. There is one such answer: `followers-one`.
+pub record FollowersCall (code : ℤ) (area : List ℕ) (condition : ℕ) : Type 0 where
+  pub answer : FollowersAnswer
+  pub is : FollowersOf answer area condition
+  pub code-is : code ≡ followersCode answer

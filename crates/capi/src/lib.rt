@@ -6,8 +6,9 @@ ghost use Rattle.semantics.specs.ReadPage.{readOf, lineOf, startOf};
 ghost use Rattle.semantics.specs.Operation.{openOf, evaluateOf, driveOf, valueOf, lineHeldOf, ClosedOf, driveWorkspace, closedWorkspace};
 ghost use Rattle.run.specs.Answers.{statusIf, driveAnswerOf};
 ghost use Rattle.closed.specs.Answer.{refusalTold};
-ghost use Rattle.capi.specs.Codes.{minus as Codes·minus, statusCode, answerCode, takenOr, lineOr, intervalOr, openCode, countsOr, readCode, lineTold, placeTold, closedCode, closedRefusal, LayersCall};
+ghost use Rattle.capi.specs.Codes.{minus as Codes·minus, statusCode, answerCode, takenOr, lineOr, intervalOr, openCode, countsOr, readCode, lineTold, placeTold, closedCode, closedRefusal, LayersCall, FollowersCall};
 use closed::ClosedAnswer;
+use followers::CountAnswer;
 use layers::Verdict;
 use run::DriveAnswer;
 
@@ -271,5 +272,17 @@ pub extern "C" fn simjorad_layers(page: &[u16], layers: &mut [u16], condition: &
             minus(30)
         }
         Verdict::Layered => 0,
+    }
+}
+
+// How many conditions follow one: the count, or minus 10 or 15.
+#[no_mangle]
+pub extern "C" fn simjorad_followers(page: &[u16], condition: u32) -> i32
+    ensures { λ r. ⌜ FollowersCall r (now (page .entry)) condition ⌝ }
+{
+    let answer = followers::count_followers(page, condition);
+    match answer {
+        CountAnswer::Refused(k) => minus(k),
+        CountAnswer::Counted(k) => k as i32,
     }
 }

@@ -24,6 +24,7 @@ pub fn cases() -> Vec<Case> {
                 ("closed", 10),
                 ("closed_indexed", 10),
                 ("layers", 10),
+                ("followers", 10),
             ],
         },
         Case {
@@ -70,6 +71,7 @@ pub fn cases() -> Vec<Case> {
                 ("closed_indexed", 0),
                 ("layers", 0),
                 ("layers", 30),
+                ("followers", 0),
             ],
         },
     ]
@@ -95,6 +97,7 @@ fn each_operation(trial: &mut Trial, page: &Page, area: &[u16]) -> Check<Vec<Opt
     let mut layers = trial.rubbish(usize::from(page.count));
     let code = trial.layers(area, &mut layers)?;
     codes.push(code.err().map(|refusal| refusal.number));
+    codes.push(trial.followers(area, cond)?.err());
     Ok(codes)
 }
 
@@ -110,7 +113,7 @@ fn wrong_page_areas(trial: &mut Trial, item: u64) -> Check {
         trial.pages += 1;
         figure(&bad.how, decode(&bad.numbers), None)?;
         let codes = each_operation(trial, &page, &bad.numbers)?;
-        figure(&bad.how, codes, vec![Some(PAGE_UNSOUND); 6])?;
+        figure(&bad.how, codes, vec![Some(PAGE_UNSOUND); 7])?;
     }
     Ok(())
 }
@@ -266,5 +269,6 @@ fn past_the_parts(trial: &mut Trial, item: u64) -> Check {
     figure("the closed reading's success", closed.is_ok(), true)?;
     let mut layers = trial.rubbish(usize::from(page.count));
     let _ = trial.layers(&area, &mut layers)?;
+    let _ = trial.followers(&area, cond)?;
     Ok(())
 }

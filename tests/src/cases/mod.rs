@@ -4,6 +4,7 @@ mod areas;
 mod closed;
 mod cover;
 mod figures;
+mod followers;
 mod grades;
 pub mod large;
 mod layers;
@@ -35,6 +36,7 @@ pub fn calls() -> Vec<Case> {
     cases.extend(closed::cases());
     cases.extend(cover::cases());
     cases.extend(layers::cases());
+    cases.extend(followers::cases());
     cases.extend(thresholds::cases());
     cases.extend(lists::cases());
     cases.extend(large::cases());

@@ -58,8 +58,9 @@ static LINE: Function = function("SIMJORAD_STACK_LINE", 2048);
 static CLOSED: Function = function("SIMJORAD_STACK_CLOSED", 2048);
 static CLOSED_INDEXED: Function = function("SIMJORAD_STACK_CLOSED_INDEXED", 3072);
 static LAYERS: Function = function("SIMJORAD_STACK_LAYERS", 2048);
+static FOLLOWERS: Function = function("SIMJORAD_STACK_FOLLOWERS", 2048);
 
-static FUNCTIONS: [&Function; 11] = [
+static FUNCTIONS: [&Function; 12] = [
     &READ,
     &SHOW_LINE,
     &OPEN,
@@ -71,6 +72,7 @@ static FUNCTIONS: [&Function; 11] = [
     &CLOSED,
     &CLOSED_INDEXED,
     &LAYERS,
+    &FOLLOWERS,
 ];
 
 /// Evaluations of a drive.
@@ -259,6 +261,12 @@ impl Bench<'_> {
         })
     }
 
+    fn followers(&mut self, lent: &Lent, cond: usize) -> Check<i32> {
+        self.call(&FOLLOWERS, Call::Followers.function(), lent, |lent| {
+            [lent.page(), vec![cond]].concat()
+        })
+    }
+
     /// Texts read, and refused for each cause.
     fn reads(&mut self, text: &[u8], used: usize) -> Check {
         let mut lent = Lent {
@@ -400,6 +408,17 @@ impl Bench<'_> {
         figure("layers", self.layers(&lent)?, -PAGE_UNSOUND)
     }
 
+    /// The followers of some conditions, and the causes of a refusal.
+    fn followed(&mut self, good: &Lent) -> Check {
+        for cond in [0, 300, 511] {
+            self.followers(good, cond)?;
+        }
+        figure("followers", self.followers(good, 512)?, -CONDITION_RANGE)?;
+        let mut lent = good.clone();
+        lent.page.pop();
+        figure("followers", self.followers(&lent, 0)?, -PAGE_UNSOUND)
+    }
+
     fn workspace_lengths(&self, lent: &Lent) -> [usize; 4] {
         let needed = workspace::needed(&lent.page);
         [0, needed - 1, needed, workspace::WORKSPACE_MAX]
@@ -451,5 +470,6 @@ fn on_a_large_page(trial: &mut Trial, item: u64) -> Check {
     bench.closeds(&lent)?;
     lent.area = vec![7; 512];
     bench.layered(&lent)?;
+    bench.followed(&lent)?;
     bench.over
 }
