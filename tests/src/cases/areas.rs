@@ -167,7 +167,7 @@ fn too_many_lines(trial: &mut Trial, _: u64) -> Check {
         trial.pages += 2;
         let area = spoil::too_many_lines(&page, &line);
         let codes = each_operation(trial, &page, &area)?;
-        figure("1,025 lines", codes, vec![Some(PAGE_UNSOUND); 6])?;
+        figure("1,025 lines", codes, vec![Some(PAGE_UNSOUND); 7])?;
         let full = Page {
             lines: vec![line; 1024],
             ..page.clone()

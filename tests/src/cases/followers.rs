@@ -85,7 +85,7 @@ fn rows(trial: &mut Trial, _: u64) -> Check {
             figure(text, trial.followers(&area, cond)?, Ok(*count))?;
         }
         let past = u32::from(page.count);
-        for cond in [past, past + 65_536, u32::MAX] {
+        for cond in [past, 65_536, past + 65_536, u32::MAX] {
             figure(text, trial.followers(&area, cond)?, Err(CONDITION_RANGE))?;
         }
         let unsound = &area[..area.len() - 1];
