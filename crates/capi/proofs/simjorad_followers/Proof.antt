@@ -10,18 +10,6 @@ use borrow.Author.Needs.{needs}
 use Rattle.capi.proofs.simjorad_followers.Statement.{statement}
 use Rattle.capi.proofs.simjorad_followers.Tie as tie
 
-count-followers-requires : tie.Need-count-followers-requires
-count-followers-requires c κs = search needs
-
-enum-known-answer : tie.Need-enum-known-answer
-enum-known-answer c = search needs
-
-minus-requires : tie.Need-minus-requires
-minus-requires c κs = search needs
-
-enum-known-answer-2 : tie.Need-enum-known-answer-2
-enum-known-answer-2 c = search needs
-
 cast-result : tie.Need-cast-result
 cast-result c = search needs
 
@@ -39,12 +27,4 @@ returns-2 c =
 
 pub simjorad-followers-spec : {M : Type 1} → statement M
 simjorad-followers-spec =
-    tie.close
-    (tie.spec
-    count-followers-requires
-    enum-known-answer
-    minus-requires
-    enum-known-answer-2
-    cast-result
-    returns
-    returns-2)
+    tie.close (tie.spec (search needs) (search needs) (search needs) (search needs) cast-result returns returns-2)

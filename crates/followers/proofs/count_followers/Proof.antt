@@ -15,9 +15,6 @@ use Rattle.followers.proofs.count_followers.Tie as tie
 page-ok : (c : tie.Else1) → sound (c .before .before .before .args .page .now) ≡ true
 page-ok c = sym (c .before .page-sound .ensures) ∙ not-false (c .before .page-sound .result) (c .if1 .left)
 
-page-sound-requires : tie.Need-page-sound-requires
-page-sound-requires c κs = search needs
-
 returns : tie.Need-returns
 returns c = let z = c .before .before .before .args in answer-10 (z .page .now) (z .condition) (sym (c .before .page-sound .ensures) ∙ not-true (c .before .page-sound .result) (c .if1 .taken))
 
@@ -36,12 +33,6 @@ cast-followers-of c = omega (arith, head-of (c .before .before .before .before .
 followers-of-requires : tie.Need-followers-of-requires
 followers-of-requires c κs = (page-ok (c .before .before), c .if2 .left)
 
-slice-aggregate-size : tie.Need-slice-aggregate-size
-slice-aggregate-size c = search needs
-
-size-requires : tie.Need-size-requires
-size-requires c κs = search needs
-
 cast-t7 : tie.Need-cast-t7
 cast-t7 c = omega (arith, c .size .ensures, size-most 512 (has (c .before .before .followers-of .result)))
 
@@ -50,16 +41,5 @@ returns-3 c = let z = c .before .before .before .before .before .before .before 
 
 pub count-followers-spec : {M : Type 1} → statement M
 count-followers-spec =
-    tie.close
-    (tie.spec
-    page-sound-requires
-    returns
-    shared-slice-read-if2
-    cast-if2
-    returns-2
-    cast-followers-of
-    followers-of-requires
-    slice-aggregate-size
-    size-requires
-    cast-t7
-    returns-3)
+    tie.close (tie.spec (search needs) returns shared-slice-read-if2 cast-if2 returns-2 cast-followers-of followers-of-requires (search needs)
+    (search needs) cast-t7 returns-3)

@@ -19,9 +19,6 @@ Inv-loop a c row₀ seen₀ row seen = Covers seen row × Seeks (pageOf a) c see
 abbrev μ-loop : tie.MeasureT-loop
 μ-loop a c row₀ seen₀ row seen = 512 - count 512 (has row)
 
-slice-aggregate-insert : tie.Need-slice-aggregate-insert Inv-loop μ-loop
-slice-aggregate-insert c = refl
-
 insert-requires : tie.Need-insert-requires Inv-loop μ-loop
 insert-requires c κs = let z = c .before .before in (refl, omega (arith, head-of (z .args .a .now) (z .pre .0) .few))
 
@@ -49,16 +46,5 @@ loop-again c = let z = c .before .before .before .before .before .before .before
 
 pub followers-of-spec : {M : Type 1} → statement M
 followers-of-spec =
-    tie.close
-    (tie.spec
-    Inv-loop
-    μ-loop
-    slice-aggregate-insert
-    insert-requires
-    loop-holds
-    slice-aggregate-pass
-    slice-aggregate-pass-2
-    pass-requires
-    returns
-    loop-less
-    loop-again)
+    tie.close (tie.spec Inv-loop μ-loop (λ c. refl) insert-requires loop-holds slice-aggregate-pass slice-aggregate-pass-2 pass-requires returns
+    loop-less loop-again)

@@ -10,15 +10,6 @@ use borrow.Author.Needs.{needs}
 use Rattle.followers.proofs.line_meets.Statement.{statement}
 use Rattle.followers.proofs.line_meets.Tie as tie
 
-add-k : tie.Need-add-k
-add-k c = search needs
-
-mul-k : tie.Need-mul-k
-mul-k c = search needs
-
-shared-slice-read-k : tie.Need-shared-slice-read-k
-shared-slice-read-k c = search needs
-
 literals-meet-requires : tie.Need-literals-meet-requires
 literals-meet-requires c κs =
     let z = c .before .before .before .before .before in
@@ -42,4 +33,4 @@ returns-3 c =
 pub line-meets-spec : {M : Type 1} → statement M
 line-meets-spec =
     tie.close
-    (tie.spec add-k mul-k shared-slice-read-k literals-meet-requires returns returns-2 returns-3)
+    (tie.spec (search needs) (search needs) (search needs) literals-meet-requires returns returns-2 returns-3)

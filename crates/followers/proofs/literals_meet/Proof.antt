@@ -15,32 +15,8 @@ Inv-loop a at set y j₀ j = Missing a at set j
 abbrev μ-loop : tie.MeasureT-loop
 μ-loop a at set y j₀ j = y - j
 
-add-y : tie.Need-add-y Inv-loop μ-loop
-add-y c = search needs
-
-mul-y : tie.Need-mul-y Inv-loop μ-loop
-mul-y c = search needs
-
-shared-slice-read-y : tie.Need-shared-slice-read-y Inv-loop μ-loop
-shared-slice-read-y c = search needs
-
 loop-holds : tie.Need-loop-holds Inv-loop μ-loop
 loop-holds c = let z = c .before .before .before in missing-first (z .args .a .now) (z .args .at) (z .args .set .now)
-
-add-contains : tie.Need-add-contains Inv-loop μ-loop
-add-contains c = search needs
-
-cast-contains : tie.Need-cast-contains Inv-loop μ-loop
-cast-contains c = search needs
-
-add-contains-2 : tie.Need-add-contains-2 Inv-loop μ-loop
-add-contains-2 c = search needs
-
-mul-contains : tie.Need-mul-contains Inv-loop μ-loop
-mul-contains c = search needs
-
-shared-slice-read-contains : tie.Need-shared-slice-read-contains Inv-loop μ-loop
-shared-slice-read-contains c = search needs
 
 contains-requires : tie.Need-contains-requires Inv-loop μ-loop
 contains-requires c κs =
@@ -54,12 +30,6 @@ returns c =
     let h = c .before .before .before .before .loop in
     missing-met (z .args .a .now) (z .args .at) (z .args .set .now) (z .pre .0 .fits) (h .inv) (omega arith) (omega (arith, z .pre .1, code-in (topOf (z .args .a .now)) (conditionsOf (z .args .a .now)) (z .args .a .now) (z .args .at) (z .pre .0) (h .j) (omega arith))) (sym (c .before .contains .ensures) ∙ c .if1 .taken)
 
-add-j : tie.Need-add-j Inv-loop μ-loop
-add-j c = search needs
-
-loop-less : tie.Need-loop-less Inv-loop μ-loop
-loop-less c = search needs
-
 loop-again : tie.Need-loop-again Inv-loop μ-loop
 loop-again c =
     let z = c .before .before .before .before .before .before .before .before in
@@ -70,22 +40,5 @@ returns-2 c = let z = c .before .before .before .before .before in missing-last 
 
 pub literals-meet-spec : {M : Type 1} → statement M
 literals-meet-spec =
-    tie.close
-    (tie.spec
-    Inv-loop
-    μ-loop
-    add-y
-    mul-y
-    shared-slice-read-y
-    loop-holds
-    add-contains
-    cast-contains
-    add-contains-2
-    mul-contains
-    shared-slice-read-contains
-    contains-requires
-    returns
-    add-j
-    loop-less
-    loop-again
-    returns-2)
+    tie.close (tie.spec Inv-loop μ-loop (search needs) (search needs) (search needs) loop-holds (search needs) (search needs) (search needs)
+    (search needs) (search needs) contains-requires returns (search needs) (search needs) loop-again returns-2)

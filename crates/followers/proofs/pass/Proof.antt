@@ -18,9 +18,6 @@ abbrev μ-loop : tie.MeasureT-loop
 shared-slice-read-left : tie.Need-shared-slice-read-left Inv-loop μ-loop
 shared-slice-read-left c = let z = c .before .before .before .before in omega (arith, head-of (z .args .a .now) (z .pre .0))
 
-first-requires : tie.Need-first-requires Inv-loop μ-loop
-first-requires c κs = tt
-
 loop-holds : tie.Need-loop-holds Inv-loop μ-loop
 loop-holds c = let z = c .before .before .before .before .before in let f = c .first .ensures in (omega (arith, f .1), passing-first (z .args .a .now) (z .args .seen .now) (z .args .row .now) (z .pre .0) (z .pre .1) f)
 
@@ -32,12 +29,6 @@ add-new c = omega (arith, passing-few _ _ _ (c .before .before .before .before .
 
 next-requires : tie.Need-next-requires Inv-loop μ-loop
 next-requires c κs = let z = c .before .before .before .before .before .before .before .before .before .before .before .before .before .before in let h = c .before .before .before .before .before .before .before .before .loop .inv in (entry-here (z .args .a .now) (h .1 .scan) (omega (arith, h .0)), omega (arith, h .0, head-of (z .args .a .now) (z .pre .0)))
-
-sub-left : tie.Need-sub-left Inv-loop μ-loop
-sub-left c = omega arith
-
-loop-less : tie.Need-loop-less Inv-loop μ-loop
-loop-less c = omega arith
 
 loop-again : tie.Need-loop-again Inv-loop μ-loop
 loop-again c = let z = c .before .before .before .before .before .before .before .before .before .before .before .before .before .before .before in let h = c .before .before .before .before .before .before .before .before .before .loop .inv in let n = c .next .ensures in (omega (arith, h .0, n .count), passing-next (z .args .a .now) (z .args .seen .now) (z .args .row .now) (z .pre .0) n (omega (arith, h .0)) (h .1) (c .before .before .before .before .before .follow-line .ensures))
@@ -53,19 +44,5 @@ returns c = let z = c .before .before .before .before .before .before .before in
 
 pub pass-spec : {M : Type 1} → statement M
 pass-spec =
-    tie.close
-    (tie.spec
-    Inv-loop
-    μ-loop
-    shared-slice-read-left
-    first-requires
-    loop-holds
-    follow-line-requires
-    add-new
-    next-requires
-    sub-left
-    loop-less
-    loop-again
-    same-length
-    same-length-2
-    returns)
+    tie.close (tie.spec Inv-loop μ-loop shared-slice-read-left (λ c κs. tt) loop-holds follow-line-requires add-new next-requires (omega arith)
+    (omega arith) loop-again same-length same-length-2 returns)

@@ -23,20 +23,8 @@ loop-holds : tie.Need-loop-holds Inv-loop μ-loop
 unfolding sum
 loop-holds c = (omega arith, omega arith, refl, below-none _)
 
-mul-marks : tie.Need-mul-marks Inv-loop μ-loop
-mul-marks c = search needs
-
-shared-slice-read-marks : tie.Need-shared-slice-read-marks Inv-loop μ-loop
-shared-slice-read-marks c = search needs
-
 add-marks : tie.Need-add-marks Inv-loop μ-loop
 add-marks c = let h = c .before .before in omega (arith, ones-le 64 (getD (h .before .args .row .now) (h .loop .w) 0) (c .shared-slice-known .given (h .loop .w) .fits))
-
-add-w : tie.Need-add-w Inv-loop μ-loop
-add-w c = search needs
-
-loop-less : tie.Need-loop-less Inv-loop μ-loop
-loop-less c = search needs
 
 loop-again : tie.Need-loop-again Inv-loop μ-loop
 unfolding sum
@@ -53,15 +41,4 @@ returns c =
 
 pub size-spec : {M : Type 1} → statement M
 size-spec =
-    tie.close
-    (tie.spec
-    Inv-loop
-    μ-loop
-    loop-holds
-    mul-marks
-    shared-slice-read-marks
-    add-marks
-    add-w
-    loop-less
-    loop-again
-    returns)
+    tie.close (tie.spec Inv-loop μ-loop loop-holds (search needs) (search needs) add-marks (search needs) (search needs) loop-again returns)
