@@ -10,7 +10,7 @@ use borrow.Author.Tests.{eq-eqb, eqb-true}
 use Rattle.semantics.specs.Area.{literalOf}
 use Rattle.semantics.specs.Page.{mentions}
 use Rattle.semantics.proofs.Soundness.{both-true}
-use Rattle.semantics.proofs.Table.{or-cases, iff-eq, any-true, any-found}
+use Rattle.semantics.proofs.Table.{iff-eq, any-true, any-found}
 use Rattle.bits.specs.Words.{has}
 use Rattle.reach.proofs.Naming.{mentions-on, mentions-none}
 use Rattle.followers.specs.Rows.{meets}

@@ -1,5 +1,5 @@
 -- A pass over the lines that puts the heads of those that name one of a set into it. Assumes nothing.
-use mathlib.Core.Path.{_≡_, refl, sym, _∙_, ap, subst}
+use mathlib.Core.Path.{_≡_, sym, _∙_, ap, subst}
 use mathlib.Core.Logic.{⊎-elim}
 use mathlib.Core.Bool.{Bool, true, _||_, or-true, or-assoc, or-comm}
 use mathlib.Core.List.{List}

@@ -1,11 +1,11 @@
 -- Where a pass adds nothing, the row is that of the followers, and its marks are their count. Assumes nothing.
-use mathlib.Core.Path.{_≡_, refl, sym, _∙_, ap}
-use mathlib.Core.Bool.{Bool, true, false, or-true, false≢true}
+use mathlib.Core.Path.{_≡_, refl, sym, _∙_}
+use mathlib.Core.Bool.{true, false, or-true, false≢true}
 use mathlib.Core.List.{List}
-use Prim.Native.Nat.{ℕ, _/_, _≤_, _<_}
+use Prim.Native.Nat.{ℕ, _≤_, _<_}
 use native.Mathlib.Decide.{decLe}
 use native.Mathlib.Omega.{arith}
-use lib.ListN.{length, replicate, List·getD-eq-default}
+use lib.ListN.{replicate, List·getD-eq-default}
 use borrow.Author.Tests.{eq-eqb, le-leb, lt-leb}
 use Rattle.fixpoint.specs.Sum.{count}
 use Rattle.semantics.specs.Area.{sound, pageOf, conditionsOf}

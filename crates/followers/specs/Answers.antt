@@ -1,5 +1,4 @@
 -- What the answer of the call says. Assumes nothing.
-use Prim.Native.Nat.{ℕ}
 use Rattle.semantics.specs.Followers.{FollowersAnswer, refusedFollowers, followedBy}
 use Rattle.followers.specs.declared.CountAnswer.{CountAnswer}
 use Rattle.followers.specs.declared.CountAnswer.the-variants.{Refused, Counted}
