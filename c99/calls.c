@@ -13,7 +13,7 @@
 #include "simjorad.h"
 
 enum { READ, SHOW_LINE, OPEN, EVALUATE, DRIVE, DRIVE_INDEXED, VALUE, LINE, CLOSED, CLOSED_INDEXED, LAYERS, CHECK_PICKS, OPEN_FIRST,
-       OPEN_SECOND, EVALUATE_FIRST, EVALUATE_SECOND, TURN, FUNCTIONS };
+       OPEN_SECOND, EVALUATE_FIRST, EVALUATE_SECOND, TURN, FOLLOWERS, FUNCTIONS };
 enum { SLICES = 5, OUTS = 5 };
 
 /* What a call is lent and answers. A slice that is not lent has no place here: its size is 0. */
@@ -52,6 +52,7 @@ int32_t engine_open_second(const uint16_t *, size_t, uint16_t *, size_t, const u
 int32_t engine_evaluate_first(const uint16_t *, size_t, uint16_t *, size_t, uint32_t);
 int32_t engine_evaluate_second(const uint16_t *, size_t, uint16_t *, size_t, uint32_t);
 int32_t engine_turn(const uint16_t *, size_t, uint16_t *, size_t, uint32_t, uint32_t *, uint32_t *, uint32_t *, uint32_t *, uint32_t *);
+int32_t engine_followers(const uint16_t *, size_t, uint32_t);
 #else
 #define NAME(f) simjorad_##f
 #endif
@@ -121,9 +122,12 @@ static void make(struct call *c)
     case EVALUATE_SECOND:
         c->answer = (uint32_t)NAME(evaluate_second)(s[0].at, s[0].length, s[1].at, s[1].length, c->number);
         break;
-    default:
+    case LAYERS:
         c->answer = (uint32_t)NAME(turn)(s[0].at, s[0].length, s[1].at, s[1].length, c->number, &c->outs[0], &c->outs[1], &c->outs[2],
                                          &c->outs[3], &c->outs[4]);
+        break;
+    default:
+        c->answer = (uint32_t)NAME(followers)(s[0].at, s[0].length, c->number);
     }
 }
 
@@ -388,11 +392,18 @@ int32_t simjorad_turn(const uint16_t *page, size_t page_length, uint16_t *area, 
     return (int32_t)c.answer;
 }
 
+int32_t simjorad_followers(const uint16_t *page, size_t page_length, uint32_t condition)
+{
+    struct call c = {.function = FOLLOWERS, NUMBERS(0, page), .number = condition};
+    hand_on(&c);
+    return (int32_t)c.answer;
+}
+
 #else
 
 static const char *const names[FUNCTIONS] = {"read", "show_line", "open", "evaluate", "drive", "drive_indexed", "value", "line",
                                              "closed", "closed_indexed", "layers", "check_picks", "open_first", "open_second", "evaluate_first",
-                                             "evaluate_second", "turn"};
+                                             "evaluate_second", "turn", "followers"};
 static FILE *file;
 
 static unsigned byte(void)

@@ -45,6 +45,7 @@
  *                    for its dependants if it changed: a third to a half of what evaluate takes for each, since the page is checked once
  *   open_first, open_second, evaluate_first, evaluate_second   as open and evaluate
  *   turn             as a drive of each run by the evaluations that it takes; both runs are checked once, and no line is looked for
+ *   followers        scans of the page until one finds no further follower, usually a few and at most C + 1
  *
  * simjorad_drive_indexed and simjorad_closed_indexed give the same answers and the same areas as simjorad_drive and
  * simjorad_closed. They are lent one more slice, a workspace, for an index of the page's lines: with room for it they take
@@ -127,6 +128,7 @@ extern "C" {
 #define SIMJORAD_STACK_EVALUATE_FIRST 1664
 #define SIMJORAD_STACK_EVALUATE_SECOND 1664
 #define SIMJORAD_STACK_TURN 1856
+#define SIMJORAD_STACK_FOLLOWERS 384
 
 /* Refusals, each with its cause. */
 #define SIMJORAD_TEXT_TOO_LONG 1      /* more than 65,535 bytes */
@@ -292,6 +294,12 @@ int32_t simjorad_evaluate_second(const uint16_t *page, size_t page_length, uint1
 int32_t simjorad_turn(const uint16_t *page, size_t page_length, uint16_t *area, size_t area_length, uint32_t allowance,
                       uint32_t *taken_first, uint32_t *rest_first, uint32_t *taken_second, uint32_t *rest_second,
                       uint32_t *stall);
+
+/*
+ * Followers: how many conditions name a condition, directly or through others, in their R lines, plain or negated. It counts itself only if a
+ * chain of naming steps leads back to it. Returns the count, 0 to C, or minus 10 or 15. Nothing is written.
+ */
+int32_t simjorad_followers(const uint16_t *page, size_t page_length, uint32_t condition);
 
 #ifdef __cplusplus
 }

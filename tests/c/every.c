@@ -220,6 +220,17 @@ static void stalls(void)
     CHECK(simjorad_turn(area, USED, both, 13, 5, &one, &rests, &two, &rest, &stall) == -SIMJORAD_RUN_UNSOUND && stall == 2 && two == 1);
 }
 
+static void followed(void)
+{
+    static const uint16_t page[] = {1, 4, 3, 20, 0, 1, 1, 1, 3, 1, 1, 1, 1, 5, 3, 1, 1, 2, 2, 6};
+
+    CHECK(simjorad_followers(page, 20, 0) == 0 && simjorad_followers(page, 20, 1) == 2);
+    CHECK(simjorad_followers(page, 20, 2) == 3 && simjorad_followers(page, 20, 3) == 1);
+    CHECK(simjorad_followers(page, 20, 4) == -SIMJORAD_CONDITION_RANGE);
+    CHECK(simjorad_followers(page, 19, 4) == -SIMJORAD_PAGE_UNSOUND);
+    CHECK(simjorad_followers(NULL, 0, 0) == -SIMJORAD_PAGE_UNSOUND);
+}
+
 int main(void)
 {
     reads();
@@ -231,6 +242,7 @@ int main(void)
     layered();
     picked();
     stalls();
+    followed();
     printf("%d passed, %d failed\n", passed, failed);
     return failed != 0;
 }

@@ -302,6 +302,7 @@ impl Document {
             "runs," => runs(rest, table),
             "layers," => layers_of_pages(rest, table),
             "picks," => picks_of_pages(rest, table),
+            "followers," => followers_of_pages(rest, table),
             "limits" => limits(table),
             "refusals" => refusals(table),
             "operations" => operations(table),
@@ -557,6 +558,30 @@ fn picks_of_pages(how: &str, table: &Table) -> Check {
             Err(refusal) => refusal.number.to_string(),
         };
         figure(&text, table.cell(row, "answer")?, &answer)?;
+    }
+    Ok(())
+}
+
+/// `followers, top N`: columns page and counts, one for each condition.
+fn followers_of_pages(how: &str, table: &Table) -> Check {
+    let top = how.strip_prefix("top ").ok_or("no top")?;
+    let mut trial = Trial::new();
+    for row in &table.rows {
+        let lines = page_lines(&quoted(table.cell(row, "page")?), top, "0")?;
+        let text = lines.join("\n") + "\n";
+        let mut area = vec![0; 200];
+        let used = trial.read(text.as_bytes(), &mut area)?;
+        let used = used.map_err(|refusal| format!("{text:?} is refused {refusal:?}"))?;
+        let mut counts = Vec::new();
+        for cond in 0..u32::from(area[1]) {
+            let count = trial.followers(&area[..used], cond)?;
+            counts.push(
+                count
+                    .map_err(|number| format!("refused {number}"))?
+                    .to_string(),
+            );
+        }
+        figure(&text, table.cell(row, "counts")?, &counts.join(", "))?;
     }
     Ok(())
 }

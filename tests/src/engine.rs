@@ -753,6 +753,19 @@ impl Engine {
             _ => Err(format!("returned {code}")),
         }
     }
+
+    pub fn followers(&mut self, page: &[u16], cond: u32) -> Result<Result<u32, Refusal>, String> {
+        let (page_loan, page_length) = self.lend_area(0, page);
+        let slices = [Self::note(page, page_loan.ptr() as usize)];
+        let arguments = [page_loan.ptr() as usize, page_length, cond as usize];
+        let code = self.call(Call::Followers, u64::from(cond), &slices, &arguments)? as i32;
+        page_loan.end_const("page", page)?;
+        match code {
+            0..=512 => Ok(Ok(code as u32)),
+            -10 | -15 => Ok(Err(-code)),
+            _ => Err(format!("returned {code}")),
+        }
+    }
 }
 
 fn driven(code: i32, taken: &Out<u32>, line: &Out<u32>) -> Result<Result<Driven, Refusal>, String> {

@@ -59,6 +59,7 @@ calls! {
     EvaluateFirst simjorad_evaluate_first,
     EvaluateSecond simjorad_evaluate_second,
     Turn simjorad_turn,
+    Followers simjorad_followers,
 }
 
 /// Whether the stand-in is under test: the variable STANDIN_FAULT is set, to a fault or to nothing.

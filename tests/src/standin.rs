@@ -15,6 +15,7 @@ use crate::attach;
 use crate::body::{combine, divided, End, Pair};
 use crate::book::Book;
 use crate::fast::{Index, Run};
+use crate::followers;
 use crate::layers;
 use crate::page::{self, Line, Op, Page};
 use crate::picks;
@@ -930,6 +931,52 @@ pub const FAULTS: &[(&str, &str, &str)] = &[
         "turn_writes_past_the_shared_area",
         "quick only CASE",
         "stalls_have_their_stated_figures",
+    ),
+    // How far a condition reaches.
+    (
+        "condition_always_counted_itself",
+        "quick only CASE",
+        "followers_have_their_stated_figures",
+    ),
+    (
+        "condition_never_counted_itself",
+        "quick only CASE",
+        "followers_have_their_stated_figures",
+    ),
+    (
+        "only_direct_followers_counted",
+        "quick only CASE",
+        "followers_have_their_stated_figures",
+    ),
+    (
+        "last_word_of_followers_left_out",
+        "only CASE",
+        "followers_agree_on_pages_at_the_limits",
+    ),
+    (
+        "followers_the_other_way_round",
+        "quick only CASE",
+        "followers_have_their_stated_figures",
+    ),
+    (
+        "followers_found_in_one_pass",
+        "quick only CASE",
+        "followers_have_their_stated_figures",
+    ),
+    (
+        "negations_do_not_follow",
+        "quick only CASE",
+        "followers_have_their_stated_figures",
+    ),
+    (
+        "condition_range_before_the_page",
+        "quick only CASE",
+        "followers_have_their_stated_figures",
+    ),
+    (
+        "condition_taken_at_16_bits",
+        "quick only CASE",
+        "followers_have_their_stated_figures",
     ),
 ];
 
@@ -2667,6 +2714,71 @@ pub unsafe extern "C" fn simjorad_turn(
             -refusal.number
         }
     }
+}
+
+/// The followers of a condition, with the planted fault.
+fn followers_of(page: &Page, cond: u16) -> Vec<u16> {
+    let mut copy = page.clone();
+    if fault("negations_do_not_follow") {
+        for line in &mut copy.lines {
+            if let Line::Rule { body, .. } = line {
+                body.retain(|literal| !literal.negated);
+            }
+        }
+    }
+    let mut out = followers::followers(&copy, cond);
+    let names = reach::names(page);
+    if fault("only_direct_followers_counted") {
+        out.retain(|head| names.contains(&(*head, cond)));
+    }
+    if fault("followers_the_other_way_round") {
+        out = (0..page.count)
+            .filter(|other| followers::followers(page, *other).contains(&cond))
+            .collect();
+    }
+    if fault("followers_found_in_one_pass") {
+        out.clear();
+        for line in &page.lines {
+            if let Line::Rule { head, body, .. } = line {
+                let seen = |named: u16| named == cond || out.contains(&named);
+                if !out.contains(head) && body.iter().any(|literal| seen(literal.cond)) {
+                    out.push(*head);
+                }
+            }
+        }
+    }
+    if fault("condition_always_counted_itself") && !out.contains(&cond) {
+        out.push(cond);
+    }
+    if fault("condition_never_counted_itself") {
+        out.retain(|other| *other != cond);
+    }
+    if fault("last_word_of_followers_left_out") {
+        out.retain(|other| *other < 448);
+    }
+    out
+}
+
+pub unsafe extern "C" fn simjorad_followers(
+    page: *const u16,
+    page_length: usize,
+    condition: u32,
+) -> i32 {
+    let area = lent(page, page_length);
+    if fault("condition_range_before_the_page") && condition == 1 && area.len() < 5 {
+        return -CONDITION_RANGE;
+    }
+    let Some(page) = sound_page(area) else {
+        return -PAGE_UNSOUND;
+    };
+    let cond = match fault("condition_taken_at_16_bits") {
+        true => u32::from(condition as u16),
+        false => condition,
+    };
+    if cond >= u32::from(page.count) {
+        return -CONDITION_RANGE;
+    }
+    followers_of(&page, cond as u16).len() as i32
 }
 
 /// Plants one fault after another and runs the case that is named beside it, or all cases; true if every fault is noticed.

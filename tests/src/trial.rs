@@ -9,6 +9,7 @@ use crate::answer::*;
 use crate::area::{self, decode};
 use crate::closed;
 use crate::engine::Engine;
+use crate::followers;
 use crate::guard::first_difference;
 use crate::input::{Input, Slice};
 use crate::layers;
@@ -584,6 +585,24 @@ impl Trial {
             "check_picks",
             wanted.err().map_or(0, |refusal| refusal.number),
         );
+        Ok(got)
+    }
+
+    pub fn followers(&mut self, page: &[u16], cond: u32) -> Check<Result<u32, Refusal>> {
+        let wanted = followers::count(page, cond);
+        let got = self.engine.followers(page, cond);
+        let input = Input {
+            op: "followers",
+            slices: vec![("page", Slice::Numbers(page))],
+            numbers: vec![("condition", u64::from(cond))],
+        };
+        let got = got.map_err(|reason| breach(&input, reason))?;
+        same(&input, &got, &wanted)?;
+        self.saw("followers", wanted.err().unwrap_or(0));
+        let back = |page| followers::followers(&page, cond as u16).contains(&(cond as u16));
+        if wanted.is_ok() && decode(page).is_some_and(back) {
+            self.saw("followers, itself among them", 0);
+        }
         Ok(got)
     }
 }

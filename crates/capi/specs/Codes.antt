@@ -5,6 +5,7 @@ use Prim.Native.Nat.{ℕ}
 use lib.IntN.{ℤ, pos, negℤ}
 use Rattle.fixpoint.specs.Interval.{Interval}
 use Rattle.semantics.specs.Call.{Answer, refused, unchanged, changed, drove, valued, heldBy}
+use Rattle.semantics.specs.Followers.{FollowersAnswer, refusedFollowers, followedBy, FollowersOf}
 use Rattle.semantics.specs.Layers.{LayersAnswer, refusedLayers, loopsAt, layered, LayersOf}
 use Rattle.semantics.specs.Operation.{Opening, refusedOpening, openedWith, Closing, refusedClosing, closedAfter, ClosedOf}
 use Rattle.semantics.specs.Picks.{PicksAnswer, refusedQueries, notWaiting, notAtRest, wrongFigures, acceptedPicks, picksNumber, PicksOf}
@@ -171,3 +172,14 @@ firstOr old (turned x y) = stallAs x
 abbrev pub secondOr : StallTold → TurnAnswer → StallTold
 secondOr old (refusedTurn k stall) = old
 secondOr old (turned x y) = stallAs y
+
+-- followers: minus the refusal number, or the count
+abbrev pub followersCode : FollowersAnswer → ℤ
+followersCode (refusedFollowers k) = minus k
+followersCode (followedBy k) = pos k
+
+-- what the call returns. There is one such answer: `followers-one`.
+pub record FollowersCall (code : ℤ) (area : List ℕ) (condition : ℕ) : Type 0 where
+  pub answer : FollowersAnswer
+  pub is : FollowersOf answer area condition
+  pub code-is : code ≡ followersCode answer

@@ -9,8 +9,9 @@ ghost use Rattle.reach.specs.Opening.{openingOf};
 ghost use Rattle.run.specs.Answers.{statusIf, evaluateAnswerOf, driveAnswerOf};
 ghost use Rattle.stalls.specs.Answers.{turnAnswerOf};
 ghost use Rattle.closed.specs.Answer.{closingTold};
-ghost use Rattle.capi.specs.Codes.{minus as Codes·minus, statusCode, answerCode, takenOr, lineOr, intervalOr, openCode, countsOr, readCode, lineTold, placeTold, closedCode, roundsOr, ClosedCall, LayersCall, PicksCall, restTold, turnCode, stallTold, firstOr, secondOr};
+ghost use Rattle.capi.specs.Codes.{minus as Codes·minus, statusCode, answerCode, takenOr, lineOr, intervalOr, openCode, countsOr, readCode, lineTold, placeTold, closedCode, roundsOr, ClosedCall, LayersCall, PicksCall, restTold, turnCode, stallTold, firstOr, secondOr, FollowersCall};
 use closed::ClosedAnswer;
+use followers::CountAnswer;
 use layers::Verdict;
 use picks::Checked;
 use reach::OpenAnswer;
@@ -457,4 +458,16 @@ pub extern "C" fn simjorad_turn(
         rest_second,
         stall,
     )
+}
+
+// How many conditions follow one: the count, or minus 10 or 15.
+#[no_mangle]
+pub extern "C" fn simjorad_followers(page: &[u16], condition: u32) -> i32
+    ensures { λ r. ⌜ FollowersCall r (now (page .entry)) condition ⌝ }
+{
+    let answer = followers::count_followers(page, condition);
+    match answer {
+        CountAnswer::Refused(k) => minus(k),
+        CountAnswer::Counted(k) => k as i32,
+    }
 }

@@ -1,5 +1,5 @@
 -- What the queries and the literals still to come name, in the code's own terms. Assumes nothing.
-use mathlib.Core.Path.{_≡_, refl, sym, ap}
+use mathlib.Core.Path.{_≡_, refl, ap}
 use mathlib.Core.Bool.{Bool, true, false, cond, _&&_, _||_}
 use mathlib.Core.List.{List, [], _∷_, map}
 use Prim.Native.Nat.{ℕ, zero, suc, _+_, _-_, _/_, _%_, _≤_, _<_}
@@ -91,8 +91,3 @@ module _ (a : List ℕ) (at : ℕ) where
         let e : y - j - 1 ≡ y - (j + 1) = omega arith in
         let d : at + 4 + j + 1 ≡ at + 4 + (j + 1) = omega arith in
         inserting-next s one (λ b. rw (e, d) at (mentions-on a (at + 4 + j) b (omega (arith, r .fits)) (y - j) (omega arith)))
-
-pub iff-eq : (a b : Bool) → (a ≡ true → b ≡ true) → (b ≡ true → a ≡ true) → a ≡ b
-iff-eq true b f g = sym (f refl)
-iff-eq false true f g = g refl
-iff-eq false false f g = refl

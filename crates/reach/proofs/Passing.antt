@@ -19,14 +19,13 @@ use Rattle.semantics.proofs.Closure.{at, at-first, at-next, at-length, adds-sti
 use Rattle.semantics.proofs.Proper.{Proper}
 use Rattle.semantics.proofs.Readings.{names-inside}
 use Rattle.semantics.proofs.Soundness.{both-true}
-use Rattle.semantics.proofs.Table.{or-cases, any-true, any-found}
+use Rattle.semantics.proofs.Table.{or-cases, iff-eq, any-true, any-found}
 use Rattle.index.specs.Groups.{Cleared}
 use Rattle.bits.specs.Words.{has, Removed}
 use Rattle.reach.specs.Sets.{Joins, Inside, Followed, namedBy, Passed, FoundIn, Counted}
 use Rattle.reach.proofs.Closing.{queries-in, asked-in}
 use Rattle.reach.proofs.Counting.{set-few}
 use Rattle.reach.proofs.Inserting.{sum-grown, size-most}
-use Rattle.reach.proofs.Naming.{iff-eq}
 use Rattle.reach.proofs.Visiting.{blank-none}
 
 -- one more is followed

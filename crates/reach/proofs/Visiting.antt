@@ -71,12 +71,12 @@ module _ (a : List ℕ) (c : ℕ) (words₀ : List ℕ) where
 pub blank-none : (words : List ℕ) → Cleared words → (k : ℕ) → has words k ≡ false
 blank-none words e k = word-none words k (e (k / 64))
 
-not-so : (t : Bool) → (t ≡ true → ⊥) → t ≡ false
+pub not-so : (t : Bool) → (t ≡ true → ⊥) → t ≡ false
 not-so true h = absurd (h refl)
 not-so false h = refl
 
 -- what lies past n is not in the set
-count-past : (n k : ℕ) (s : ℕ → Bool) → n ≤ k → ((c : ℕ) → n ≤ c → s c ≡ false) → count k s ≡ count n s
+pub count-past : (n k : ℕ) (s : ℕ → Bool) → n ≤ k → ((c : ℕ) → n ≤ c → s c ≡ false) → count k s ≡ count n s
 unfolding sum
 count-past n zero s l h = let e : n ≡ 0 = omega arith in ap (λ (i : ℕ). count i s) (sym e)
 count-past n (suc k) s l h =

@@ -91,3 +91,7 @@ pub mod StallsTurn
 pub mod StallsDemand
 pub mod StallsRows
 pub mod StallsBench
+-- ticket 12: the followers of a condition, and the call's one answer
+pub mod Followers
+pub mod FollowersRows
+pub mod FollowersBench

@@ -34,6 +34,11 @@ pub or-cases : (a b : Bool) → (a || b) ≡ true → (a ≡ true) ⊎ (b ≡ tr
 or-cases true b e = inl refl
 or-cases false b e = inr e
 
+pub iff-eq : (a b : Bool) → (a ≡ true → b ≡ true) → (b ≡ true → a ≡ true) → a ≡ b
+iff-eq true b f g = sym (f refl)
+iff-eq false true f g = g refl
+iff-eq false false f g = refl
+
 pub any-true : (n : ℕ) (p : ℕ → Bool) (a : ℕ) → a < n → p a ≡ true → anyBelow n p ≡ true
 unfolding anyBelow
 any-true zero p a l e = absurd (omega arith)

@@ -37,3 +37,5 @@ pub mod Picks
 -- document 02, ticket 11: two stalls on one page, and demand 3 for one stall's own part
 pub mod Stalls
 pub mod StallsDemand
+-- document 02, ticket 12: how many conditions follow one
+pub mod Followers

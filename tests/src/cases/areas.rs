@@ -25,6 +25,7 @@ pub fn cases() -> Vec<Case> {
                 ("closed_indexed", 10),
                 ("layers", 10),
                 ("check_picks", 10),
+                ("followers", 10),
             ],
         },
         Case {
@@ -71,6 +72,7 @@ pub fn cases() -> Vec<Case> {
                 ("closed_indexed", 0),
                 ("layers", 0),
                 ("layers", 30),
+                ("followers", 0),
             ],
         },
     ]
@@ -98,6 +100,7 @@ fn each_operation(trial: &mut Trial, page: &Page, area: &[u16]) -> Check<Vec<Opt
     codes.push(code.err().map(|refusal| refusal.number));
     let code = trial.check_picks(area, &queries, &[cond as u16], &answers)?;
     codes.push(code.err().map(|refusal| refusal.number));
+    codes.push(trial.followers(area, cond)?.err());
     Ok(codes)
 }
 
@@ -269,5 +272,6 @@ fn past_the_parts(trial: &mut Trial, item: u64) -> Check {
     figure("the closed reading's success", closed.is_ok(), true)?;
     let mut layers = trial.rubbish(usize::from(page.count));
     let _ = trial.layers(&area, &mut layers)?;
+    let _ = trial.followers(&area, cond)?;
     Ok(())
 }

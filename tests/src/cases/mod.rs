@@ -4,6 +4,7 @@ mod areas;
 mod closed;
 mod cover;
 mod figures;
+mod followers;
 mod grades;
 pub mod large;
 mod layers;
@@ -39,6 +40,7 @@ pub fn calls() -> Vec<Case> {
     cases.extend(layers::cases());
     cases.extend(picks::cases());
     cases.extend(stalls::cases());
+    cases.extend(followers::cases());
     cases.extend(thresholds::cases());
     cases.extend(lists::cases());
     cases.extend(large::cases());

@@ -66,8 +66,9 @@ static OPEN_SECOND: Function = function("SIMJORAD_STACK_OPEN_SECOND", 2048);
 static EVALUATE_FIRST: Function = function("SIMJORAD_STACK_EVALUATE_FIRST", 2048);
 static EVALUATE_SECOND: Function = function("SIMJORAD_STACK_EVALUATE_SECOND", 2048);
 static TURN: Function = function("SIMJORAD_STACK_TURN", 2048);
+static FOLLOWERS: Function = function("SIMJORAD_STACK_FOLLOWERS", 2048);
 
-static FUNCTIONS: [&Function; 17] = [
+static FUNCTIONS: [&Function; 18] = [
     &READ,
     &SHOW_LINE,
     &OPEN,
@@ -85,6 +86,7 @@ static FUNCTIONS: [&Function; 17] = [
     &EVALUATE_FIRST,
     &EVALUATE_SECOND,
     &TURN,
+    &FOLLOWERS,
 ];
 
 /// Evaluations of a drive.
@@ -312,6 +314,12 @@ impl Bench<'_> {
         })
     }
 
+    fn followers(&mut self, lent: &Lent, cond: usize) -> Check<i32> {
+        self.call(&FOLLOWERS, Call::Followers.function(), lent, |lent| {
+            [lent.page(), vec![cond]].concat()
+        })
+    }
+
     /// Texts read, and refused for each cause.
     fn reads(&mut self, text: &[u8], used: usize) -> Check {
         let mut lent = Lent {
@@ -530,6 +538,17 @@ impl Bench<'_> {
         Ok(())
     }
 
+    /// The followers of some conditions, and the causes of a refusal.
+    fn followed(&mut self, good: &Lent) -> Check {
+        for cond in [0, 300, 511] {
+            self.followers(good, cond)?;
+        }
+        figure("followers", self.followers(good, 512)?, -CONDITION_RANGE)?;
+        let mut lent = good.clone();
+        lent.page.pop();
+        figure("followers", self.followers(&lent, 0)?, -PAGE_UNSOUND)
+    }
+
     fn workspace_lengths(&self, lent: &Lent) -> [usize; 4] {
         let needed = workspace::needed(&lent.page);
         [0, needed - 1, needed, workspace::WORKSPACE_MAX]
@@ -584,5 +603,6 @@ fn on_a_large_page(trial: &mut Trial, item: u64) -> Check {
     bench.picked(&lent, &page)?;
     lent.area = vec![7; shared_length(512)];
     bench.stalled(&lent)?;
+    bench.followed(&lent)?;
     bench.over
 }
