@@ -73,3 +73,6 @@ pub mod Exactness
 pub mod ExactnessNeeds
 pub mod LayersRows
 pub mod LayersBench
+-- ticket 14: a season's figures
+pub mod Season
+pub mod SeasonRows

@@ -30,3 +30,5 @@ pub mod Fields
 pub mod Output
 -- document 02, ticket 3: loops through an absence
 pub mod Layers
+-- document 02, ticket 14: a season's figures
+pub mod Season
