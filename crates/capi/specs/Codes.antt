@@ -9,6 +9,7 @@ use Rattle.semantics.specs.Call.{Answer, refused, unchanged, changed, drove, va
 use Rattle.semantics.specs.Layers.{LayersAnswer, refusedLayers, loopsAt, layered, LayersOf}
 use Rattle.semantics.specs.Operation.{Opening, refusedOpening, openedWith, closedCauses}
 use Rattle.semantics.specs.ReadPage.{ReadAnswer, refusedPage, readPage}
+use Rattle.semantics.specs.Season.{SeasonAnswer, refusedSeason, season, Figures}
 use Rattle.semantics.specs.Worklist.{Status, rest, spent}
 
 -- "minus the refusal number"
@@ -113,3 +114,18 @@ pub record LayersCall (code : ℤ) (condition : ℕ) (area slice slice′ : List
   pub is : LayersOf answer area slice slice′
   pub code-is : code ≡ layersCode answer
   pub condition-is : condition ≡ conditionTold answer
+
+-- season: minus the refusal number, or 0
+abbrev pub seasonCode : SeasonAnswer → ℤ
+seasonCode (refusedSeason number place) = minus number
+seasonCode (season f) = pos 0
+
+-- "the place of the first such pair, counted from 1"; 0 where there is nothing to tell
+abbrev pub pairTold : SeasonAnswer → ℕ
+pairTold (refusedSeason number place) = place
+pairTold (season f) = 0
+
+-- the figures; a refusal leaves what was there
+abbrev pub figuresOr : Figures → SeasonAnswer → Figures
+figuresOr old (refusedSeason number place) = old
+figuresOr old (season f) = f
