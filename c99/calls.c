@@ -12,8 +12,8 @@
 #include <string.h>
 #include "simjorad.h"
 
-enum { READ, SHOW_LINE, OPEN, EVALUATE, DRIVE, DRIVE_INDEXED, VALUE, LINE, CLOSED, CLOSED_INDEXED, LAYERS, FUNCTIONS };
-enum { SLICES = 5, OUTS = 4 };
+enum { READ, SHOW_LINE, OPEN, EVALUATE, DRIVE, DRIVE_INDEXED, VALUE, LINE, CLOSED, CLOSED_INDEXED, LAYERS, SEASON, FUNCTIONS };
+enum { SLICES = 5, OUTS = 9 };
 
 /* What a call is lent and answers. A slice that is not lent has no place here: its size is 0. */
 struct slice {
@@ -43,6 +43,8 @@ int32_t engine_closed(const uint16_t *, size_t, const uint16_t *, size_t, uint16
 int32_t engine_closed_indexed(const uint16_t *, size_t, const uint16_t *, size_t, uint16_t *, size_t, uint16_t *, size_t, uint16_t *,
                               size_t);
 int32_t engine_layers(const uint16_t *, size_t, uint16_t *, size_t, uint32_t *);
+int32_t engine_season(const uint16_t *, size_t, uint32_t *, uint32_t *, uint32_t *, uint32_t *, uint32_t *, uint32_t *, uint32_t *, int32_t *,
+                      uint32_t *);
 #else
 #define NAME(f) simjorad_##f
 #endif
@@ -90,8 +92,12 @@ static void make(struct call *c)
         c->answer = (uint32_t)NAME(closed_indexed)(s[0].at, s[0].length, s[1].at, s[1].length, s[2].at, s[2].length, s[3].at,
                                                    s[3].length, s[4].at, s[4].length);
         break;
-    default:
+    case LAYERS:
         c->answer = (uint32_t)NAME(layers)(s[0].at, s[0].length, s[1].at, s[1].length, &c->outs[0]);
+        break;
+    default:
+        c->answer = (uint32_t)NAME(season)(s[0].at, s[0].length, &c->outs[0], &c->outs[1], &c->outs[2], &c->outs[3], &c->outs[4],
+                                           &c->outs[5], &c->outs[6], (int32_t *)&c->outs[7], &c->outs[8]);
     }
 }
 
@@ -289,10 +295,23 @@ int32_t simjorad_layers(const uint16_t *page, size_t page_length, uint16_t *laye
     return (int32_t)c.answer;
 }
 
+int32_t simjorad_season(const uint16_t *pairs, size_t pairs_length, uint32_t *count, uint32_t *sum_low, uint32_t *sum_width,
+                        uint32_t *smallest, uint32_t *largest, uint32_t *mean, uint32_t *remainder, int32_t *change, uint32_t *place)
+{
+    uint32_t *outs[] = {count, sum_low, sum_width, smallest, largest, mean, remainder, (uint32_t *)change, place};
+    struct call c = {.function = SEASON, NUMBERS(0, pairs)};
+    for (int k = 0; k < OUTS; k++)
+        c.outs[k] = *outs[k];
+    hand_on(&c);
+    for (int k = 0; k < OUTS; k++)
+        *outs[k] = c.outs[k];
+    return (int32_t)c.answer;
+}
+
 #else
 
 static const char *const names[FUNCTIONS] = {"read", "show_line", "open", "evaluate", "drive", "drive_indexed", "value", "line",
-                                             "closed", "closed_indexed", "layers"};
+                                             "closed", "closed_indexed", "layers", "season"};
 static FILE *file;
 
 static unsigned byte(void)

@@ -396,7 +396,8 @@ class Writer:
 
 class Export:
     """The visible function over a proved one. A slice is a pointer and a count; NULL with a count of 0 becomes a pointer to something, since C
-    has no arithmetic on NULL. A number of 64 bits is a size_t for the caller, an answer of 32 bits an int32_t."""
+    has no arithmetic on NULL. A number of 64 bits is a size_t for the caller, an answer of 32 bits an int32_t,
+    and so is an out-parameter that the source calls signed: C reads and writes it as the unsigned number of the same bits."""
 
     def __init__(self, program, function, writer):
         self.program, self.function, self.writer = program, function, writer
@@ -415,6 +416,9 @@ class Export:
                 self.before.append(f'uint64_t wide_{name} = *{name};')
                 self.arguments.append(f'&wide_{name}')
                 self.after.append(f'*{name} = (size_t)wide_{name};')
+            case ('tyRef', _, 'mut', ('tyInt', '32')) if name in self.program.names.signed(self.function.name):
+                self.parameters.append(f'int32_t *{name}')
+                self.arguments.append(f'(uint32_t *){name}')
             case ('tyRef', _, 'mut', ('tyInt', _)):
                 self.parameters.append(self.program.declare(t, name))
                 self.arguments.append(name)

@@ -11,8 +11,8 @@
  * out-parameter of that call; this duty of the caller and these declarations are all that no proof covers.
  *
  * Results. A call returns a result of 0 or more, or minus the number of its refusal. A refused call changes nothing that was lent to
- * it and no out-parameter, but for those that tell of a refusal: *line and *place of simjorad_read and *condition of simjorad_layers are set by
- * every call, to 0 where there is nothing to tell. Out-parameters must not be NULL.
+ * it and no out-parameter, but for those that tell of a refusal: *line and *place of simjorad_read, *condition of simjorad_layers and *place of
+ * simjorad_season are set by every call, to 0 where there is nothing to tell. Out-parameters must not be NULL.
  *
  * Calls. No call keeps anything between calls, allocates or blocks. Calls on different areas may run at the same time. On one run
  * area make one call at a time: there is no lock. A page area may be read by several calls at once.
@@ -41,6 +41,7 @@
  *   closed_indexed   an index, then only the lines of what waits
  *   layers           scans of the page until nothing changes, usually a few and at most C; if the page is refused 30, a search with at most
  *                    2 * C scans more
+ *   season           two passes over the pairs
  *
  * simjorad_drive_indexed and simjorad_closed_indexed give the same answers and the same areas as simjorad_drive and
  * simjorad_closed. They are lent one more slice, a workspace, for an index of the page's lines: with room for it they take
@@ -88,6 +89,7 @@ extern "C" {
 #define SIMJORAD_LINES_MAX 1024       /* lines after the first */
 #define SIMJORAD_LITERALS_MAX 8       /* literals of a rule */
 #define SIMJORAD_QUERIES_MAX 16       /* entries of a query list */
+#define SIMJORAD_SEASON_MAX 4096      /* pairs of a season */
 #define SIMJORAD_TEXT_MAX 65535       /* bytes of a page's text */
 #define SIMJORAD_PAGE_MAX 12292       /* numbers of the longest page area */
 #define SIMJORAD_RUN_LENGTH(c) (3 * (c))     /* numbers of a run area for c conditions */
@@ -116,6 +118,7 @@ extern "C" {
 #define SIMJORAD_STACK_CLOSED 1344
 #define SIMJORAD_STACK_CLOSED_INDEXED 1408
 #define SIMJORAD_STACK_LAYERS 1280
+#define SIMJORAD_STACK_SEASON 256
 
 /* Refusals, each with its cause. */
 #define SIMJORAD_TEXT_TOO_LONG 1      /* more than 65,535 bytes */
@@ -139,6 +142,8 @@ extern "C" {
 #define SIMJORAD_LOW_ABOVE_HIGH 23    /* low above high, both at most top */
 #define SIMJORAD_NEGATED_LOOP 30      /* a chain through a negation leads back */
 #define SIMJORAD_LAYERS_SHORT 31      /* the slice for the layers is shorter than C */
+#define SIMJORAD_SEASON_LENGTH 80     /* an odd count of numbers, or not 1 to 4,096 pairs */
+#define SIMJORAD_SEASON_PAIR 81       /* a pair with low above high, or high over 200 */
 
 /*
  * Read a page: the text becomes a page area. Returns the used length (4 or more), or minus 1, 2, 5, 3, 4, 21, 22, 23 or 6.
@@ -230,6 +235,17 @@ int32_t simjorad_closed_indexed(const uint16_t *page, size_t page_length, const 
  * each condition that its rules name, more than that of each one that they negate, all as small as possible. A layer is below C.
  */
 int32_t simjorad_layers(const uint16_t *page, size_t page_length, uint16_t *layers, size_t layers_length, uint32_t *condition);
+
+/*
+ * A season's figures, of 1 to 4,096 answers for one condition: low, high of each in turn (pairs_length counts numbers, two for each answer). Returns 0,
+ * or minus 80 or 81. Sets *count to the count of answers, *sum_low to the sum of the lows, *sum_width to that of the widths (high - low),
+ * *smallest to the smallest low, *largest to the largest high, *mean and *remainder to the sum of the lows divided by the count, and *change to
+ * the change of low from one answer to the next that is greatest in size: negative for a fall, the earliest of several of one size, 0 if
+ * there is one answer. *place is the place of the first bad pair for 81, counted from 1, and 0 after every other outcome. pairs is only read.
+ */
+int32_t simjorad_season(const uint16_t *pairs, size_t pairs_length, uint32_t *count, uint32_t *sum_low, uint32_t *sum_width,
+                        uint32_t *smallest, uint32_t *largest, uint32_t *mean, uint32_t *remainder, int32_t *change,
+                        uint32_t *place);
 
 #ifdef __cplusplus
 }

@@ -172,6 +172,20 @@ static void layered(void)
     CHECK(simjorad_layers(page, 20, layers, 5, &condition) == 0 && condition == 0 && same(layers, wanted, 4) && layers[4] == 77);
 }
 
+static void season(void)
+{
+    static const uint16_t pairs[] = {5, 9, 2, 2, 5, 6, 3, 2};
+    uint32_t count = 77, low = 77, width = 77, smallest = 77, largest = 77, mean = 77, remainder = 77, place = 77;
+    int32_t change = 77;
+
+#define SEASON(n) simjorad_season(pairs, n, &count, &low, &width, &smallest, &largest, &mean, &remainder, &change, &place)
+    CHECK(SEASON(8) == -SIMJORAD_SEASON_PAIR && place == 4 && count == 77 && change == 77);
+    CHECK(SEASON(7) == -SIMJORAD_SEASON_LENGTH && place == 0 && low == 77 && remainder == 77);
+    CHECK(SEASON(0) == -SIMJORAD_SEASON_LENGTH && place == 0);
+    CHECK(SEASON(6) == 0 && place == 0 && count == 3 && low == 12 && width == 5 && smallest == 2 && largest == 9);
+    CHECK(mean == 4 && remainder == 0 && change == -3);
+}
+
 int main(void)
 {
     reads();
@@ -181,6 +195,7 @@ int main(void)
     held_lines();
     closed();
     layered();
+    season();
     printf("%d passed, %d failed\n", passed, failed);
     return failed != 0;
 }

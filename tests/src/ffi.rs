@@ -53,6 +53,7 @@ calls! {
     Closed simjorad_closed,
     ClosedIndexed simjorad_closed_indexed,
     Layers simjorad_layers,
+    Season simjorad_season,
 }
 
 /// Whether the stand-in is under test: the variable STANDIN_FAULT is set, to a fault or to nothing.

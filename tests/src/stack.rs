@@ -98,7 +98,7 @@ impl Stack {
     /// # Safety
     /// The arguments are good for the function.
     pub unsafe fn limited(&mut self, call: Call, arguments: &[usize]) -> usize {
-        let mut padded = [0; 10];
+        let mut padded = [0; 12];
         padded[..arguments.len()].copy_from_slice(arguments);
         let more = arguments.len().saturating_sub(IN_REGISTERS);
         let top = self.memory.first().add(stated_stack(call));

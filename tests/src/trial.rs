@@ -15,6 +15,7 @@ use crate::layers;
 use crate::page;
 use crate::plain;
 use crate::rng::Rng;
+use crate::season;
 use crate::workspace;
 
 /// What a case returns: nothing, or why it fails.
@@ -468,6 +469,20 @@ impl Trial {
         same(&input, &got, &wanted)?;
         same_numbers(&input, "layers", slice, &expected)?;
         self.saw("layers", wanted.err().map_or(0, |refusal| refusal.number));
+        Ok(got)
+    }
+
+    pub fn season(&mut self, pairs: &[u16]) -> Check<Result<Season, SeasonRefusal>> {
+        let wanted = season::season(pairs);
+        let got = self.engine.season(pairs);
+        let input = Input {
+            op: "season",
+            slices: vec![("pairs", Slice::Numbers(pairs))],
+            numbers: Vec::new(),
+        };
+        let got = got.map_err(|reason| breach(&input, reason))?;
+        same(&input, &got, &wanted)?;
+        self.saw("season", wanted.err().map_or(0, |refusal| refusal.number));
         Ok(got)
     }
 }

@@ -12,6 +12,7 @@ mod reader;
 mod refusals;
 mod rows;
 mod runs;
+mod season;
 pub mod stack;
 mod thresholds;
 
@@ -35,6 +36,7 @@ pub fn calls() -> Vec<Case> {
     cases.extend(closed::cases());
     cases.extend(cover::cases());
     cases.extend(layers::cases());
+    cases.extend(season::cases());
     cases.extend(thresholds::cases());
     cases.extend(lists::cases());
     cases.extend(large::cases());

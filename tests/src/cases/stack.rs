@@ -58,8 +58,9 @@ static LINE: Function = function("SIMJORAD_STACK_LINE", 2048);
 static CLOSED: Function = function("SIMJORAD_STACK_CLOSED", 2048);
 static CLOSED_INDEXED: Function = function("SIMJORAD_STACK_CLOSED_INDEXED", 3072);
 static LAYERS: Function = function("SIMJORAD_STACK_LAYERS", 2048);
+static SEASON: Function = function("SIMJORAD_STACK_SEASON", 2048);
 
-static FUNCTIONS: [&Function; 11] = [
+static FUNCTIONS: [&Function; 12] = [
     &READ,
     &SHOW_LINE,
     &OPEN,
@@ -71,6 +72,7 @@ static FUNCTIONS: [&Function; 11] = [
     &CLOSED,
     &CLOSED_INDEXED,
     &LAYERS,
+    &SEASON,
 ];
 
 /// Evaluations of a drive.
@@ -111,7 +113,7 @@ struct Lent {
     area: Vec<u16>,
     answers: Vec<u16>,
     workspace: Vec<u16>,
-    outs: [u64; 4],
+    outs: [u64; 9],
 }
 
 impl Lent {
@@ -259,6 +261,15 @@ impl Bench<'_> {
         })
     }
 
+    /// A season, its pairs in `area`.
+    fn season(&mut self, lent: &Lent) -> Check<i32> {
+        self.call(&SEASON, Call::Season.function(), lent, |lent| {
+            let mut arguments = lent.area();
+            arguments.extend((0..9).flat_map(|out| lent.out(out)));
+            arguments
+        })
+    }
+
     /// Texts read, and refused for each cause.
     fn reads(&mut self, text: &[u8], used: usize) -> Check {
         let mut lent = Lent {
@@ -400,6 +411,20 @@ impl Bench<'_> {
         figure("layers", self.layers(&lent)?, -PAGE_UNSOUND)
     }
 
+    /// The longest season, with its greatest change at the end, and refused lists.
+    fn seasons(&mut self, good: &Lent) -> Check {
+        let mut lent = good.clone();
+        lent.area = (0..8192).map(|at| at % 201 / 2).collect();
+        for pair in lent.area.chunks_mut(2) {
+            pair.sort_unstable();
+        }
+        figure("season", self.season(&lent)?, 0)?;
+        lent.area[8191] = 201;
+        figure("season", self.season(&lent)?, -SEASON_PAIR)?;
+        lent.area.pop();
+        figure("season", self.season(&lent)?, -SEASON_LENGTH)
+    }
+
     fn workspace_lengths(&self, lent: &Lent) -> [usize; 4] {
         let needed = workspace::needed(&lent.page);
         [0, needed - 1, needed, workspace::WORKSPACE_MAX]
@@ -451,5 +476,6 @@ fn on_a_large_page(trial: &mut Trial, item: u64) -> Check {
     bench.closeds(&lent)?;
     lent.area = vec![7; 512];
     bench.layered(&lent)?;
+    bench.seasons(&lent)?;
     bench.over
 }
