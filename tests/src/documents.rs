@@ -301,6 +301,7 @@ impl Document {
             "fields," => fields(rest, table),
             "runs," => runs(rest, table),
             "layers," => layers_of_pages(rest, table),
+            "seasons" => seasons(table),
             "limits" => limits(table),
             "refusals" => refusals(table),
             "operations" => operations(table),
@@ -523,6 +524,33 @@ fn layers_of_pages(how: &str, table: &Table) -> Check {
         };
         figure(&text, table.cell(row, "answer")?, &answer)?;
         figure(&text, table.cell(row, "layers")?, &numbers.join(", "))?;
+    }
+    Ok(())
+}
+
+/// `seasons`: columns pairs, the figures in their order, and change. A refusal is its number at its place.
+fn seasons(table: &Table) -> Check {
+    const FIGURES: &str = "count, lows, widths, smallest, largest, mean, remainder";
+    let mut trial = Trial::new();
+    for row in &table.rows {
+        let text = table.cell(row, "pairs")?;
+        let words = text.split([',', ' ']).filter(|word| !word.is_empty());
+        let pairs: Result<Vec<u16>, _> = words.map(str::parse).collect();
+        let pairs = pairs.map_err(|_| format!("{text:?} are no pairs"))?;
+        let (figures, change) = match trial.season(&pairs)? {
+            Ok(f) => {
+                let sums = [f.count, f.sum_low, f.sum_width, f.smallest, f.largest];
+                let all = sums.into_iter().chain([f.mean, f.remainder]);
+                let all: Vec<String> = all.map(|figure| figure.to_string()).collect();
+                (all.join(", "), f.change.to_string())
+            }
+            Err(refusal) => (
+                format!("{} at {}", refusal.number, refusal.place),
+                String::new(),
+            ),
+        };
+        figure(text, table.cell(row, FIGURES)?, &figures)?;
+        figure(text, table.cell(row, "change")?, &change)?;
     }
     Ok(())
 }

@@ -295,6 +295,7 @@ pub extern "C" fn simjorad_season(
     ensures place { λ _. ⌜ now (place .exit) ≡ pairTold (seasonOf (now (pairs .entry))) ⌝ }
 {
     let answer = season::season(pairs);
+    *place = 0;
     match answer {
         SeasonAnswer::Refused { number, place: bad } => {
             *place = bad;
@@ -310,7 +311,6 @@ pub extern "C" fn simjorad_season(
             *mean = f.mean;
             *remainder = f.remainder;
             *change = signed;
-            *place = 0;
             0
         }
     }
