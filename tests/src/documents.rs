@@ -317,6 +317,7 @@ impl Document {
             limits.extend([figure, figure + 1, figure + 2]);
         }
         limits.insert(header_figure("SIMJORAD_WORKSPACE_MAX")?);
+        limits.insert(header_figure("SIMJORAD_SEASON_MAX")?);
         for (number, line) in &self.prose {
             for interval in intervals(line) {
                 if !self.shown.contains(&interval) {
