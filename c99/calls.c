@@ -13,8 +13,8 @@
 #include "simjorad.h"
 
 enum { READ, SHOW_LINE, OPEN, EVALUATE, DRIVE, DRIVE_INDEXED, VALUE, LINE, CLOSED, CLOSED_INDEXED, LAYERS, CHECK_PICKS, OPEN_FIRST,
-       OPEN_SECOND, EVALUATE_FIRST, EVALUATE_SECOND, TURN, FOLLOWERS, FUNCTIONS };
-enum { SLICES = 5, OUTS = 5 };
+       OPEN_SECOND, EVALUATE_FIRST, EVALUATE_SECOND, TURN, FOLLOWERS, SEASON, FUNCTIONS };
+enum { SLICES = 5, OUTS = 9 };
 
 /* What a call is lent and answers. A slice that is not lent has no place here: its size is 0. */
 struct slice {
@@ -53,6 +53,8 @@ int32_t engine_evaluate_first(const uint16_t *, size_t, uint16_t *, size_t, uint
 int32_t engine_evaluate_second(const uint16_t *, size_t, uint16_t *, size_t, uint32_t);
 int32_t engine_turn(const uint16_t *, size_t, uint16_t *, size_t, uint32_t, uint32_t *, uint32_t *, uint32_t *, uint32_t *, uint32_t *);
 int32_t engine_followers(const uint16_t *, size_t, uint32_t);
+int32_t engine_season(const uint16_t *, size_t, uint32_t *, uint32_t *, uint32_t *, uint32_t *, uint32_t *, uint32_t *, uint32_t *, int32_t *,
+                      uint32_t *);
 #else
 #define NAME(f) simjorad_##f
 #endif
@@ -104,7 +106,7 @@ static void make(struct call *c)
     case LAYERS:
         c->answer = (uint32_t)NAME(layers)(s[0].at, s[0].length, s[1].at, s[1].length, &c->outs[0]);
         break;
-    case LAYERS:
+    case CHECK_PICKS:
         c->answer = (uint32_t)NAME(check_picks)(s[0].at, s[0].length, s[1].at, s[1].length, s[2].at, s[2].length, s[3].at,
                                                 s[3].length, &c->outs[0]);
         break;
@@ -122,12 +124,16 @@ static void make(struct call *c)
     case EVALUATE_SECOND:
         c->answer = (uint32_t)NAME(evaluate_second)(s[0].at, s[0].length, s[1].at, s[1].length, c->number);
         break;
-    case LAYERS:
+    case TURN:
         c->answer = (uint32_t)NAME(turn)(s[0].at, s[0].length, s[1].at, s[1].length, c->number, &c->outs[0], &c->outs[1], &c->outs[2],
                                          &c->outs[3], &c->outs[4]);
         break;
-    default:
+    case FOLLOWERS:
         c->answer = (uint32_t)NAME(followers)(s[0].at, s[0].length, c->number);
+        break;
+    default:
+        c->answer = (uint32_t)NAME(season)(s[0].at, s[0].length, &c->outs[0], &c->outs[1], &c->outs[2], &c->outs[3], &c->outs[4],
+                                           &c->outs[5], &c->outs[6], (int32_t *)&c->outs[7], &c->outs[8]);
     }
 }
 
@@ -399,11 +405,24 @@ int32_t simjorad_followers(const uint16_t *page, size_t page_length, uint32_t co
     return (int32_t)c.answer;
 }
 
+int32_t simjorad_season(const uint16_t *pairs, size_t pairs_length, uint32_t *count, uint32_t *sum_low, uint32_t *sum_width,
+                        uint32_t *smallest, uint32_t *largest, uint32_t *mean, uint32_t *remainder, int32_t *change, uint32_t *place)
+{
+    uint32_t *outs[] = {count, sum_low, sum_width, smallest, largest, mean, remainder, (uint32_t *)change, place};
+    struct call c = {.function = SEASON, NUMBERS(0, pairs)};
+    for (int k = 0; k < OUTS; k++)
+        c.outs[k] = *outs[k];
+    hand_on(&c);
+    for (int k = 0; k < OUTS; k++)
+        *outs[k] = c.outs[k];
+    return (int32_t)c.answer;
+}
+
 #else
 
 static const char *const names[FUNCTIONS] = {"read", "show_line", "open", "evaluate", "drive", "drive_indexed", "value", "line",
                                              "closed", "closed_indexed", "layers", "check_picks", "open_first", "open_second", "evaluate_first",
-                                             "evaluate_second", "turn", "followers"};
+                                             "evaluate_second", "turn", "followers", "season"};
 static FILE *file;
 
 static unsigned byte(void)

@@ -42,14 +42,20 @@ class Source:
         module = next((part for part in middle if part.islower()), '')
         return self.files.get((crate, module), '')
 
-    def function(self, symbol):
-        """The comment above a function, and the names of its parameters."""
+    def head(self, symbol):
+        """The comment above a function and the text of its parameters, if there is one such function."""
         name = re.escape(symbol.split('::')[-1])
         found = re.findall(r'((?:^ *//[^\n]*\n)*)(?:^ *#\[[^\n]*\n)*^ *(?:pub )?(?:extern "C" )?fn ' + name + r'\(([^)]*)\)',
                            self.text(symbol), re.M)
-        if len(found) != 1:
-            return '', []
-        comment, parameters = found[0]
+        return found[0] if len(found) == 1 else ('', '')
+
+    def signed(self, symbol):
+        """The out-parameters of 32 bits that are signed: the MIR does not say so, and the C compiler holds the header against it."""
+        return {safe(part.split(':')[0].strip()) for part in split(self.head(symbol)[1]) if part.endswith('&mut i32')}
+
+    def function(self, symbol):
+        """The comment above a function, and the names of its parameters."""
+        comment, parameters = self.head(symbol)
         words = ' '.join(line.strip().lstrip('/').strip() for line in comment.splitlines())
         return words.replace('*/', '* /'), [name.lstrip('&').removeprefix('mut ') for name in field_names(parameters)]
 

@@ -318,8 +318,9 @@ def _(f, op, a, t):
 
 @word('op1 cast')
 def _(f, op, a, t):
-    """cast unsigned S W: the same number in W bits; the proofs show that it fits, also where S reads it as signed"""
-    if op[1] != 'unsigned' or op[2] not in ('unsigned', 'signed') or t != 'tyBool' and not width(t):
+    """cast S S' W: the same number in W bits; the proofs show that it fits, also where S' reads it as signed. A signed number is only cast to
+    unsigned: it is not negative (proved), so it has the same bits"""
+    if op[1:3] == ('signed', 'signed') or {*op[1:3]} - {'unsigned', 'signed'} or t != 'tyBool' and not width(t):
         raise Unknown(f'{op} at the type {t}')
     return f'({ctype_int(("tyInt", op[3]))}){bound(a, UNARY)}', UNARY
 
@@ -409,8 +410,11 @@ def _(op, a, b, t):
 
 @word('op2 lt')
 def _(op, a, b, t):
-    """lt unsigned: less"""
-    unsigned(op)
+    """lt S: less; of signed numbers with the top bit the other way, which puts the negative ones below the others"""
+    unsigned(op, 'signed')
+    if op[1] == 'signed':
+        top = f'UINT{width(t)}_C({1 << int(width(t)) - 1})'
+        return f'({a} ^ {top}) < ({b} ^ {top})', BINARY
     return f'{a} < {b}', BINARY
 
 

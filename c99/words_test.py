@@ -15,9 +15,15 @@ TWO = {'(add unsigned)': lambda a, b, w: a + b, '(sub unsigned)': lambda a, b, w
        '(div unsigned)': lambda a, b, w: a // b if b else -1, '(rem unsigned)': lambda a, b, w: a % b if b else -1,
        'shl': lambda a, b, w: (a << b) % 2 ** w if b < w else -1, '(shr unsigned)': lambda a, b, w: a >> b if b < w else -1,
        'and': lambda a, b, w: a & b, 'or': lambda a, b, w: a | b, 'xor': lambda a, b, w: a ^ b}
-COMPARE = {'(lt unsigned)': lambda a, b: a < b, '(le unsigned)': lambda a, b: a <= b, 'eq': lambda a, b: a == b, 'ne': lambda a, b: a != b}
+COMPARE = {'(lt unsigned)': lambda a, b, w: a < b, '(le unsigned)': lambda a, b, w: a <= b, 'eq': lambda a, b, w: a == b,
+           'ne': lambda a, b, w: a != b, '(lt signed)': lambda a, b, w: signed(a, w) < signed(b, w)}
 COUNT = {'leadingZeros': lambda a, w: w - a.bit_length(), 'trailingZeros': lambda a, w: (a & -a).bit_length() - 1 if a else w,
          'countOnes': lambda a, w: bin(a).count('1')}
+
+
+def signed(a, w):
+    """The number that w bits stand for."""
+    return a if a < 2 ** (w - 1) else a - 2 ** w
 
 
 def chain(parts, cons='lcons', nil='lnil'):
@@ -57,10 +63,12 @@ def operations():
             yield f'{op} {w}', [number(64)] + [number(w)] * 3, body, w, lambda a, b, w, m=meaning: m(a, b, w) if m(a, b, w) < 2 ** w else -1
         for op, meaning in COMPARE.items():
             body = [assign(3, f'(op2 {op} {copy(1)} {copy(2)})'), widened(0, 3)]
-            yield f'{op} {w}', [number(64), number(w), number(w), 'tyBool'], body, w, lambda a, b, w, m=meaning: int(m(a, b))
+            yield f'{op} {w}', [number(64), number(w), number(w), 'tyBool'], body, w, lambda a, b, w, m=meaning: int(m(a, b, w))
         for op, meaning in COUNT.items():
             body = [assign(3, f'(op1 {op} {copy(1)})'), widened(0, 3)]
             yield f'{op} {w}', [number(64), number(w), number(w), number(32)], body, w, lambda a, b, w, m=meaning: m(a, w)
+        body = [assign(0, f'(op1 (cast signed unsigned 64) {copy(1)})')]
+        yield f'cast signed unsigned {w}', [number(64), number(w), number(w)], body, w, lambda a, b, w: signed(a, w)
         body = [assign(3, f'(op1 not {copy(1)})'), widened(0, 3)]
         yield f'not {w}', [number(64)] + [number(w)] * 3, body, w, lambda a, b, w: 2 ** w - 1 - a
         constant = 2 ** (w - 1) + 1
@@ -124,8 +132,8 @@ def refused():
     bad = {'an unknown operation': [assign(3, f'(op2 (shr signed) {copy(1)} {copy(2)})')],
            'an unknown statement': ['(jump 1)'],
            'an unknown value': [assign(3, f'(blend {copy(1)})')],
-           'a signed comparison': [assign(3, f'(op2 (lt signed) {copy(1)} {copy(2)})')],
-           'a cast from a signed number': [assign(3, f'(op1 (cast signed unsigned 64) {copy(1)})')],
+           'another signed comparison': [assign(3, f'(op2 (le signed) {copy(1)} {copy(2)})')],
+           'a cast between signed numbers': [assign(3, f'(op1 (cast signed signed 64) {copy(1)})')],
            'a recursion': [f'(call (direct (fnRef "t::op_0")) (lcons {copy(1)} (lcons {copy(2)} lnil)) (place 3 lnil))'],
            'an unknown function': [f'(call (direct (fnRef "t::gone")) (lcons {copy(1)} lnil) (place 3 lnil))']}
     passed = 0

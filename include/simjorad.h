@@ -12,7 +12,8 @@
  *
  * Results. A call returns a result of 0 or more, or minus the number of its refusal. A refused call changes nothing that was lent to
  * it and no out-parameter, but for those that tell of a refusal: *line and *place of simjorad_read, *condition of simjorad_layers, *place of
- * simjorad_check_picks and *stall of simjorad_turn are set by every call, to 0 where there is nothing to tell. Out-parameters must not be NULL.
+ * simjorad_check_picks, *stall of simjorad_turn and *place of simjorad_season are set by every call, to 0 where there is nothing to tell.
+ * Out-parameters must not be NULL.
  *
  * Calls. No call keeps anything between calls, allocates or blocks. Calls on different areas may run at the same time. On one run
  * area make one call at a time: there is no lock. A page area may be read by several calls at once.
@@ -46,6 +47,7 @@
  *   open_first, open_second, evaluate_first, evaluate_second   as open and evaluate
  *   turn             as a drive of each run by the evaluations that it takes; both runs are checked once, and no line is looked for
  *   followers        scans of the page until one finds no further follower, usually a few and at most C + 1
+ *   season           two passes over the pairs
  *
  * simjorad_drive_indexed and simjorad_closed_indexed give the same answers and the same areas as simjorad_drive and
  * simjorad_closed. They are lent one more slice, a workspace, for an index of the page's lines: with room for it they take
@@ -93,6 +95,7 @@ extern "C" {
 #define SIMJORAD_LINES_MAX 1024       /* lines after the first */
 #define SIMJORAD_LITERALS_MAX 8       /* literals of a rule */
 #define SIMJORAD_QUERIES_MAX 16       /* entries of a query list */
+#define SIMJORAD_SEASON_MAX 4096      /* pairs of a season */
 #define SIMJORAD_TEXT_MAX 65535       /* bytes of a page's text */
 #define SIMJORAD_PAGE_MAX 12292       /* numbers of the longest page area */
 #define SIMJORAD_RUN_LENGTH(c) (3 * (c))     /* numbers of a run area for c conditions */
@@ -129,6 +132,7 @@ extern "C" {
 #define SIMJORAD_STACK_EVALUATE_SECOND 1664
 #define SIMJORAD_STACK_TURN 1856
 #define SIMJORAD_STACK_FOLLOWERS 384
+#define SIMJORAD_STACK_SEASON 256
 
 /* Refusals, each with its cause. */
 #define SIMJORAD_TEXT_TOO_LONG 1      /* more than 65,535 bytes */
@@ -156,6 +160,8 @@ extern "C" {
 #define SIMJORAD_PICKS_NOT_AT_REST 51 /* the run is not at rest after the last pick */
 #define SIMJORAD_FIGURES_WRONG 52     /* the figures have another length, or are not the plain answers */
 #define SIMJORAD_SHARED_SHORT 60      /* the shared area is shorter than 6 * C */
+#define SIMJORAD_SEASON_LENGTH 80     /* an odd count of numbers, or not 1 to 4,096 pairs */
+#define SIMJORAD_SEASON_PAIR 81       /* a pair with low above high, or high over 200 */
 
 /*
  * Read a page: the text becomes a page area. Returns the used length (4 or more), or minus 1, 2, 5, 3, 4, 21, 22, 23 or 6.
@@ -300,6 +306,17 @@ int32_t simjorad_turn(const uint16_t *page, size_t page_length, uint16_t *area, 
  * chain of naming steps leads back to it. Returns the count, 0 to C, or minus 10 or 15. Nothing is written.
  */
 int32_t simjorad_followers(const uint16_t *page, size_t page_length, uint32_t condition);
+
+/*
+ * A season's figures, of 1 to 4,096 answers for one condition: low, high of each in turn (pairs_length counts numbers, two for each answer). Returns 0,
+ * or minus 80 or 81. Sets *count to the count of answers, *sum_low to the sum of the lows, *sum_width to that of the widths (high - low),
+ * *smallest to the smallest low, *largest to the largest high, *mean and *remainder to the sum of the lows divided by the count, and *change to
+ * the change of low from one answer to the next that is greatest in size: negative for a fall, the earliest of several of one size, 0 if
+ * there is one answer. *place is the place of the first bad pair for 81, counted from 1, and 0 after every other outcome. pairs is only read.
+ */
+int32_t simjorad_season(const uint16_t *pairs, size_t pairs_length, uint32_t *count, uint32_t *sum_low, uint32_t *sum_width,
+                        uint32_t *smallest, uint32_t *largest, uint32_t *mean, uint32_t *remainder, int32_t *change,
+                        uint32_t *place);
 
 #ifdef __cplusplus
 }

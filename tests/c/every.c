@@ -231,6 +231,20 @@ static void followed(void)
     CHECK(simjorad_followers(NULL, 0, 0) == -SIMJORAD_PAGE_UNSOUND);
 }
 
+static void season(void)
+{
+    static const uint16_t pairs[] = {5, 9, 2, 2, 5, 6, 3, 2};
+    uint32_t count = 77, low = 77, width = 77, smallest = 77, largest = 77, mean = 77, remainder = 77, place = 77;
+    int32_t change = 77;
+
+#define SEASON(n) simjorad_season(pairs, n, &count, &low, &width, &smallest, &largest, &mean, &remainder, &change, &place)
+    CHECK(SEASON(8) == -SIMJORAD_SEASON_PAIR && place == 4 && count == 77 && change == 77);
+    CHECK(SEASON(7) == -SIMJORAD_SEASON_LENGTH && place == 0 && low == 77 && remainder == 77);
+    CHECK(SEASON(0) == -SIMJORAD_SEASON_LENGTH && place == 0);
+    CHECK(SEASON(6) == 0 && place == 0 && count == 3 && low == 12 && width == 5 && smallest == 2 && largest == 9);
+    CHECK(mean == 4 && remainder == 0 && change == -3);
+}
+
 int main(void)
 {
     reads();
@@ -243,6 +257,7 @@ int main(void)
     picked();
     stalls();
     followed();
+    season();
     printf("%d passed, %d failed\n", passed, failed);
     return failed != 0;
 }

@@ -28,6 +28,8 @@ pub const PICK_NOT_WAITING: Refusal = 50;
 pub const PICKS_NOT_AT_REST: Refusal = 51;
 pub const FIGURES_WRONG: Refusal = 52;
 pub const SHARED_SHORT: Refusal = 60;
+pub const SEASON_LENGTH: Refusal = 80;
+pub const SEASON_PAIR: Refusal = 81;
 
 /// Why a page's text is refused; the line, and the place of the field in it, count from 1 and are 0 where none is at fault.
 #[derive(Clone, Copy, Debug, PartialEq, Eq)]
@@ -98,4 +100,24 @@ pub struct Valued {
     pub low: u16,
     pub high: u16,
     pub rest: bool,
+}
+
+/// The figures of a season.
+#[derive(Clone, Copy, Debug, PartialEq, Eq)]
+pub struct Season {
+    pub count: u32,
+    pub sum_low: u32,
+    pub sum_width: u32,
+    pub smallest: u32,
+    pub largest: u32,
+    pub mean: u32,
+    pub remainder: u32,
+    pub change: i32,
+}
+
+/// Why a season's list is refused; the place counts from 1 and is 0 where no pair is told.
+#[derive(Clone, Copy, Debug, PartialEq, Eq)]
+pub struct SeasonRefusal {
+    pub number: Refusal,
+    pub place: u32,
 }

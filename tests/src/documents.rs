@@ -303,6 +303,7 @@ impl Document {
             "layers," => layers_of_pages(rest, table),
             "picks," => picks_of_pages(rest, table),
             "followers," => followers_of_pages(rest, table),
+            "seasons" => seasons(table),
             "limits" => limits(table),
             "refusals" => refusals(table),
             "operations" => operations(table),
@@ -318,6 +319,7 @@ impl Document {
             limits.extend([figure, figure + 1, figure + 2]);
         }
         limits.insert(header_figure("SIMJORAD_WORKSPACE_MAX")?);
+        limits.insert(header_figure("SIMJORAD_SEASON_MAX")?);
         for (number, line) in &self.prose {
             for interval in intervals(line) {
                 if !self.shown.contains(&interval) {
@@ -582,6 +584,33 @@ fn followers_of_pages(how: &str, table: &Table) -> Check {
             );
         }
         figure(&text, table.cell(row, "counts")?, &counts.join(", "))?;
+    }
+    Ok(())
+}
+
+/// `seasons`: columns pairs, the figures in their order, and change. A refusal is its number at its place.
+fn seasons(table: &Table) -> Check {
+    const FIGURES: &str = "count, lows, widths, smallest, largest, mean, remainder";
+    let mut trial = Trial::new();
+    for row in &table.rows {
+        let text = table.cell(row, "pairs")?;
+        let words = text.split([',', ' ']).filter(|word| !word.is_empty());
+        let pairs: Result<Vec<u16>, _> = words.map(str::parse).collect();
+        let pairs = pairs.map_err(|_| format!("{text:?} are no pairs"))?;
+        let (figures, change) = match trial.season(&pairs)? {
+            Ok(f) => {
+                let sums = [f.count, f.sum_low, f.sum_width, f.smallest, f.largest];
+                let all = sums.into_iter().chain([f.mean, f.remainder]);
+                let all: Vec<String> = all.map(|figure| figure.to_string()).collect();
+                (all.join(", "), f.change.to_string())
+            }
+            Err(refusal) => (
+                format!("{} at {}", refusal.number, refusal.place),
+                String::new(),
+            ),
+        };
+        figure(text, table.cell(row, FIGURES)?, &figures)?;
+        figure(text, table.cell(row, "change")?, &change)?;
     }
     Ok(())
 }

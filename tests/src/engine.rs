@@ -766,7 +766,61 @@ impl Engine {
             _ => Err(format!("returned {code}")),
         }
     }
+
+    pub fn season(&mut self, pairs: &[u16]) -> Result<Result<Season, SeasonRefusal>, String> {
+        let (loan, length) = self.lend_area(0, pairs);
+        let mut outs: Vec<Out<u32>> = (0..9).map(|_| self.out(|number| number as u32)).collect();
+        let slices = [Self::note(pairs, loan.ptr() as usize)];
+        let mut arguments = vec![loan.ptr() as usize, length];
+        arguments.extend(outs.iter_mut().map(|out| out.ptr() as usize));
+        let code = self.call(Call::Season, 0, &slices, &arguments)? as i32;
+        loan.end_const("pairs", pairs)?;
+        let place = outs[8].set("place")?;
+        match code {
+            -80 | -81 => {
+                for (out, name) in outs.iter().zip(SEASON_OUTS) {
+                    out.kept(name)?;
+                }
+                Ok(Err(SeasonRefusal {
+                    number: -code,
+                    place,
+                }))
+            }
+            0 if place != 0 => Err(format!("a season's figures leave {place} in `*place`")),
+            0 => {
+                let mut figures = [0; 8];
+                for ((figure, out), name) in figures.iter_mut().zip(&outs).zip(SEASON_OUTS) {
+                    *figure = out.set(name)?;
+                }
+                let [count, sum_low, sum_width, smallest, largest, mean, remainder, change] =
+                    figures;
+                Ok(Ok(Season {
+                    count,
+                    sum_low,
+                    sum_width,
+                    smallest,
+                    largest,
+                    mean,
+                    remainder,
+                    change: change as i32,
+                }))
+            }
+            _ => Err(format!("returned {code}")),
+        }
+    }
 }
+
+/// The out-parameters of a season that a refused call leaves.
+const SEASON_OUTS: [&str; 8] = [
+    "count",
+    "sum_low",
+    "sum_width",
+    "smallest",
+    "largest",
+    "mean",
+    "remainder",
+    "change",
+];
 
 fn driven(code: i32, taken: &Out<u32>, line: &Out<u32>) -> Result<Result<Driven, Refusal>, String> {
     match code {

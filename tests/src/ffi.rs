@@ -60,6 +60,7 @@ calls! {
     EvaluateSecond simjorad_evaluate_second,
     Turn simjorad_turn,
     Followers simjorad_followers,
+    Season simjorad_season,
 }
 
 /// Whether the stand-in is under test: the variable STANDIN_FAULT is set, to a fault or to nothing.

@@ -1,6 +1,6 @@
 //! Outside tests of the rule-page engine, through its C interface.
 //!
-//! The reference solver is `page`, `area`, `body`, `reach`, `plain`, `book`, `closed`, `layers`, `picks`, `stalls`, `followers` and `enumerate`; each
+//! The reference solver is `page`, `area`, `body`, `reach`, `plain`, `book`, `closed`, `layers`, `picks`, `stalls`, `followers`, `season` and `enumerate`; each
 //! names the section of document 01 (`docs/RULES.md`) that it implements. `fast` is a second one for large pages. `workspace` says what
 //! an indexed form leaves there. The callee is reached through `ffi`, `guard`, `stack` and `engine`: what it only reads lies in memory that
 //! cannot be written, beside what it is lent there is no memory, and it has no more stack than the header says. `trial` compares
@@ -41,6 +41,7 @@ pub mod programs;
 pub mod reach;
 pub mod rng;
 pub mod runner;
+pub mod season;
 pub mod slot;
 pub mod spoil;
 pub mod stack;

@@ -22,6 +22,7 @@ use crate::picks;
 use crate::plain::{self, check_queries};
 use crate::reach;
 use crate::stalls::{half, shared_length, Stall, STALLS};
+use crate::season;
 use crate::workspace;
 
 /// The faults that can be planted, each with the words of the run that notices it and the case that does.
@@ -977,6 +978,72 @@ pub const FAULTS: &[(&str, &str, &str)] = &[
         "condition_taken_at_16_bits",
         "quick only CASE",
         "followers_have_their_stated_figures",
+    ),
+    // A season's figures.
+    (
+        "latest_of_equal_changes",
+        "quick only CASE",
+        "seasons_have_their_stated_figures",
+    ),
+    (
+        "change_without_its_sign",
+        "quick only CASE",
+        "seasons_have_their_stated_figures",
+    ),
+    (
+        "change_of_high_ends",
+        "quick only CASE",
+        "seasons_have_their_stated_figures",
+    ),
+    (
+        "remainder_of_widths",
+        "quick only CASE",
+        "seasons_have_their_stated_figures",
+    ),
+    (
+        "mean_rounded_up",
+        "quick only CASE",
+        "seasons_have_their_stated_figures",
+    ),
+    (
+        "season_place_from_zero",
+        "quick only CASE",
+        "seasons_have_their_stated_figures",
+    ),
+    (
+        "last_bad_pair_told",
+        "quick only CASE",
+        "seasons_have_their_stated_figures",
+    ),
+    (
+        "bad_pair_before_wrong_length",
+        "quick only CASE",
+        "seasons_have_their_stated_figures",
+    ),
+    (
+        "season_of_4097",
+        "quick only CASE",
+        "seasons_have_their_stated_figures",
+    ),
+    (
+        "high_of_201_taken",
+        "quick only CASE",
+        "seasons_have_their_stated_figures",
+    ),
+    (
+        "smallest_high",
+        "quick only CASE",
+        "seasons_have_their_stated_figures",
+    ),
+    (
+        "refused_season_written",
+        "quick only CASE",
+        "seasons_have_their_stated_figures",
+    ),
+    (
+        "season_place_left",
+        "quick only CASE",
+        "seasons_have_their_stated_figures",
     ),
 ];
 
@@ -2779,6 +2846,109 @@ pub unsafe extern "C" fn simjorad_followers(
         return -CONDITION_RANGE;
     }
     followers_of(&page, cond as u16).len() as i32
+}
+
+/// The figures or the refusal, with the planted fault.
+fn season_of(pairs: &[u16]) -> Result<Season, SeasonRefusal> {
+    let mut given = pairs.to_vec();
+    if fault("high_of_201_taken") {
+        for high in given
+            .iter_mut()
+            .skip(1)
+            .step_by(2)
+            .filter(|high| **high == 201)
+        {
+            *high = 200;
+        }
+    }
+    if fault("season_of_4097") && given.len() == 8194 {
+        given.truncate(8192);
+    }
+    if fault("bad_pair_before_wrong_length") && given.len() % 2 == 1 && given.len() > 1 {
+        given.pop();
+        if let Err(refusal) = season::season(&given) {
+            return Err(refusal);
+        }
+    }
+    match season::season(&given) {
+        Ok(mut figures) => {
+            season_fault(pairs, &mut figures);
+            Ok(figures)
+        }
+        Err(mut refusal) => {
+            if fault("season_place_from_zero") && refusal.number == SEASON_PAIR {
+                refusal.place -= 1;
+            }
+            if fault("last_bad_pair_told") && refusal.number == SEASON_PAIR {
+                let bad = |pair: &[u16]| pair[0] > pair[1] || pair[1] > 200;
+                let last = pairs.chunks(2).rposition(bad).unwrap_or(0);
+                refusal.place = last as u32 + 1;
+            }
+            Err(refusal)
+        }
+    }
+}
+
+/// Plants a fault in the figures.
+fn season_fault(pairs: &[u16], figures: &mut Season) {
+    let ends = |at: usize| pairs.iter().skip(at).step_by(2).map(|end| i32::from(*end));
+    let changes = |at| ends(at).zip(ends(at).skip(1)).map(|(one, next)| next - one);
+    if fault("latest_of_equal_changes") {
+        figures.change = changes(0).max_by_key(|change| change.abs()).unwrap_or(0);
+    }
+    if fault("change_without_its_sign") {
+        figures.change = figures.change.abs();
+    }
+    if fault("change_of_high_ends") {
+        figures.change = changes(1).max_by_key(|change| change.abs()).unwrap_or(0);
+    }
+    if fault("remainder_of_widths") {
+        figures.remainder = figures.sum_width % figures.count;
+    }
+    if fault("mean_rounded_up") {
+        figures.mean = figures.sum_low.div_ceil(figures.count);
+    }
+    if fault("smallest_high") {
+        figures.smallest = ends(1).min().unwrap_or(0) as u32;
+    }
+}
+
+pub unsafe extern "C" fn simjorad_season(
+    pairs: *const u16,
+    pairs_length: usize,
+    count: *mut u32,
+    sum_low: *mut u32,
+    sum_width: *mut u32,
+    smallest: *mut u32,
+    largest: *mut u32,
+    mean: *mut u32,
+    remainder: *mut u32,
+    change: *mut i32,
+    place: *mut u32,
+) -> i32 {
+    match season_of(lent(pairs, pairs_length)) {
+        Ok(figures) => {
+            *count = figures.count;
+            *sum_low = figures.sum_low;
+            *sum_width = figures.sum_width;
+            *smallest = figures.smallest;
+            *largest = figures.largest;
+            *mean = figures.mean;
+            *remainder = figures.remainder;
+            *change = figures.change;
+            if !fault("season_place_left") {
+                *place = 0;
+            }
+            0
+        }
+        Err(refusal) => {
+            if fault("refused_season_written") {
+                *count = 0;
+            }
+            *place = refusal.place;
+            -refusal.number
+        }
+    }
 }
 
 /// Plants one fault after another and runs the case that is named beside it, or all cases; true if every fault is noticed.

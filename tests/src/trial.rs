@@ -18,6 +18,7 @@ use crate::picks;
 use crate::plain;
 use crate::rng::Rng;
 use crate::stalls::{self, Stall};
+use crate::season;
 use crate::workspace;
 
 /// What a case returns: nothing, or why it fails.
@@ -603,6 +604,20 @@ impl Trial {
         if wanted.is_ok() && decode(page).is_some_and(back) {
             self.saw("followers, itself among them", 0);
         }
+        Ok(got)
+    }
+
+    pub fn season(&mut self, pairs: &[u16]) -> Check<Result<Season, SeasonRefusal>> {
+        let wanted = season::season(pairs);
+        let got = self.engine.season(pairs);
+        let input = Input {
+            op: "season",
+            slices: vec![("pairs", Slice::Numbers(pairs))],
+            numbers: Vec::new(),
+        };
+        let got = got.map_err(|reason| breach(&input, reason))?;
+        same(&input, &got, &wanted)?;
+        self.saw("season", wanted.err().map_or(0, |refusal| refusal.number));
         Ok(got)
     }
 }

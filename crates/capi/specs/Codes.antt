@@ -11,6 +11,7 @@ use Rattle.semantics.specs.Operation.{Opening, refusedOpening, openedWith, Clos
 use Rattle.semantics.specs.Picks.{PicksAnswer, refusedQueries, notWaiting, notAtRest, wrongFigures, acceptedPicks, picksNumber, PicksOf}
 use Rattle.semantics.specs.ReadPage.{ReadAnswer, refusedPage, readPage}
 use Rattle.semantics.specs.Stalls.{Told, TurnAnswer, refusedTurn, turned}
+use Rattle.semantics.specs.Season.{SeasonAnswer, refusedSeason, season, Figures}
 use Rattle.semantics.specs.Worklist.{Status, rest, spent}
 
 -- "minus the refusal number"
@@ -183,3 +184,18 @@ pub record FollowersCall (code : ℤ) (area : List ℕ) (condition : ℕ) : Type
   pub answer : FollowersAnswer
   pub is : FollowersOf answer area condition
   pub code-is : code ≡ followersCode answer
+
+-- season: minus the refusal number, or 0
+abbrev pub seasonCode : SeasonAnswer → ℤ
+seasonCode (refusedSeason number place) = minus number
+seasonCode (season f) = pos 0
+
+-- "the place of the first such pair, counted from 1"; 0 where there is nothing to tell
+abbrev pub pairTold : SeasonAnswer → ℕ
+pairTold (refusedSeason number place) = place
+pairTold (season f) = 0
+
+-- the figures; a refusal leaves what was there
+abbrev pub figuresOr : Figures → SeasonAnswer → Figures
+figuresOr old (refusedSeason number place) = old
+figuresOr old (season f) = f

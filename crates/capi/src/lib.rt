@@ -6,10 +6,11 @@ ghost use Rattle.semantics.specs.ReadPage.{readOf, lineOf, startOf};
 ghost use Rattle.semantics.specs.Operation.{openOf, evaluateOf, driveOf, valueOf, lineHeldOf, driveWorkspace, closedWorkspace};
 ghost use Rattle.semantics.specs.Stalls.{first, second, openStall, evaluateStall, turnOf};
 ghost use Rattle.reach.specs.Opening.{openingOf};
+ghost use Rattle.semantics.specs.Season.{seasonOf};
 ghost use Rattle.run.specs.Answers.{statusIf, evaluateAnswerOf, driveAnswerOf};
 ghost use Rattle.stalls.specs.Answers.{turnAnswerOf};
 ghost use Rattle.closed.specs.Answer.{closingTold};
-ghost use Rattle.capi.specs.Codes.{minus as Codes·minus, statusCode, answerCode, takenOr, lineOr, intervalOr, openCode, countsOr, readCode, lineTold, placeTold, closedCode, roundsOr, ClosedCall, LayersCall, PicksCall, restTold, turnCode, stallTold, firstOr, secondOr, FollowersCall};
+ghost use Rattle.capi.specs.Codes.{minus as Codes·minus, statusCode, answerCode, takenOr, lineOr, intervalOr, openCode, countsOr, readCode, lineTold, placeTold, closedCode, roundsOr, ClosedCall, LayersCall, PicksCall, restTold, turnCode, stallTold, firstOr, secondOr, FollowersCall, seasonCode, pairTold, figuresOr};
 use closed::ClosedAnswer;
 use followers::CountAnswer;
 use layers::Verdict;
@@ -19,6 +20,7 @@ use run::DriveAnswer;
 use run::EvaluateAnswer;
 use stalls::Stall;
 use stalls::TurnAnswer;
+use season::SeasonAnswer;
 
 // Minus the number of a refusal.
 fn minus(number: u8) -> i32
@@ -469,5 +471,45 @@ pub extern "C" fn simjorad_followers(page: &[u16], condition: u32) -> i32
     match answer {
         CountAnswer::Refused(k) => minus(k),
         CountAnswer::Counted(k) => k as i32,
+    }
+}
+
+// A season's figures: 0, or minus 80 or 81.
+#[no_mangle]
+pub extern "C" fn simjorad_season(
+    pairs: &[u16],
+    count: &mut u32,
+    sum_low: &mut u32,
+    sum_width: &mut u32,
+    smallest: &mut u32,
+    largest: &mut u32,
+    mean: &mut u32,
+    remainder: &mut u32,
+    change: &mut i32,
+    place: &mut u32,
+) -> i32
+    ensures code { λ r. ⌜ r ≡ seasonCode (seasonOf (now (pairs .entry))) ⌝ }
+    ensures figures { λ _. ⌜ record { count = now (count .exit); sumLow = now («sum_low» .exit); sumWidth = now («sum_width» .exit); smallest = now (smallest .exit); largest = now (largest .exit); mean = now (mean .exit); remainder = now (remainder .exit); change = now (change .exit) } ≡ figuresOr (record { count = now (count .entry); sumLow = now («sum_low» .entry); sumWidth = now («sum_width» .entry); smallest = now (smallest .entry); largest = now (largest .entry); mean = now (mean .entry); remainder = now (remainder .entry); change = now (change .entry) }) (seasonOf (now (pairs .entry))) ⌝ }
+    ensures place { λ _. ⌜ now (place .exit) ≡ pairTold (seasonOf (now (pairs .entry))) ⌝ }
+{
+    let answer = season::season(pairs);
+    *place = 0;
+    match answer {
+        SeasonAnswer::Refused { number, place: bad } => {
+            *place = bad;
+            minus(number)
+        }
+        SeasonAnswer::Told(f) => {
+            let signed = f.change;
+            *count = f.count;
+            *sum_low = f.lows;
+            *sum_width = f.widths;
+            *smallest = f.smallest;
+            *largest = f.largest;
+            *mean = f.mean;
+            *remainder = f.remainder;
+            *change = signed;
+            0
+        }
     }
 }

@@ -95,3 +95,6 @@ pub mod StallsBench
 pub mod Followers
 pub mod FollowersRows
 pub mod FollowersBench
+-- ticket 14: a season's figures
+pub mod Season
+pub mod SeasonRows

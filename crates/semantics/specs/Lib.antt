@@ -39,3 +39,5 @@ pub mod Stalls
 pub mod StallsDemand
 -- document 02, ticket 12: how many conditions follow one
 pub mod Followers
+-- document 02, ticket 14: a season's figures
+pub mod Season

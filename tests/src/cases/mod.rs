@@ -14,6 +14,7 @@ mod reader;
 mod refusals;
 mod rows;
 mod runs;
+mod season;
 pub mod stack;
 mod stalls;
 mod thresholds;
@@ -41,6 +42,7 @@ pub fn calls() -> Vec<Case> {
     cases.extend(picks::cases());
     cases.extend(stalls::cases());
     cases.extend(followers::cases());
+    cases.extend(season::cases());
     cases.extend(thresholds::cases());
     cases.extend(lists::cases());
     cases.extend(large::cases());

@@ -67,8 +67,9 @@ static EVALUATE_FIRST: Function = function("SIMJORAD_STACK_EVALUATE_FIRST", 2048
 static EVALUATE_SECOND: Function = function("SIMJORAD_STACK_EVALUATE_SECOND", 2048);
 static TURN: Function = function("SIMJORAD_STACK_TURN", 2048);
 static FOLLOWERS: Function = function("SIMJORAD_STACK_FOLLOWERS", 2048);
+static SEASON: Function = function("SIMJORAD_STACK_SEASON", 2048);
 
-static FUNCTIONS: [&Function; 18] = [
+static FUNCTIONS: [&Function; 19] = [
     &READ,
     &SHOW_LINE,
     &OPEN,
@@ -87,6 +88,7 @@ static FUNCTIONS: [&Function; 18] = [
     &EVALUATE_SECOND,
     &TURN,
     &FOLLOWERS,
+    &SEASON,
 ];
 
 /// Evaluations of a drive.
@@ -127,7 +129,7 @@ struct Lent {
     area: Vec<u16>,
     answers: Vec<u16>,
     workspace: Vec<u16>,
-    outs: [u64; 5],
+    outs: [u64; 9],
 }
 
 impl Lent {
@@ -317,6 +319,15 @@ impl Bench<'_> {
     fn followers(&mut self, lent: &Lent, cond: usize) -> Check<i32> {
         self.call(&FOLLOWERS, Call::Followers.function(), lent, |lent| {
             [lent.page(), vec![cond]].concat()
+        })
+    }
+
+    /// A season, its pairs in `area`.
+    fn season(&mut self, lent: &Lent) -> Check<i32> {
+        self.call(&SEASON, Call::Season.function(), lent, |lent| {
+            let mut arguments = lent.area();
+            arguments.extend((0..9).flat_map(|out| lent.out(out)));
+            arguments
         })
     }
 
@@ -549,6 +560,20 @@ impl Bench<'_> {
         figure("followers", self.followers(&lent, 0)?, -PAGE_UNSOUND)
     }
 
+    /// The longest season, with its greatest change at the end, and refused lists.
+    fn seasons(&mut self, good: &Lent) -> Check {
+        let mut lent = good.clone();
+        lent.area = (0..8192).map(|at| at % 201 / 2).collect();
+        for pair in lent.area.chunks_mut(2) {
+            pair.sort_unstable();
+        }
+        figure("season", self.season(&lent)?, 0)?;
+        lent.area[8191] = 201;
+        figure("season", self.season(&lent)?, -SEASON_PAIR)?;
+        lent.area.pop();
+        figure("season", self.season(&lent)?, -SEASON_LENGTH)
+    }
+
     fn workspace_lengths(&self, lent: &Lent) -> [usize; 4] {
         let needed = workspace::needed(&lent.page);
         [0, needed - 1, needed, workspace::WORKSPACE_MAX]
@@ -604,5 +629,6 @@ fn on_a_large_page(trial: &mut Trial, item: u64) -> Check {
     lent.area = vec![7; shared_length(512)];
     bench.stalled(&lent)?;
     bench.followed(&lent)?;
+    bench.seasons(&lent)?;
     bench.over
 }
