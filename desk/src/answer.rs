@@ -17,7 +17,12 @@ pub fn run(page: &Page) -> Report {
         return Report::new(page, out, 0);
     }
     let label = |query: &Query| page.label(query.condition).chars().count();
-    let widest = queries.iter().map(label).max().unwrap_or(0).max("condition".len());
+    let widest = queries
+        .iter()
+        .map(label)
+        .max()
+        .unwrap_or(0)
+        .max("condition".len());
     let scale = format!("0{:>1$}", page.top, BAR + 1);
     out.push_str(&format!(
         "\nline  query    {:widest$}  reading  interval   {scale}\n",

@@ -62,7 +62,11 @@ pub fn conditions(area: &[u16]) -> usize {
 
 /// Where the lines begin: behind the four head numbers, and from layout 2 on behind one number more for each condition.
 fn first_line(area: &[u16]) -> usize {
-    let defaults = if header::LAYOUT == 1 { 0 } else { conditions(area) };
+    let defaults = if header::LAYOUT == 1 {
+        0
+    } else {
+        conditions(area)
+    };
     4 + defaults
 }
 
@@ -71,7 +75,11 @@ pub fn lines(area: &[u16]) -> Vec<Line> {
     let mut lines = Vec::new();
     let mut rest = &area[first_line(area)..];
     while let [condition, kind, third, fourth, after @ ..] = rest {
-        let literals = if is_rule(*kind) { usize::from(*fourth) } else { 0 };
+        let literals = if is_rule(*kind) {
+            usize::from(*fourth)
+        } else {
+            0
+        };
         lines.push(Line {
             number: lines.len() + 2,
             condition: usize::from(*condition),

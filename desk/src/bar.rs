@@ -21,5 +21,10 @@ pub fn parts(interval: Interval, top: u16, width: usize) -> (usize, usize) {
 pub fn text(interval: Interval, top: u16, width: usize) -> String {
     let (sure, open) = parts(interval, top, width);
     let excluded = width - sure - open;
-    format!("|{}{}{}|", "#".repeat(sure), "=".repeat(open), ".".repeat(excluded))
+    format!(
+        "|{}{}{}|",
+        "#".repeat(sure),
+        "=".repeat(open),
+        ".".repeat(excluded)
+    )
 }

@@ -47,7 +47,10 @@ fn steps(page: &Page, condition: usize) -> Vec<Step> {
     let mut steps = Vec::new();
     for (line, head, literals) in page.rules() {
         if head == condition {
-            steps.extend(literals.iter().map(|literal| Step { line, literal: *literal }));
+            steps.extend(literals.iter().map(|literal| Step {
+                line,
+                literal: *literal,
+            }));
         }
     }
     steps

@@ -100,13 +100,22 @@ fn without_lines(page: &Page, readings: &Readings) -> Vec<Warning> {
         ));
         Warning {
             text: format!(
-                "{label} has no F or R line: it is {} plain and {} closed, not unknown",
-                readings.plain[condition], readings.closed[condition]
+                "{label} has no F or R line: {}, not unknown",
+                both(readings, condition)
             ),
             more,
         }
     };
     (0..page.conditions).filter(named).map(warning).collect()
+}
+
+/// Both readings of a condition in words.
+fn both(readings: &Readings, condition: usize) -> String {
+    let (plain, closed) = (readings.plain[condition], readings.closed[condition]);
+    match plain == closed {
+        true => format!("it is {plain} in both readings"),
+        false => format!("it is {plain} plain and {closed} closed"),
+    }
 }
 
 /// The lines that name a condition, each with what its literal counts as.
@@ -118,19 +127,26 @@ fn named_lines(page: &Page, readings: &Readings, condition: usize) -> Vec<String
             let literal = Literal { condition, negated };
             if page.literals(number).contains(&literal) {
                 let value = probe::literal_value(page.top, literal, held);
-                text.push_str(&format!(", where {} is {value}", page.literal_label(literal)));
+                text.push_str(&format!(
+                    ", where {} is {value}",
+                    page.literal_label(literal)
+                ));
             }
         }
         text
     };
-    page.naming_lines(condition).into_iter().map(shown).collect()
+    page.naming_lines(condition)
+        .into_iter()
+        .map(shown)
+        .collect()
 }
 
 /// The queries, but no second one for the same condition in the same reading.
 fn distinct_queries(page: &Page) -> Vec<Query> {
     let mut kept: Vec<Query> = Vec::new();
     for query in page.queries() {
-        let same = |other: &Query| other.reading == query.reading && other.condition == query.condition;
+        let same =
+            |other: &Query| other.reading == query.reading && other.condition == query.condition;
         if !kept.iter().any(same) {
             kept.push(query);
         }
@@ -170,7 +186,9 @@ fn raised_facts(page: &Page, readings: &Readings) -> Vec<Warning> {
         Body::Fact(fact) => Some((line, fact)),
         _ => None,
     });
-    facts.filter_map(|(line, fact)| raised(page, readings, line, fact)).collect()
+    facts
+        .filter_map(|(line, fact)| raised(page, readings, line, fact))
+        .collect()
 }
 
 fn raised(page: &Page, readings: &Readings, line: &Line, fact: Interval) -> Option<Warning> {
@@ -203,10 +221,9 @@ fn differing(page: &Page, readings: &Readings) -> Vec<Warning> {
         let asked = queries.iter().filter(|query| query.condition == condition);
         Warning {
             text: format!(
-                "the readings of {} differ: plain {}, closed {}",
+                "the readings of {} differ: {}",
                 page.label(condition),
-                readings.plain[condition],
-                readings.closed[condition]
+                both(readings, condition)
             ),
             more: asked.map(|query| page.shown_line(query.line)).collect(),
         }
@@ -225,9 +242,16 @@ fn not_reached(page: &Page) -> Vec<Warning> {
     let reached = readings::reached(page);
     let warning = |condition: usize| {
         let own = page.own_lines(condition);
-        let lines = if own.is_empty() { page.naming_lines(condition) } else { own };
+        let lines = if own.is_empty() {
+            page.naming_lines(condition)
+        } else {
+            own
+        };
         let text = format!("no query reaches {}", page.label(condition));
-        let more = lines.into_iter().map(|line| page.shown_line(line)).collect();
+        let more = lines
+            .into_iter()
+            .map(|line| page.shown_line(line))
+            .collect();
         (!reached[condition]).then_some(Warning { text, more })
     };
     let mut warnings: Vec<Warning> = (0..page.conditions).filter_map(warning).collect();
@@ -244,7 +268,11 @@ fn unused(page: &Page) -> Vec<Warning> {
     if unused.is_empty() {
         return Vec::new();
     }
-    let verb = if unused.len() == 1 { "has no line and is" } else { "have no line and are" };
+    let verb = if unused.len() == 1 {
+        "has no line and is"
+    } else {
+        "have no line and are"
+    };
     vec![Warning {
         text: format!("{} {verb} named nowhere", joined(&ranges(&unused))),
         more: vec![page.shown_line(1)],
@@ -256,7 +284,11 @@ fn ranges(numbers: &[usize]) -> Vec<String> {
     let mut out = Vec::new();
     let mut rest = numbers;
     while let [first, ..] = rest {
-        let run = rest.iter().zip(*first..).take_while(|(a, b)| **a == *b).count();
+        let run = rest
+            .iter()
+            .zip(*first..)
+            .take_while(|(a, b)| **a == *b)
+            .count();
         match run {
             1 | 2 => out.extend(rest[..run].iter().map(usize::to_string)),
             _ => out.push(format!("{first} to {}", first + run - 1)),

@@ -13,70 +13,75 @@ struct Side<'a> {
 }
 
 pub fn run(old: &Page, new: &Page) -> Report {
-    let old = Side {
-        page: old,
-        readings: Readings::of(old),
-        word: "old",
-    };
-    let new = Side {
-        page: new,
-        readings: Readings::of(new),
-        word: "new",
-    };
-    let mut out = format!("old: {}\nnew: {}\n", old.page.path, new.page.path);
+    let (old, new) = (Side::of(old, "old"), Side::of(new, "new"));
     let mut same = 0;
-    let mut differences = 0;
-    if old.page.top != new.page.top {
-        differences += 1;
-        out.push_str(&format!(
-            "\nthe tops differ, {} and {}: no answers are on one scale\n",
-            old.page.top, new.page.top
-        ));
-    }
+    let mut differences: Vec<String> = tops(&old, &new).into_iter().collect();
     for query in old.queries() {
-        match new.same_query(query) {
-            Some(other) if old.agrees(&new, query, other) => same += 1,
-            Some(other) => {
-                differences += 1;
-                out.push_str(&format!("\nchanged: {}\n", old.page.shown_query(query)));
-                out.push_str(&old.answer(query));
-                out.push_str(&new.answer(other));
-            }
-            None => {
-                differences += 1;
-                out.push_str(&old.only(query));
-            }
+        match difference(&old, &new, query) {
+            Some(text) => differences.push(text),
+            None => same += 1,
         }
     }
-    for query in new.queries() {
-        if old.same_query(query).is_none() {
-            differences += 1;
-            out.push_str(&new.only(query));
-        }
-    }
-    out.push_str(&format!(
-        "\n{}, {} with the same answer\n",
-        counted(differences, "difference", "differences"),
+    let added = new.queries().into_iter();
+    let added = added.filter(|query| old.same_query(*query).is_none());
+    differences.extend(added.map(|query| new.only(query)));
+    let out = format!(
+        "old: {}\nnew: {}\n{}\n{}, {} with the same answer\n",
+        old.page.path,
+        new.page.path,
+        differences.concat(),
+        counted(differences.len(), "difference", "differences"),
         counted(same, "query", "queries")
-    ));
+    );
+    let faults = [old.page, new.page].into_iter();
     Report {
         out,
-        notes: [old.page, new.page].iter().filter_map(|page| page.names.fault.clone()).collect(),
-        status: u8::from(differences > 0),
+        notes: faults.filter_map(|page| page.names.fault.clone()).collect(),
+        status: u8::from(!differences.is_empty()),
     }
 }
 
+fn tops(old: &Side, new: &Side) -> Option<String> {
+    let (old, new) = (old.page.top, new.page.top);
+    (old != new)
+        .then(|| format!("\nthe tops differ, {old} and {new}: no answers are on one scale\n"))
+}
+
+/// What is different about a query of the old page.
+fn difference(old: &Side, new: &Side, query: Query) -> Option<String> {
+    let Some(other) = new.same_query(query) else {
+        return Some(old.only(query));
+    };
+    (!old.agrees(new, query, other)).then(|| {
+        let shown = old.page.shown_query(query);
+        let (before, after) = (old.answer(query), new.answer(other));
+        format!("\nchanged: {shown}\n{before}{after}")
+    })
+}
+
 impl Side<'_> {
+    fn of<'a>(page: &'a Page, word: &'static str) -> Side<'a> {
+        Side {
+            page,
+            readings: Readings::of(page),
+            word,
+        }
+    }
+
     /// The queries, each once.
     fn queries(&self) -> Vec<Query> {
         let queries = self.page.queries();
-        let first = |query: &Query| self.same_query(*query).is_some_and(|found| found.line == query.line);
+        let first = |query: &Query| {
+            self.same_query(*query)
+                .is_some_and(|found| found.line == query.line)
+        };
         queries.into_iter().filter(first).collect()
     }
 
     /// The first query of this page for the same condition in the same reading.
     fn same_query(&self, query: Query) -> Option<Query> {
-        let same = |other: &Query| other.reading == query.reading && other.condition == query.condition;
+        let same =
+            |other: &Query| other.reading == query.reading && other.condition == query.condition;
         self.page.queries().into_iter().find(same)
     }
 
@@ -88,7 +93,9 @@ impl Side<'_> {
     /// The answer to a query, and the line that holds its low end.
     fn answer(&self, query: Query) -> String {
         let interval = self.readings.answer(query);
-        let line = self.readings.line(self.page, query.reading, query.condition);
+        let line = self
+            .readings
+            .line(self.page, query.reading, query.condition);
         let held = match line {
             Some(line) => format!("low end by {}", self.page.shown_line(line)),
             None => "no F or R line".to_string(),
@@ -98,6 +105,10 @@ impl Side<'_> {
 
     fn only(&self, query: Query) -> String {
         let shown = self.page.shown_query(query);
-        format!("\nonly in the {} page: {shown}\n{}", self.word, self.answer(query))
+        format!(
+            "\nonly in the {} page: {shown}\n{}",
+            self.word,
+            self.answer(query)
+        )
     }
 }

@@ -22,7 +22,10 @@ fn returned(code: i32) -> Result<u32, usize> {
 /// The result of a call that is never refused on the page area of an accepted page.
 fn granted(call: &str, code: i32) -> u32 {
     returned(code).unwrap_or_else(|number| {
-        panic!("the engine refused {call}: {number}, {}", header::cause(number))
+        panic!(
+            "the engine refused {call}: {number}, {}",
+            header::cause(number)
+        )
     })
 }
 

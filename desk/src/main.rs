@@ -49,8 +49,10 @@ fn command(words: &[&str]) -> Result<Report, Stop> {
 }
 
 fn main() -> ExitCode {
-    let arguments: Vec<String> =
-        std::env::args_os().skip(1).map(|word| word.to_string_lossy().into_owned()).collect();
+    let arguments: Vec<String> = std::env::args_os()
+        .skip(1)
+        .map(|word| word.to_string_lossy().into_owned())
+        .collect();
     let words: Vec<&str> = arguments.iter().map(String::as_str).collect();
     let report = command(&words).unwrap_or_else(|stop| match stop {
         Stop::Refused(out) => Report {
@@ -73,7 +75,10 @@ fn main() -> ExitCode {
 /// Writes the output; the exit status. A reader that has seen enough and closed its end is no failure.
 fn written(report: &Report) -> u8 {
     let mut out = std::io::stdout();
-    match out.write_all(report.out.as_bytes()).and_then(|()| out.flush()) {
+    match out
+        .write_all(report.out.as_bytes())
+        .and_then(|()| out.flush())
+    {
         Err(error) if error.kind() != ErrorKind::BrokenPipe => {
             eprintln!("the output cannot be written: {error}");
             FAILED

@@ -78,7 +78,10 @@ fn add(line: &[u8], names: &mut [Option<String>]) -> Result<(), String> {
     if names[condition].is_some() {
         return Err(format!("a second name for {condition}"));
     }
-    if let Some(other) = names.iter().position(|known| known.as_deref() == Some(name)) {
+    if let Some(other) = names
+        .iter()
+        .position(|known| known.as_deref() == Some(name))
+    {
         return Err(format!("{other} has the same name"));
     }
     names[condition] = Some(name.to_string());

@@ -72,21 +72,21 @@ impl Page {
         format!("line {number}: {}", self.line_text(number))
     }
 
-    /// A condition in words: its name and number, or its number.
+    /// A condition in words: its number, and its name if it has one.
     pub fn label(&self, condition: usize) -> String {
         match self.names.of(condition) {
-            Some(name) => format!("{name} ({condition})"),
+            Some(name) => format!("{condition} ({name})"),
             None => condition.to_string(),
         }
     }
 
     /// A literal in words.
     pub fn literal_label(&self, literal: Literal) -> String {
-        let sign = if literal.negated { "!" } else { "" };
-        match self.names.of(literal.condition) {
-            Some(name) if literal.negated => format!("not {name} (!{})", literal.condition),
-            Some(name) => format!("{name} ({})", literal.condition),
-            None => format!("{sign}{}", literal.condition),
+        let condition = literal.condition;
+        match (literal.negated, self.names.of(condition)) {
+            (false, _) => self.label(condition),
+            (true, Some(name)) => format!("!{condition} (not {name})"),
+            (true, None) => format!("!{condition}"),
         }
     }
 
@@ -119,7 +119,11 @@ impl Page {
     /// The F and R lines of a condition, and its D line.
     pub fn own_lines(&self, condition: usize) -> Vec<usize> {
         let own = |line: &&Line| line.condition == condition && !is_query(line);
-        self.lines.iter().filter(own).map(|line| line.number).collect()
+        self.lines
+            .iter()
+            .filter(own)
+            .map(|line| line.number)
+            .collect()
     }
 
     /// The lines that name a condition: rules with such a literal, and queries.
@@ -129,14 +133,18 @@ impl Page {
             Body::Query(_) => line.condition == condition,
             _ => false,
         };
-        self.lines.iter().filter(names).map(|line| line.number).collect()
+        self.lines
+            .iter()
+            .filter(names)
+            .map(|line| line.number)
+            .collect()
     }
 
-    /// A query as it stands in the page, with the words for its condition.
+    /// A query as it stands in the page, with the name of its condition.
     pub fn shown_query(&self, query: Query) -> String {
         let text = self.line_text(query.line);
         match self.names.of(query.condition) {
-            Some(name) => format!("{text} {name}"),
+            Some(name) => format!("{text} ({name})"),
             None => text,
         }
     }
@@ -150,12 +158,14 @@ fn is_query(line: &Line) -> bool {
 pub fn condition(page: &Page, given: &str) -> Result<usize, Stop> {
     let number: Option<usize> = given.parse().ok();
     let number = number.filter(|number| *number < page.conditions);
-    number.or_else(|| page.names.condition(given)).ok_or_else(|| {
-        let last = page.conditions - 1;
-        Stop::Failed(format!(
-            "{given:?} is no condition of {}: it has 0 to {last}{}",
-            page.path,
-            if page.names.any() { ", and names" } else { "" }
-        ))
-    })
+    number
+        .or_else(|| page.names.condition(given))
+        .ok_or_else(|| {
+            let last = page.conditions - 1;
+            Stop::Failed(format!(
+                "{given:?} is no condition of {}: it has 0 to {last}{}",
+                page.path,
+                if page.names.any() { ", and names" } else { "" }
+            ))
+        })
 }

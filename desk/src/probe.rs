@@ -7,9 +7,8 @@ use crate::readings;
 
 /// The page area of a text that is a page.
 fn area_of(text: &str) -> Vec<u16> {
-    ffi::read(text.as_bytes()).unwrap_or_else(|refusal| {
-        panic!("the engine refused {}: {text:?}", refusal.number)
-    })
+    ffi::read(text.as_bytes())
+        .unwrap_or_else(|refusal| panic!("the engine refused {}: {text:?}", refusal.number))
 }
 
 /// The value of a rule on intervals for its literals' conditions: that of a page that has these as facts.

@@ -41,7 +41,10 @@ impl Readings {
 
 /// A query list as the engine takes it.
 fn list(conditions: &[usize]) -> Vec<u16> {
-    conditions.iter().map(|condition| *condition as u16).collect()
+    conditions
+        .iter()
+        .map(|condition| *condition as u16)
+        .collect()
 }
 
 /// The plain reading of some conditions: runs at rest, opened on as many of them at once as a list may hold.

@@ -14,8 +14,10 @@ pub fn report(path: &str, text: &[u8], refusal: &Refusal) -> String {
         out.push_str(&format!(", field {}", refusal.place));
     }
     out.push_str(&format!(": {}\n", header::cause(refusal.number)));
-    if refusal.line > 0 {
-        out.push_str(&shown(text, refusal));
+    match refusal.number {
+        header::TEXT_UNENDED => out.push_str(&last_line(text)),
+        _ if refusal.line > 0 => out.push_str(&shown(text, refusal)),
+        _ => {}
     }
     if let Some(range) = range(text, refusal) {
         out.push_str(&format!("asked for: {range}\n"));
@@ -26,7 +28,10 @@ pub fn report(path: &str, text: &[u8], refusal: &Refusal) -> String {
 
 /// A line as it can be printed: a byte that is no printable ASCII is written out.
 fn printable(bytes: &[u8]) -> String {
-    bytes.iter().map(|byte| byte.escape_ascii().to_string()).collect()
+    bytes
+        .iter()
+        .map(|byte| byte.escape_ascii().to_string())
+        .collect()
 }
 
 /// The bad line, and a caret under its bad field, or under its first byte that no line of a page has.
@@ -44,6 +49,15 @@ fn shown(text: &[u8], refusal: &Refusal) -> String {
         out.push_str(&format!("  {}{}\n", " ".repeat(before), "^".repeat(under)));
     }
     out
+}
+
+/// The last line, which has no newline.
+fn last_line(text: &[u8]) -> String {
+    let number = text.split(|byte| *byte == b'\n').count();
+    match ffi::show_line(text, number) {
+        [] => String::new(),
+        line => format!("  line {number}: {}\n", printable(line)),
+    }
 }
 
 /// Where a field of a line begins and ends. Fields count from 1.
@@ -66,7 +80,8 @@ fn field_text(text: &[u8], refusal: &Refusal, place: usize) -> String {
 
 /// The first byte that is no capital, digit, comma or `!`.
 fn strange_byte(line: &[u8]) -> Option<usize> {
-    let known = |byte: &u8| byte.is_ascii_uppercase() || byte.is_ascii_digit() || b",!".contains(byte);
+    let known =
+        |byte: &u8| byte.is_ascii_uppercase() || byte.is_ascii_digit() || b",!".contains(byte);
     line.iter().position(|byte| !known(byte))
 }
 
@@ -77,8 +92,11 @@ fn head(text: &[u8]) -> Option<(u16, usize)> {
     Some((area::top(&area), area::conditions(&area)))
 }
 
-/// The range of the bad field in figures, where the refusal tells a field.
+/// The range of the bad field in figures, where the refusal tells a field, or the forms that the line may have.
 fn range(text: &[u8], refusal: &Refusal) -> Option<String> {
+    if refusal.number == header::LINE_FORM {
+        return Some(forms(refusal.line));
+    }
     if refusal.line == 1 {
         return match refusal.place {
             2 => Some(format!("a top of 1 to {}", header::TOP_MAX)),
@@ -105,10 +123,13 @@ fn advice(text: &[u8], refusal: &Refusal) -> String {
         header::TEXT_TOO_LONG => "shorten the page".to_string(),
         header::TEXT_UNENDED if text.is_empty() => "the file is empty: write a page".to_string(),
         header::TEXT_UNENDED => "end the last line with a newline".to_string(),
-        header::LINE_FORM => form(ffi::show_line(text, refusal.line), refusal.line),
+        header::LINE_FORM => odd(ffi::show_line(text, refusal.line)).to_string(),
         header::LINE_RANGE if refusal.line == 1 => "choose a number within the range".to_string(),
         header::LINE_RANGE => "correct the number, or raise C in line 1".to_string(),
-        header::LINE_COUNT => format!("shorten the page to {} lines after the first", header::LINES_MAX),
+        header::LINE_COUNT => format!(
+            "shorten the page to {} lines after the first",
+            header::LINES_MAX
+        ),
         header::WEIGHT_RANGE => "correct the weight".to_string(),
         header::GRADE_RANGE => "correct the grade".to_string(),
         header::LOW_ABOVE_HIGH => "exchange the two ends, or correct one".to_string(),
@@ -116,28 +137,34 @@ fn advice(text: &[u8], refusal: &Refusal) -> String {
     }
 }
 
-/// The forms that a line may have, and what is odd about this one. Layout 2 has one form more.
-fn form(line: &[u8], number: usize) -> String {
+/// The forms that a line may have. Layout 2 has one more.
+fn forms(number: usize) -> String {
     let literals = header::LITERALS_MAX;
-    let unknown = if header::LAYOUT == 1 { "" } else { " or D,cond,U" };
-    let forms = match number {
-        1 => "the first line is G,top,C".to_string(),
-        _ => format!(
-            "write F,cond,low,high or R,cond,weight,op,literal,... with 1 to {literals} literals or Q,reading,cond{unknown}"
-        ),
+    let unknown = if header::LAYOUT == 1 {
+        ""
+    } else {
+        " or D,cond,U"
     };
-    format!("{}{forms}; numbers have 1 to 3 digits and no leading zero", odd(line))
+    let forms = match number {
+        1 => "G,top,C".to_string(),
+        _ => format!("F,cond,low,high or R,cond,weight,op,literal,... with 1 to {literals} literals or Q,reading,cond{unknown}"),
+    };
+    format!("{forms}; a number has 1 to 3 digits and no leading zero")
 }
 
+/// What to do about a line of another form: what is odd in it, if it has a byte that no line has.
 fn odd(line: &[u8]) -> &'static str {
     let Some(at) = strange_byte(line) else {
-        return if line.is_empty() { "delete the blank line; " } else { "" };
+        return match line {
+            [] => "delete the blank line",
+            _ => "write the line in this form",
+        };
     };
     match line[at] {
-        b'\r' => "save the page with LF line ends (here is a CR); ",
-        b' ' | b'\t' => "delete the space; ",
-        b'a'..=b'z' => "write capitals, and no remark; ",
-        0xEF => "save the page without a byte order mark; ",
-        _ => "no line has the byte over the caret; ",
+        b'\r' => "save the page with LF line ends (this is a CR)",
+        b' ' | b'\t' => "delete the space, and what follows if it is a remark",
+        b'a'..=b'z' => "write capitals",
+        0xEF => "save the page without a byte order mark",
+        _ => "delete the byte over the caret, which no line has",
     }
 }

@@ -38,7 +38,8 @@ pub fn run(page: &Page, given: &str) -> Result<Report, Stop> {
 
 impl Telling<'_> {
     fn say(&mut self, depth: usize, text: &str) {
-        self.out.push_str(&format!("{}{text}\n", "  ".repeat(depth)));
+        self.out
+            .push_str(&format!("{}{text}\n", "  ".repeat(depth)));
     }
 
     /// Tells a literal: its interval, and below it the line that holds the low end of its condition.
@@ -79,7 +80,10 @@ impl Telling<'_> {
     fn tell_line(&mut self, depth: usize, condition: usize) {
         let Some(line) = ffi::line(&self.page.area, &self.run, condition) else {
             let own = self.page.own_lines(condition);
-            let own: Vec<String> = own.into_iter().map(|line| self.page.shown_line(line)).collect();
+            let own: Vec<String> = own
+                .into_iter()
+                .map(|line| self.page.shown_line(line))
+                .collect();
             let text = ["no F or R line".to_string()].into_iter().chain(own);
             let text: Vec<String> = text.collect();
             return self.say(depth, &text.join(", "));

@@ -38,8 +38,14 @@ impl Boxes {
         let reached = readings::reached(page);
         let one = |condition: &usize| content(page, &readings, &reached, *condition);
         let all: Vec<Content> = graph.conditions.iter().map(one).collect();
-        let name_lines = all.iter().map(|content| content.name.len()).max().unwrap_or(0);
-        let more = all.iter().any(|content| content.closed.is_some() || content.without_lines);
+        let name_lines = all
+            .iter()
+            .map(|content| content.name.len())
+            .max()
+            .unwrap_or(0);
+        let more = all
+            .iter()
+            .any(|content| content.closed.is_some() || content.without_lines);
         Boxes {
             width: if page.names.any() { 152.0 } else { 124.0 },
             height: 39.0 + 13.0 * name_lines as f64 + if more { 24.0 } else { 0.0 },
@@ -54,10 +60,15 @@ fn content(page: &Page, readings: &Readings, reached: &[bool], condition: usize)
     let own = page.own_lines(condition);
     let asks = |reading: Reading| {
         let queries = page.queries();
-        queries.iter().any(|query| query.condition == condition && query.reading == reading)
+        queries
+            .iter()
+            .any(|query| query.condition == condition && query.reading == reading)
     };
     let asked = [("K", Reading::Plain), ("W", Reading::Closed)];
-    let mut tip = vec![format!("{}: plain {plain}, closed {closed}", page.label(condition))];
+    let mut tip = vec![format!(
+        "{}: plain {plain}, closed {closed}",
+        page.label(condition)
+    )];
     tip.extend(own.iter().map(|line| page.shown_line(*line)));
     Content {
         condition,
@@ -66,7 +77,11 @@ fn content(page: &Page, readings: &Readings, reached: &[bool], condition: usize)
         closed: (plain != closed).then_some(closed),
         reached: reached[condition],
         without_lines: own.is_empty(),
-        asked: asked.into_iter().filter(|(_, reading)| asks(*reading)).map(|(letter, _)| letter).collect(),
+        asked: asked
+            .into_iter()
+            .filter(|(_, reading)| asks(*reading))
+            .map(|(letter, _)| letter)
+            .collect(),
         tip: tip.join("\n"),
     }
 }

@@ -5,11 +5,12 @@ use std::collections::{BTreeMap, BTreeSet};
 
 use super::graph::{Arrow, Graph};
 
-/// A place in a row: the box of a condition, or the bend of arrows to a condition.
+/// A place in a row: the box of a condition, the bend of arrows to a condition, or the loose end of such arrows, which are then not drawn further.
 #[derive(Clone, Copy, PartialEq, Eq)]
 pub enum Kind {
     Box(usize),
     Bend,
+    LooseEnd,
 }
 
 /// A piece of an arrow between a row and the next one: both nodes, and what the arrow leads to.
@@ -29,8 +30,11 @@ pub struct Routes {
     pub pieces: Vec<Piece>,
 }
 
-/// Sweeps over all rows; half of them for a picture with very many pieces.
+/// Sweeps over all rows.
 const SWEEPS: usize = 24;
+
+/// The most bends of a picture. Where there would be more, no one could follow them: the arrows over the most rows get a loose end.
+const BENDS_MAX: usize = 4000;
 
 impl Routes {
     pub fn of(graph: &Graph, rows: Vec<Vec<usize>>) -> Routes {
@@ -42,8 +46,7 @@ impl Routes {
     fn improve(&mut self) {
         let mut best = self.rows.clone();
         let mut fewest = self.crossings();
-        let sweeps = if self.pieces.len() > 4000 { SWEEPS / 4 } else { SWEEPS };
-        for sweep in 0..sweeps {
+        for sweep in 0..SWEEPS {
             self.sweep(sweep % 2 == 0);
             let crossings = self.crossings();
             if crossings < fewest {
@@ -59,7 +62,11 @@ impl Routes {
         let count = self.rows.len();
         let mut neighbours = vec![Vec::new(); self.kinds.len()];
         for piece in &self.pieces {
-            let (before, after) = if down { (piece.upper, piece.lower) } else { (piece.lower, piece.upper) };
+            let (before, after) = if down {
+                (piece.upper, piece.lower)
+            } else {
+                (piece.lower, piece.upper)
+            };
             neighbours[after].push(before);
         }
         let mut place = self.places();
@@ -68,9 +75,16 @@ impl Routes {
             let middle = |node: &usize| {
                 let around = &neighbours[*node];
                 let sum: f64 = around.iter().map(|other| place[*other]).sum();
-                if around.is_empty() { place[*node] } else { sum / around.len() as f64 }
+                if around.is_empty() {
+                    place[*node]
+                } else {
+                    sum / around.len() as f64
+                }
             };
-            let mut keyed: Vec<(f64, usize)> = self.rows[row].iter().map(|node| (middle(node), *node)).collect();
+            let mut keyed: Vec<(f64, usize)> = self.rows[row]
+                .iter()
+                .map(|node| (middle(node), *node))
+                .collect();
             keyed.sort_by(|a, b| a.0.total_cmp(&b.0));
             self.rows[row] = keyed.into_iter().map(|(_, node)| node).collect();
             set_places(&self.rows[row], &mut place);
@@ -88,7 +102,10 @@ impl Routes {
     fn crossings(&self) -> usize {
         let mut at = vec![(0, 0); self.kinds.len()];
         for (row, nodes) in self.rows.iter().enumerate() {
-            nodes.iter().enumerate().for_each(|(place, node)| at[*node] = (row, place));
+            nodes
+                .iter()
+                .enumerate()
+                .for_each(|(place, node)| at[*node] = (row, place));
         }
         let mut between = vec![Vec::new(); self.rows.len()];
         for piece in &self.pieces {
@@ -139,25 +156,49 @@ fn laid(graph: &Graph, rows: Vec<Vec<usize>>) -> Routes {
         rows,
         pieces: Vec::new(),
     };
+    let farthest = farthest(graph, &row_of);
     let mut bends = BTreeMap::new();
     let mut pieces = BTreeSet::new();
     for arrow in graph.arrows.iter().filter(|arrow| arrow.from != arrow.to) {
+        let down = row_of[arrow.from] < row_of[arrow.to];
+        let mut way = between(row_of[arrow.from], row_of[arrow.to]);
+        let loose = way.len() > farthest;
+        way.truncate(if loose { 1 } else { farthest });
+        let kind = if loose { Kind::LooseEnd } else { Kind::Bend };
         let mut before = arrow.from;
-        for row in between(row_of[arrow.from], row_of[arrow.to]) {
-            let down = row_of[arrow.from] < row_of[arrow.to];
-            let bend = *bends.entry((arrow.to, arrow.negated, down, row)).or_insert_with(|| {
-                routes.kinds.push(Kind::Bend);
-                routes.rows[row].push(routes.kinds.len() - 1);
-                routes.kinds.len() - 1
-            });
+        for row in way {
+            let bend = *bends
+                .entry((arrow.to, arrow.negated, down, row, loose))
+                .or_insert_with(|| {
+                    routes.kinds.push(kind);
+                    routes.rows[row].push(routes.kinds.len() - 1);
+                    routes.kinds.len() - 1
+                });
             pieces.insert(piece(arrow, before, bend, down));
             before = bend;
         }
-        let down = row_of[arrow.from] < row_of[arrow.to];
-        pieces.insert(piece(arrow, before, arrow.to, down));
+        if !loose {
+            pieces.insert(piece(arrow, before, arrow.to, down));
+        }
     }
     routes.pieces = pieces.into_iter().collect();
     routes
+}
+
+/// How many rows an arrow may pass without a loose end: as many as keep the bends within their limit.
+fn farthest(graph: &Graph, row_of: &[usize]) -> usize {
+    let mut passed = vec![0; row_of.len() + 1];
+    for arrow in &graph.arrows {
+        passed[between(row_of[arrow.from], row_of[arrow.to]).len()] += 1;
+    }
+    let mut bends = 0;
+    for (rows, arrows) in passed.iter().enumerate() {
+        bends += rows * arrows;
+        if bends > BENDS_MAX {
+            return rows.saturating_sub(1).max(1);
+        }
+    }
+    row_of.len()
 }
 
 /// The rows between two, in the order from the first.
@@ -169,7 +210,11 @@ fn between(from: usize, to: usize) -> Vec<usize> {
 }
 
 fn piece(arrow: &Arrow, before: usize, after: usize, down: bool) -> Piece {
-    let (upper, lower) = if down { (before, after) } else { (after, before) };
+    let (upper, lower) = if down {
+        (before, after)
+    } else {
+        (after, before)
+    };
     Piece {
         upper,
         lower,

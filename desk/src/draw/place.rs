@@ -2,9 +2,10 @@
 
 use super::order::{Kind, Routes};
 
-/// Room that a node takes: a box of this width, or a bend.
+/// Room that a node takes beside a box.
 const BEND: f64 = 12.0;
-const GAP: f64 = 16.0;
+const LOOSE_END: f64 = 24.0;
+const GAP: f64 = 20.0;
 const SWEEPS: usize = 30;
 
 /// The middle of each node, and the width of the whole.
@@ -12,17 +13,24 @@ pub fn across(routes: &Routes, box_width: f64) -> (Vec<f64>, f64) {
     let width = |node: usize| match routes.kinds[node] {
         Kind::Box(_) => box_width + GAP,
         Kind::Bend => BEND,
+        Kind::LooseEnd => LOOSE_END,
     };
     let mut middle = vec![0.0; routes.kinds.len()];
     for row in &routes.rows {
         let offsets = offsets(row, width);
         let whole: f64 = row.iter().map(|node| width(*node)).sum();
-        row.iter().zip(offsets).for_each(|(node, at)| middle[*node] = at - whole / 2.0);
+        row.iter()
+            .zip(offsets)
+            .for_each(|(node, at)| middle[*node] = at - whole / 2.0);
     }
     let around = neighbours(routes);
     for sweep in 0..SWEEPS {
         for step in 0..routes.rows.len() {
-            let row = if sweep % 2 == 0 { step } else { routes.rows.len() - 1 - step };
+            let row = if sweep % 2 == 0 {
+                step
+            } else {
+                routes.rows.len() - 1 - step
+            };
             settle(&routes.rows[row], &around, width, &mut middle);
         }
     }
@@ -39,7 +47,10 @@ pub fn across(routes: &Routes, box_width: f64) -> (Vec<f64>, f64) {
 fn neighbours(routes: &Routes) -> Vec<Vec<(usize, f64)>> {
     let mut around = vec![Vec::new(); routes.kinds.len()];
     for piece in &routes.pieces {
-        let bends = [piece.upper, piece.lower].iter().filter(|node| routes.kinds[**node] == Kind::Bend).count();
+        let bends = [piece.upper, piece.lower]
+            .iter()
+            .filter(|node| routes.kinds[**node] == Kind::Bend)
+            .count();
         let weight = [1.0, 2.0, 6.0][bends];
         around[piece.upper].push((piece.lower, weight));
         around[piece.lower].push((piece.upper, weight));
@@ -59,7 +70,12 @@ fn offsets(row: &[usize], width: impl Fn(usize) -> f64) -> Vec<f64> {
 
 /// Puts the nodes of a row as near as may be to where their neighbours draw them. Nodes that would overlap form a block, which stands at the mean
 /// of what its nodes wish for.
-fn settle(row: &[usize], around: &[Vec<(usize, f64)>], width: impl Fn(usize) -> f64, middle: &mut [f64]) {
+fn settle(
+    row: &[usize],
+    around: &[Vec<(usize, f64)>],
+    width: impl Fn(usize) -> f64,
+    middle: &mut [f64],
+) {
     let offsets = offsets(row, width);
     let mut blocks: Vec<(f64, f64, usize)> = Vec::new();
     for (node, offset) in row.iter().zip(&offsets) {
@@ -86,7 +102,10 @@ fn settle(row: &[usize], around: &[Vec<(usize, f64)>], width: impl Fn(usize) -> 
 /// Where the neighbours draw a node, and how strongly.
 fn drawn(node: usize, around: &[(usize, f64)], middle: &[f64]) -> (f64, f64) {
     let weight: f64 = around.iter().map(|(_, weight)| weight).sum();
-    let sum: f64 = around.iter().map(|(other, weight)| middle[*other] * weight).sum();
+    let sum: f64 = around
+        .iter()
+        .map(|(other, weight)| middle[*other] * weight)
+        .sum();
     if around.is_empty() {
         (middle[node], 0.1)
     } else {

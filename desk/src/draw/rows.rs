@@ -22,7 +22,9 @@ pub fn bands(page: &Page, graph: &Graph, widest: usize) -> Vec<Band> {
     };
     let band = |(label, members): (String, Vec<usize>)| {
         let depths = depths(graph, &members);
-        let rows = depths.into_iter().flat_map(|row| split(graph, row, widest, &mut beside));
+        let rows = depths
+            .into_iter()
+            .flat_map(|row| split(graph, row, widest, &mut beside));
         Band {
             label,
             rows: rows.collect(),
@@ -37,11 +39,16 @@ fn by_layer(graph: &Graph, layers: &[usize]) -> Vec<(String, Vec<usize>)> {
     let places: Vec<usize> = (0..graph.conditions.len()).collect();
     let highest = places.iter().map(layer).max().unwrap_or(0);
     let group = |wanted: usize| {
-        let members = places.iter().copied().filter(|place| layer(place) == wanted);
+        let members = places
+            .iter()
+            .copied()
+            .filter(|place| layer(place) == wanted);
         (format!("layer {wanted}"), members.collect())
     };
     let groups = (0..=highest).rev().map(group);
-    groups.filter(|(_, members): &(_, Vec<usize>)| !members.is_empty()).collect()
+    groups
+        .filter(|(_, members): &(_, Vec<usize>)| !members.is_empty())
+        .collect()
 }
 
 /// The conditions by their distance from the queries, and at last those that no query reaches.
@@ -50,7 +57,11 @@ fn by_distance(page: &Page, graph: &Graph) -> Vec<(String, Vec<usize>)> {
     let mut distance: Vec<Option<usize>> = vec![None; count];
     let mut waiting = VecDeque::new();
     for (place, condition) in graph.conditions.iter().enumerate() {
-        if page.queries().iter().any(|query| query.condition == *condition) {
+        if page
+            .queries()
+            .iter()
+            .any(|query| query.condition == *condition)
+        {
             distance[place] = Some(0);
             waiting.push_back((place, 0));
         }
@@ -69,7 +80,10 @@ fn by_distance(page: &Page, graph: &Graph) -> Vec<(String, Vec<usize>)> {
         let members = (0..count).filter(|place| distance[*place] == wanted);
         (distance_label(wanted), members.collect())
     };
-    wanted.map(group).filter(|(_, members): &(_, Vec<usize>)| !members.is_empty()).collect()
+    wanted
+        .map(group)
+        .filter(|(_, members): &(_, Vec<usize>)| !members.is_empty())
+        .collect()
 }
 
 fn distance_label(distance: Option<usize>) -> String {
@@ -136,7 +150,13 @@ fn depths(graph: &Graph, members: &[usize]) -> Vec<Vec<usize>> {
         }
     }
     let deepest = members.iter().map(|place| depth[*place]).max().unwrap_or(0);
-    let row = |wanted: usize| members.iter().copied().filter(|place| depth[*place] == wanted).collect();
+    let row = |wanted: usize| {
+        members
+            .iter()
+            .copied()
+            .filter(|place| depth[*place] == wanted)
+            .collect()
+    };
     (0..=deepest).map(row).collect()
 }
 
@@ -153,7 +173,10 @@ fn starts(graph: &Graph, members: &[usize], member: &[bool]) -> Vec<usize> {
 /// A row that is too wide as several, each over the whole width. `beside` is where in its row a condition stands, from 0 to 1.
 fn split(graph: &Graph, row: Vec<usize>, widest: usize, beside: &mut [f64]) -> Vec<Vec<usize>> {
     let parts = row.len().div_ceil(widest);
-    let mut keyed: Vec<(f64, usize)> = row.into_iter().map(|place| (wish(graph, place, beside), place)).collect();
+    let mut keyed: Vec<(f64, usize)> = row
+        .into_iter()
+        .map(|place| (wish(graph, place, beside), place))
+        .collect();
     keyed.sort_by(|a, b| a.0.total_cmp(&b.0).then(a.1.cmp(&b.1)));
     let mut rows = vec![Vec::new(); parts];
     let count = keyed.len() as f64;
@@ -166,7 +189,10 @@ fn split(graph: &Graph, row: Vec<usize>, widest: usize, beside: &mut [f64]) -> V
 
 /// Where a condition would best stand: in the middle of those that name it.
 fn wish(graph: &Graph, place: usize, beside: &[f64]) -> f64 {
-    let naming = graph.arrows.iter().filter(|arrow| arrow.to == place && arrow.from != place);
+    let naming = graph
+        .arrows
+        .iter()
+        .filter(|arrow| arrow.to == place && arrow.from != place);
     let places: Vec<f64> = naming.map(|arrow| beside[arrow.from]).collect();
     match places.len() {
         0 => 0.5,

@@ -18,7 +18,9 @@ text { font-family: Arial, "Liberation Sans", Helvetica, "DejaVu Sans", sans-ser
 .small { font-size: 10px; fill: #334155; }
 .sign { font-size: 10px; font-weight: bold; fill: #b91c1c; text-anchor: middle; }
 .letter { font-size: 10px; font-weight: bold; fill: #ffffff; text-anchor: middle; }
+.far { font-size: 8.5px; fill: #475569; text-anchor: middle; paint-order: stroke; stroke: #ffffff; stroke-width: 2.5px; }
 .end { text-anchor: end; }
+.stripe { fill: #f5f7fa; }
 .box { fill: #ffffff; stroke: #475569; stroke-width: 1.2; }
 .asked { stroke: #1d4ed8; stroke-width: 3; }
 .unreached { fill: #e2e8f0; stroke: #94a3b8; }
@@ -27,26 +29,36 @@ text { font-family: Arial, "Liberation Sans", Helvetica, "DejaVu Sans", sans-ser
 .sure { fill: #1e3a8a; }
 .open { fill: url(#hatch); }
 .arrow { fill: none; stroke: #475569; stroke-width: 1.3; }
+.arrow:hover { stroke-width: 3; }
 .negated { stroke: #b91c1c; stroke-dasharray: 5 3; }
 .head { fill: #475569; }
-.bubble { fill: #ffffff; stroke: #b91c1c; stroke-width: 1.3; }
+.ring { fill: #ffffff; stroke: #b91c1c; stroke-width: 1.3; }
 </style>
 <defs><pattern id="hatch" width="5" height="5" patternUnits="userSpaceOnUse" patternTransform="rotate(45)"><rect width="5" height="5" fill="#dbeafe"/><rect width="2" height="5" fill="#3b82f6"/></pattern></defs>
 "##;
 
 pub fn escaped(text: &str) -> String {
-    text.replace('&', "&amp;").replace('<', "&lt;").replace('>', "&gt;").replace('"', "&quot;")
+    text.replace('&', "&amp;")
+        .replace('<', "&lt;")
+        .replace('>', "&gt;")
+        .replace('"', "&quot;")
 }
 
 /// A number with at most one digit behind the point.
 pub fn number(value: f64) -> String {
     let rounded = format!("{value:.1}");
-    rounded.trim_end_matches('0').trim_end_matches('.').to_string()
+    rounded
+        .trim_end_matches('0')
+        .trim_end_matches('.')
+        .to_string()
 }
 
 pub fn text(class: &str, x: f64, y: f64, words: &str) -> String {
     let (x, y) = (number(x), number(y));
-    format!("<text class=\"{class}\" x=\"{x}\" y=\"{y}\">{}</text>\n", escaped(words))
+    format!(
+        "<text class=\"{class}\" x=\"{x}\" y=\"{y}\">{}</text>\n",
+        escaped(words)
+    )
 }
 
 pub fn rect(class: &str, x: f64, y: f64, width: f64, height: f64, round: f64) -> String {
@@ -60,10 +72,11 @@ pub fn rect(class: &str, x: f64, y: f64, width: f64, height: f64, round: f64) ->
     )
 }
 
-/// A path of an arrow.
-pub fn path(negated: bool, steps: &str) -> String {
+/// A path of an arrow, with what a browser shows when the pointer rests on it.
+pub fn path(negated: bool, steps: &str, tip: &str) -> String {
     let class = if negated { "arrow negated" } else { "arrow" };
-    format!("<path class=\"{class}\" d=\"{steps}\"/>\n")
+    let tip = escaped(tip);
+    format!("<path class=\"{class}\" d=\"{steps}\"><title>{tip}</title></path>\n")
 }
 
 /// A curve between two points that leaves and comes in upright.
@@ -88,11 +101,21 @@ pub enum Way {
     Down,
     Up,
     Left,
+    Right,
 }
 
+/// The length of a head, and the width of a ring.
+const HEAD: f64 = 9.0;
+const RING: f64 = 12.0;
+
 /// How far the end of an arrow reaches from its point to its line.
-pub const HEAD: f64 = 9.0;
-pub const BUBBLE: f64 = 12.0;
+pub fn reach(negated: bool) -> f64 {
+    if negated {
+        RING
+    } else {
+        HEAD
+    }
+}
 
 /// The end of an arrow at a point: a filled head, or a ring with `!` for a negation.
 pub fn end(negated: bool, way: Way, x: f64, y: f64) -> String {
@@ -100,15 +123,22 @@ pub fn end(negated: bool, way: Way, x: f64, y: f64) -> String {
         Way::Down => (0.0, -1.0),
         Way::Up => (0.0, 1.0),
         Way::Left => (1.0, 0.0),
+        Way::Right => (-1.0, 0.0),
     };
     if negated {
-        let (x, y) = (x + dx * BUBBLE / 2.0, y + dy * BUBBLE / 2.0);
-        let (cx, cy, r) = (number(x), number(y), number(BUBBLE / 2.0));
-        let ring = format!("<circle class=\"bubble\" cx=\"{cx}\" cy=\"{cy}\" r=\"{r}\"/>\n");
+        let (x, y) = (x + dx * RING / 2.0, y + dy * RING / 2.0);
+        let (cx, cy, r) = (number(x), number(y), number(RING / 2.0));
+        let ring = format!("<circle class=\"ring\" cx=\"{cx}\" cy=\"{cy}\" r=\"{r}\"/>\n");
         return ring + &text("sign", x, y + 3.5, "!");
     }
     let (bx, by) = (x + dx * HEAD, y + dy * HEAD);
-    let corner = |side: f64| format!("{} {}", number(bx + side * dy * 4.0), number(by + side * dx * 4.0));
+    let corner = |side: f64| {
+        format!(
+            "{} {}",
+            number(bx + side * dy * 4.0),
+            number(by + side * dx * 4.0)
+        )
+    };
     format!(
         "<path class=\"head\" d=\"M{} {}L{}L{}Z\"/>\n",
         number(x),
