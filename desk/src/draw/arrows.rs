@@ -14,18 +14,29 @@ pub struct Arrows<'a> {
     pub layout: &'a Layout,
 }
 
-/// Where pieces meet their nodes, in the order of the pieces: at the lower side of the upper node, at the upper side of the lower node.
+/// Where a piece meets a node: where across, and whether a number beside it stands farther away, so that it has room beside the next one's.
+#[derive(Clone, Copy, Default)]
+struct Port {
+    x: f64,
+    farther: bool,
+}
+
+/// The ports in the order of the pieces: at the lower side of the upper node, at the upper side of the lower node.
 struct Ports {
-    upper: Vec<f64>,
-    lower: Vec<f64>,
+    upper: Vec<Port>,
+    lower: Vec<Port>,
 }
 
 /// Pieces that share a port: where they come from across, whether they lead up, and their numbers.
 type Shared = (f64, bool, Vec<usize>);
 
 /// The most room between two ports, and the least between a port and a corner of the box.
-const PORT_GAP: f64 = 18.0;
+const PORT_GAP: f64 = 20.0;
 const CORNER: f64 = 12.0;
+
+/// Room for the number at an arrow, and how much farther away every second one stands where there is less.
+const NUMBER_WIDTH: f64 = 19.0;
+const NUMBER_HEIGHT: f64 = 8.0;
 
 impl Arrows<'_> {
     pub fn drawn(&self) -> String {
@@ -60,8 +71,8 @@ impl Arrows<'_> {
     fn ports(&self) -> Ports {
         let count = self.routes.pieces.len();
         let mut ports = Ports {
-            upper: vec![0.0; count],
-            lower: vec![0.0; count],
+            upper: vec![Port::default(); count],
+            lower: vec![Port::default(); count],
         };
         let mut below = vec![Vec::new(); self.routes.kinds.len()];
         let mut above = vec![Vec::new(); self.routes.kinds.len()];
@@ -77,7 +88,7 @@ impl Arrows<'_> {
     }
 
     /// Spreads the ports at one side of a node over its box. `ends` are pieces by number, each with its other node.
-    fn spread(&self, node: usize, ends: &[(usize, usize)], at: &mut [f64]) {
+    fn spread(&self, node: usize, ends: &[(usize, usize)], at: &mut [Port]) {
         let mut groups = self.shared(node, ends);
         // arrows between the same two boxes lie side by side, those that lead down at the left
         groups.sort_by(|a, b| a.0.total_cmp(&b.0).then(a.1.cmp(&b.1)));
@@ -88,8 +99,11 @@ impl Arrows<'_> {
         };
         let step = (room / gaps.max(1.0)).min(PORT_GAP);
         for (number, (_, _, pieces)) in groups.iter().enumerate() {
-            let x = self.layout.middle[node] + step * (number as f64 - gaps / 2.0);
-            pieces.iter().for_each(|piece| at[*piece] = x);
+            let port = Port {
+                x: self.layout.middle[node] + step * (number as f64 - gaps / 2.0),
+                farther: step < NUMBER_WIDTH && number % 2 == 1,
+            };
+            pieces.iter().for_each(|piece| at[*piece] = port);
         }
     }
 
@@ -122,7 +136,8 @@ impl Arrows<'_> {
     }
 
     /// A piece of an arrow between two rows, with its head if it ends here.
-    fn piece(&self, piece: &Piece, upper_x: f64, lower_x: f64) -> String {
+    fn piece(&self, piece: &Piece, upper_port: Port, lower_port: Port) -> String {
+        let (upper_x, lower_x) = (upper_port.x, lower_port.x);
         let (from, to) = (
             self.layout.bottom(piece.upper),
             self.layout.top(piece.lower),
@@ -139,7 +154,7 @@ impl Arrows<'_> {
         }
         let steps = svg::curve((upper_x, upper), (lower_x, lower));
         let line = svg::path(piece.negated, &steps, &self.tip(piece));
-        line + &end + &self.far(piece, upper_x, lower_x)
+        line + &end + &self.far(piece, upper_port, lower_port)
     }
 
     /// What a browser shows when the pointer rests on an arrow: where it leads.
@@ -158,20 +173,21 @@ impl Arrows<'_> {
     }
 
     /// Where an arrow leads, told where it leaves a box and passes other rows.
-    fn far(&self, piece: &Piece, upper_x: f64, lower_x: f64) -> String {
-        let (source, next) = match piece.down {
-            true => (piece.upper, piece.lower),
-            false => (piece.lower, piece.upper),
+    fn far(&self, piece: &Piece, upper: Port, lower: Port) -> String {
+        let (source, next, port) = match piece.down {
+            true => (piece.upper, piece.lower, upper),
+            false => (piece.lower, piece.upper, lower),
         };
         let kinds = &self.routes.kinds;
         if !matches!(kinds[source], Kind::Box(_)) || kinds[next] != Kind::Bend {
             return String::new();
         }
-        let (x, y) = match piece.down {
-            true => (upper_x, self.layout.bottom(source) + 11.0),
-            false => (lower_x, self.layout.top(source) - 5.0),
+        let more = if port.farther { NUMBER_HEIGHT } else { 0.0 };
+        let y = match piece.down {
+            true => self.layout.bottom(source) + 11.0 + more,
+            false => self.layout.top(source) - 5.0 - more,
         };
-        svg::text("far", x, y, &self.sign(piece))
+        svg::text("far", port.x, y, &self.sign(piece))
     }
 
     /// A piece at a node.
