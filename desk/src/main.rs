@@ -44,6 +44,11 @@ fn command(words: &[&str]) -> Result<Report, Stop> {
         ["why", path, condition] => why::run(&Page::open(path)?, condition),
         ["draw", path] => Ok(draw::run(&Page::open(path)?)),
         ["compare", old, new] => Ok(compare::run(&Page::open(old)?, &Page::open(new)?)),
+        ["help" | "--help" | "-h"] => Ok(Report {
+            out: format!("{USAGE}\n"),
+            notes: Vec::new(),
+            status: 0,
+        }),
         _ => Err(Stop::Failed(USAGE.to_string())),
     }
 }

@@ -37,11 +37,21 @@ text { font-family: Arial, "Liberation Sans", Helvetica, "DejaVu Sans", sans-ser
 <defs><pattern id="hatch" width="5" height="5" patternUnits="userSpaceOnUse" patternTransform="rotate(45)"><rect width="5" height="5" fill="#dbeafe"/><rect width="2" height="5" fill="#3b82f6"/></pattern></defs>
 "##;
 
+/// A text as it may stand in the document; a character that XML does not allow is shown as unknown.
 pub fn escaped(text: &str) -> String {
-    text.replace('&', "&amp;")
-        .replace('<', "&lt;")
-        .replace('>', "&gt;")
-        .replace('"', "&quot;")
+    let mut out = String::new();
+    for letter in text.chars() {
+        match letter {
+            '&' => out.push_str("&amp;"),
+            '<' => out.push_str("&lt;"),
+            '>' => out.push_str("&gt;"),
+            '"' => out.push_str("&quot;"),
+            '\u{FFFE}' | '\u{FFFF}' => out.push('\u{FFFD}'),
+            _ if letter.is_control() && letter != '\n' => out.push('\u{FFFD}'),
+            _ => out.push(letter),
+        }
+    }
+    out
 }
 
 /// A number with at most one digit behind the point.
