@@ -50,7 +50,6 @@ pub fn boxes(boxes: &Boxes, layout: &Layout, top: u16) -> String {
 fn one_box(boxes: &Boxes, content: &Content, top: u16, (x, y): (f64, f64)) -> String {
     let (left, right) = (x + PAD, x + boxes.width - PAD);
     let below = y + 24.0 + NAME_LINE * boxes.name_lines as f64;
-    let bar = |interval: Interval, y: f64| bar_of(interval, top, left, y, right - left);
     let mut out = format!(
         "<g id=\"c{}\"><title>{}</title>\n",
         content.condition,
@@ -73,21 +72,24 @@ fn one_box(boxes: &Boxes, content: &Content, top: u16, (x, y): (f64, f64)) -> St
             line,
         ));
     }
-    out.push_str(&bar(content.plain, below));
+    out.push_str(&bar_of(content.plain, top, left, below, right - left));
     if let Some(closed) = content.closed {
-        out.push_str(&svg::text("small", left, below + 19.0, "closed"));
-        out.push_str(&svg::text(
-            "small end",
-            right,
-            below + 19.0,
-            &closed.to_string(),
-        ));
-        out.push_str(&bar(closed, below + 23.0));
+        out.push_str(&second_bar(closed, top, (left, right), below));
     }
     if content.without_lines {
         out.push_str(&svg::text("small", left, below + 20.0, "no line"));
     }
     out + "</g>\n"
+}
+
+/// The closed interval and its bar, below the first bar.
+fn second_bar(closed: Interval, top: u16, (left, right): (f64, f64), below: f64) -> String {
+    [
+        svg::text("small", left, below + 19.0, "closed"),
+        svg::text("small end", right, below + 19.0, &closed.to_string()),
+        bar_of(closed, top, left, below + 23.0, right - left),
+    ]
+    .concat()
 }
 
 fn class(content: &Content) -> String {
