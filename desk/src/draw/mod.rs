@@ -39,8 +39,8 @@ pub fn run(page: &Page) -> Report {
     let content = [
         picture::stripes(&bands, &layout),
         legend::drawn(page, layout.width).0,
-        arrows.drawn(),
         picture::boxes(&boxes, &layout, page.top),
+        arrows.drawn(),
     ];
     let out = svg::document(layout.width, layout.height, &page.path, &content.concat());
     Report::new(page, out, 0)
