@@ -1,6 +1,6 @@
 //! The documents for people: every figure in them is made again by the program and compared.
 //!
-//! - A block marked `console` holds commands after `$ ` and what they print. They run in a folder with `examples` and `target`
+//! - A block marked `console` holds commands after `$ ` and what they print. They run in a folder with `desk`, `examples` and `target`
 //!   of the repository, with each block marked `page NAME` of the same document as a file, and with the C examples on the path.
 //! - A comment `<!-- checked: HOW -->` stands before a table; HOW is one of the words of `check_table`.
 //! - An interval [a;b] in figures anywhere else must be shown by a checked table or a console block of the same document.
@@ -358,7 +358,7 @@ fn sandbox() -> Check<PathBuf> {
         let _ = std::fs::remove_dir_all(&folder);
         std::fs::create_dir_all(&folder)?;
         let root = std::fs::canonicalize(root())?;
-        for name in ["examples", "target"] {
+        for name in ["desk", "examples", "target"] {
             std::os::unix::fs::symlink(root.join(name), folder.join(name))?;
         }
         Ok(folder)
