@@ -11,8 +11,9 @@
  * out-parameter of that call; this duty of the caller and these declarations are all that no proof covers.
  *
  * Results. A call returns a result of 0 or more, or minus the number of its refusal. A refused call changes nothing that was lent to
- * it and no out-parameter, but for those that tell of a refusal: *line and *place of simjorad_read and *condition of simjorad_layers are set by
- * every call, to 0 where there is nothing to tell. Out-parameters must not be NULL.
+ * it and no out-parameter, but for those that tell of a refusal: *line and *place of simjorad_read, *condition of simjorad_layers, *place of
+ * simjorad_check_picks, *stall of simjorad_turn and *place of simjorad_season are set by every call, to 0 where there is nothing to tell.
+ * Out-parameters must not be NULL.
  *
  * Calls. No call keeps anything between calls, allocates or blocks. Calls on different areas may run at the same time. On one run
  * area make one call at a time: there is no lock. A page area may be read by several calls at once.
@@ -37,10 +38,17 @@
  *   drive_indexed    an index is built by a few scans; then each evaluation looks at the lines of the condition and at its dependants only
  *   value            no more than the check
  *   line             a scan of the page for the lines of the condition, and one up to the line
- *   closed           scans of the page until nothing changes, which can be many
- *   closed_indexed   an index, then only the lines of what waits
+ *   closed           scans of the page until nothing changes, which can be many; then for each round counted a scan, and some more where a
+ *                    negated low end rose
+ *   closed_indexed   an index, then only the lines of what waits, and for each round counted those of what moved
  *   layers           scans of the page until nothing changes, usually a few and at most C; if the page is refused 30, a search with at most
  *                    2 * C scans more
+ *   check_picks      a scan of the page for each reached condition, then for each pick a scan for the lines of the condition, and one
+ *                    for its dependants if it changed: a third to a half of what evaluate takes for each, since the page is checked once
+ *   open_first, open_second, evaluate_first, evaluate_second   as open and evaluate
+ *   turn             as a drive of each run by the evaluations that it takes; both runs are checked once, and no line is looked for
+ *   followers        scans of the page until one finds no further follower, usually a few and at most C + 1
+ *   season           two passes over the pairs
  *
  * simjorad_drive_indexed and simjorad_closed_indexed give the same answers and the same areas as simjorad_drive and
  * simjorad_closed. They are lent one more slice, a workspace, for an index of the page's lines: with room for it they take
@@ -63,7 +71,7 @@ extern "C" {
  * measurements and do not count). SIMJORAD_LAYOUT is raised whenever the layout of a page area or a run area changes: an area that was
  * kept under another layout must be read or opened again.
  */
-#define SIMJORAD_VERSION 7
+#define SIMJORAD_VERSION 12
 #define SIMJORAD_LAYOUT 1
 
 /*
@@ -88,10 +96,12 @@ extern "C" {
 #define SIMJORAD_LINES_MAX 1024       /* lines after the first */
 #define SIMJORAD_LITERALS_MAX 8       /* literals of a rule */
 #define SIMJORAD_QUERIES_MAX 16       /* entries of a query list */
+#define SIMJORAD_SEASON_MAX 4096      /* pairs of a season */
 #define SIMJORAD_TEXT_MAX 65535       /* bytes of a page's text */
 #define SIMJORAD_PAGE_MAX 12292       /* numbers of the longest page area */
 #define SIMJORAD_RUN_LENGTH(c) (3 * (c))     /* numbers of a run area for c conditions */
 #define SIMJORAD_SCRATCH_LENGTH(c) (4 * (c)) /* numbers of scratch for the closed reading of c conditions */
+#define SIMJORAD_SHARED_LENGTH(c) (6 * (c))  /* numbers of an area for the runs of two stalls of c conditions */
 
 /*
  * Numbers of a workspace with room for a page's index, and the most that any page needs. The page area holds the counts: conditions is
@@ -108,14 +118,22 @@ extern "C" {
 #define SIMJORAD_STACK_READ 448
 #define SIMJORAD_STACK_SHOW_LINE 64
 #define SIMJORAD_STACK_OPEN 1280
-#define SIMJORAD_STACK_EVALUATE 1600
-#define SIMJORAD_STACK_DRIVE 1792
-#define SIMJORAD_STACK_DRIVE_INDEXED 1856
+#define SIMJORAD_STACK_EVALUATE 1664
+#define SIMJORAD_STACK_DRIVE 1920
+#define SIMJORAD_STACK_DRIVE_INDEXED 1984
 #define SIMJORAD_STACK_VALUE 192
 #define SIMJORAD_STACK_LINE 1408
-#define SIMJORAD_STACK_CLOSED 1472
-#define SIMJORAD_STACK_CLOSED_INDEXED 1536
+#define SIMJORAD_STACK_CLOSED 2048
+#define SIMJORAD_STACK_CLOSED_INDEXED 2112
 #define SIMJORAD_STACK_LAYERS 1280
+#define SIMJORAD_STACK_CHECK_PICKS 1856
+#define SIMJORAD_STACK_OPEN_FIRST 1344
+#define SIMJORAD_STACK_OPEN_SECOND 1344
+#define SIMJORAD_STACK_EVALUATE_FIRST 1664
+#define SIMJORAD_STACK_EVALUATE_SECOND 1664
+#define SIMJORAD_STACK_TURN 1856
+#define SIMJORAD_STACK_FOLLOWERS 384
+#define SIMJORAD_STACK_SEASON 256
 
 /* Refusals, each with its cause. */
 #define SIMJORAD_TEXT_TOO_LONG 1      /* more than 65,535 bytes */
@@ -139,6 +157,12 @@ extern "C" {
 #define SIMJORAD_LOW_ABOVE_HIGH 23    /* low above high, both at most top */
 #define SIMJORAD_NEGATED_LOOP 30      /* a chain through a negation leads back */
 #define SIMJORAD_LAYERS_SHORT 31      /* the slice for the layers is shorter than C */
+#define SIMJORAD_PICK_NOT_WAITING 50  /* a pick is not waiting, or not a condition */
+#define SIMJORAD_PICKS_NOT_AT_REST 51 /* the run is not at rest after the last pick */
+#define SIMJORAD_FIGURES_WRONG 52     /* the figures have another length, or are not the plain answers */
+#define SIMJORAD_SHARED_SHORT 60      /* the shared area is shorter than 6 * C */
+#define SIMJORAD_SEASON_LENGTH 80     /* an odd count of numbers, or not 1 to 4,096 pairs */
+#define SIMJORAD_SEASON_PAIR 81       /* a pair with low above high, or high over 200 */
 
 /*
  * Read a page: the text becomes a page area. Returns the used length (4 or more), or minus 1, 2, 5, 3, 4, 21, 22, 23 or 6.
@@ -210,10 +234,13 @@ int32_t simjorad_line(const uint16_t *page, size_t page_length, const uint16_t *
 
 /*
  * Closed reading. Returns 0, or minus 10, 11, 12, 18 or 19. Writes low, high per query in list order to answers;
- * the first 4 * C numbers of scratch end as zero, and no other number of scratch is read or written.
+ * the first 4 * C numbers of scratch end as zero, and no other number of scratch is read or written. Each closed interval lies inside
+ * the plain one of its condition.
+ * Sets *rounds to the count of rounds: from [0;top] on every condition that the queries reach, each next assignment is the body value of the
+ * last joined with its support; the count is the number of the first assignment that the next one equals. It is at most R * top, which needs 32 bits.
  */
 int32_t simjorad_closed(const uint16_t *page, size_t page_length, const uint16_t *queries, size_t queries_length,
-                        uint16_t *scratch, size_t scratch_length, uint16_t *answers, size_t answers_length);
+                        uint16_t *scratch, size_t scratch_length, uint16_t *answers, size_t answers_length, uint32_t *rounds);
 
 /*
  * Closed reading, with an index in the workspace: returns and writes what simjorad_closed does. The workspace is as for
@@ -221,7 +248,7 @@ int32_t simjorad_closed(const uint16_t *page, size_t page_length, const uint16_t
  */
 int32_t simjorad_closed_indexed(const uint16_t *page, size_t page_length, const uint16_t *queries, size_t queries_length,
                                 uint16_t *scratch, size_t scratch_length, uint16_t *answers, size_t answers_length,
-                                uint16_t *workspace, size_t workspace_length);
+                                uint16_t *workspace, size_t workspace_length, uint32_t *rounds);
 
 /*
  * Loops through an absence: whether the page feeds a condition on its own absence. Returns 0, or minus 10, 31 or 30. A page is refused 30
@@ -230,6 +257,67 @@ int32_t simjorad_closed_indexed(const uint16_t *page, size_t page_length, const 
  * each condition that its rules name, more than that of each one that they negate, all as small as possible. A layer is below C.
  */
 int32_t simjorad_layers(const uint16_t *page, size_t page_length, uint16_t *layers, size_t layers_length, uint32_t *condition);
+
+/*
+ * Check a simulator: whether its picks are a run of the page, and its figures the plain answers. The queries are opened as by simjorad_open, and
+ * each pick is evaluated in turn as by simjorad_evaluate, on a run that the call holds itself. Returns 0, or minus 10, 11, 12, 50, 51 or 52.
+ * It is 0 exactly if each pick waits when its turn comes, none waits after the last, and figures holds low, high of the plain answer per
+ * query, in list order, and no more. So the picks that any order of evaluations makes until rest are accepted with the intervals then held.
+ * *place is the place of the first pick that is refused 50, counted from 1, and 0 after every other outcome; it is at most the bound of the
+ * opening plus 1, since no run takes more evaluations. Picks and figures may have any length; a list without picks is refused 51. Writes nothing else.
+ */
+int32_t simjorad_check_picks(const uint16_t *page, size_t page_length, const uint16_t *queries, size_t queries_length,
+                             const uint16_t *picks, size_t picks_length, const uint16_t *figures, size_t figures_length,
+                             uint32_t *place);
+
+/*
+ * Two stalls on one page. One shared area of 6 * C numbers holds two runs: the first stall's is its first 3 * C numbers, the second stall's
+ * the next 3 * C. simjorad_drive, simjorad_value and simjorad_line are lent a stall's part, area or area + 3 * C.
+ *
+ * Open the run of the first or of the second stall. Returns 0, or minus 10, 60, 11 or 12. Sets and writes what simjorad_open does, on that
+ * stall's part. The other part is neither read nor written.
+ */
+int32_t simjorad_open_first(const uint16_t *page, size_t page_length, uint16_t *area, size_t area_length,
+                            const uint16_t *queries, size_t queries_length, uint32_t *reached, uint32_t *edges,
+                            uint32_t *bound, uint32_t *passes);
+int32_t simjorad_open_second(const uint16_t *page, size_t page_length, uint16_t *area, size_t area_length,
+                             const uint16_t *queries, size_t queries_length, uint32_t *reached, uint32_t *edges,
+                             uint32_t *bound, uint32_t *passes);
+
+/*
+ * Evaluate a condition of the first or of the second stall. Returns 1 or 0 as simjorad_evaluate does, or minus 10, 60, 14, 15 or 16. The other
+ * part is neither read nor written.
+ */
+int32_t simjorad_evaluate_first(const uint16_t *page, size_t page_length, uint16_t *area, size_t area_length, uint32_t condition);
+int32_t simjorad_evaluate_second(const uint16_t *page, size_t page_length, uint16_t *area, size_t area_length, uint32_t condition);
+
+/*
+ * A turn: an allowance of b evaluations for both stalls. The first has the larger half of b, the second the smaller, and what one does not
+ * need before its rest goes to the other; so together they take b, or both needs if these sum to less. Each picks as simjorad_drive does.
+ * Returns 0, or minus 10, 60 or 14. Sets for each stall the evaluations taken, and its rest to 1 if it is then at rest and to 0 if not. For 14
+ * *stall is 1 or 2, the first stall before the second; after every other outcome it is 0. What is refused for one stall leaves both. Writes
+ * among the first 6 * C numbers of area.
+ */
+int32_t simjorad_turn(const uint16_t *page, size_t page_length, uint16_t *area, size_t area_length, uint32_t allowance,
+                      uint32_t *taken_first, uint32_t *rest_first, uint32_t *taken_second, uint32_t *rest_second,
+                      uint32_t *stall);
+
+/*
+ * Followers: how many conditions name a condition, directly or through others, in their R lines, plain or negated. It counts itself only if a
+ * chain of naming steps leads back to it. Returns the count, 0 to C, or minus 10 or 15. Nothing is written.
+ */
+int32_t simjorad_followers(const uint16_t *page, size_t page_length, uint32_t condition);
+
+/*
+ * A season's figures, of 1 to 4,096 answers for one condition: low, high of each in turn (pairs_length counts numbers, two for each answer). Returns 0,
+ * or minus 80 or 81. Sets *count to the count of answers, *sum_low to the sum of the lows, *sum_width to that of the widths (high - low),
+ * *smallest to the smallest low, *largest to the largest high, *mean and *remainder to the sum of the lows divided by the count, and *change to
+ * the change of low from one answer to the next that is greatest in size: negative for a fall, the earliest of several of one size, 0 if
+ * there is one answer. *place is the place of the first bad pair for 81, counted from 1, and 0 after every other outcome. pairs is only read.
+ */
+int32_t simjorad_season(const uint16_t *pairs, size_t pairs_length, uint32_t *count, uint32_t *sum_low, uint32_t *sum_width,
+                        uint32_t *smallest, uint32_t *largest, uint32_t *mean, uint32_t *remainder, int32_t *change,
+                        uint32_t *place);
 
 #ifdef __cplusplus
 }

@@ -38,11 +38,12 @@
  *   drive_indexed    an index is built by a few scans; then each evaluation looks at the lines of the condition and at its dependants only
  *   value            no more than the check
  *   line             a scan of the page for the lines of the condition, and one up to the line
- *   closed           scans of the page until nothing changes, which can be many
- *   closed_indexed   an index, then only the lines of what waits
+ *   closed           scans of the page until nothing changes, which can be many; then for each round counted a scan, and some more where a
+ *                    negated low end rose
+ *   closed_indexed   an index, then only the lines of what waits, and for each round counted those of what moved
  *   layers           scans of the page until nothing changes, usually a few and at most C; if the page is refused 30, a search with at most
  *                    2 * C scans more
- *   check_picks      scans of the page until the reached conditions are found, then for each pick a scan for the lines of the condition, and one
+ *   check_picks      a scan of the page for each reached condition, then for each pick a scan for the lines of the condition, and one
  *                    for its dependants if it changed: a third to a half of what evaluate takes for each, since the page is checked once
  *   open_first, open_second, evaluate_first, evaluate_second   as open and evaluate
  *   turn             as a drive of each run by the evaluations that it takes; both runs are checked once, and no line is looked for
@@ -70,7 +71,7 @@ extern "C" {
  * measurements and do not count). SIMJORAD_LAYOUT is raised whenever the layout of a page area or a run area changes: an area that was
  * kept under another layout must be read or opened again.
  */
-#define SIMJORAD_VERSION 8
+#define SIMJORAD_VERSION 12
 #define SIMJORAD_LAYOUT 1
 
 /*
@@ -117,15 +118,15 @@ extern "C" {
 #define SIMJORAD_STACK_READ 448
 #define SIMJORAD_STACK_SHOW_LINE 64
 #define SIMJORAD_STACK_OPEN 1280
-#define SIMJORAD_STACK_EVALUATE 1600
+#define SIMJORAD_STACK_EVALUATE 1664
 #define SIMJORAD_STACK_DRIVE 1920
 #define SIMJORAD_STACK_DRIVE_INDEXED 1984
 #define SIMJORAD_STACK_VALUE 192
 #define SIMJORAD_STACK_LINE 1408
-#define SIMJORAD_STACK_CLOSED 1472
-#define SIMJORAD_STACK_CLOSED_INDEXED 1536
+#define SIMJORAD_STACK_CLOSED 2048
+#define SIMJORAD_STACK_CLOSED_INDEXED 2112
 #define SIMJORAD_STACK_LAYERS 1280
-#define SIMJORAD_STACK_CHECK_PICKS 1664
+#define SIMJORAD_STACK_CHECK_PICKS 1856
 #define SIMJORAD_STACK_OPEN_FIRST 1344
 #define SIMJORAD_STACK_OPEN_SECOND 1344
 #define SIMJORAD_STACK_EVALUATE_FIRST 1664
@@ -236,7 +237,7 @@ int32_t simjorad_line(const uint16_t *page, size_t page_length, const uint16_t *
  * the first 4 * C numbers of scratch end as zero, and no other number of scratch is read or written. Each closed interval lies inside
  * the plain one of its condition.
  * Sets *rounds to the count of rounds: from [0;top] on every condition that the queries reach, each next assignment is the body value of the
- * last joined with its support; the count is the number of the first assignment that the next one equals. It is at most R * top (102,400).
+ * last joined with its support; the count is the number of the first assignment that the next one equals. It is at most R * top, which needs 32 bits.
  */
 int32_t simjorad_closed(const uint16_t *page, size_t page_length, const uint16_t *queries, size_t queries_length,
                         uint16_t *scratch, size_t scratch_length, uint16_t *answers, size_t answers_length, uint32_t *rounds);

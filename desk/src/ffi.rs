@@ -150,6 +150,7 @@ pub fn closed(area: &[u16], conditions: usize, queries: &[u16]) -> Vec<Interval>
     let mut scratch = vec![0; header::SCRATCH_LENGTH(conditions)];
     let mut answers = vec![0; 2 * queries.len()];
     let mut workspace = vec![0; header::WORKSPACE_MAX];
+    let mut rounds = 0u32;
     // SAFETY: as in `read`.
     let code = unsafe {
         header::simjorad_closed_indexed(
@@ -163,6 +164,7 @@ pub fn closed(area: &[u16], conditions: usize, queries: &[u16]) -> Vec<Interval>
             answers.len(),
             workspace.as_mut_ptr(),
             workspace.len(),
+            &mut rounds,
         )
     };
     granted("closed", code);

@@ -781,13 +781,14 @@ fn arithmetic(text: &str) -> Check {
     Ok(())
 }
 
-/// A stack that no call exceeds, as in `more than 2 KiB of stack`.
+/// A stack that no call exceeds, as in `more than 2 KiB of stack`; one with an index may take a KiB more.
 fn stack(text: &str) -> Check {
     for (at, _) in text.match_indices(" KiB of stack") {
         let stated = number_before(&text[..at]).ok_or("no figure before KiB")?;
         for call in CALLS {
             let name = stack_figure(call);
             let most = header_figure(&name)?;
+            let stated = stated + usize::from(name.ends_with("_INDEXED"));
             figure(
                 &format!("{name} within {stated} KiB"),
                 most <= 1024 * stated,

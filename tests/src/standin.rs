@@ -21,8 +21,8 @@ use crate::page::{self, Line, Op, Page};
 use crate::picks;
 use crate::plain::{self, check_queries};
 use crate::reach;
-use crate::stalls::{half, shared_length, Stall, STALLS};
 use crate::season;
+use crate::stalls::{half, shared_length, Stall, STALLS};
 use crate::workspace;
 
 /// The faults that can be planted, each with the words of the run that notices it and the case that does.

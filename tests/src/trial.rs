@@ -17,8 +17,8 @@ use crate::page;
 use crate::picks;
 use crate::plain;
 use crate::rng::Rng;
-use crate::stalls::{self, Stall};
 use crate::season;
+use crate::stalls::{self, Stall};
 use crate::workspace;
 
 /// What a case returns: nothing, or why it fails.

@@ -18,9 +18,9 @@ use picks::Checked;
 use reach::OpenAnswer;
 use run::DriveAnswer;
 use run::EvaluateAnswer;
+use season::SeasonAnswer;
 use stalls::Stall;
 use stalls::TurnAnswer;
-use season::SeasonAnswer;
 
 // Minus the number of a refusal.
 fn minus(number: u8) -> i32

@@ -116,7 +116,7 @@ fn wrong_page_areas(trial: &mut Trial, item: u64) -> Check {
         trial.pages += 1;
         figure(&bad.how, decode(&bad.numbers), None)?;
         let codes = each_operation(trial, &page, &bad.numbers)?;
-        figure(&bad.how, codes, vec![Some(PAGE_UNSOUND); 7])?;
+        figure(&bad.how, codes, vec![Some(PAGE_UNSOUND); 8])?;
     }
     Ok(())
 }
@@ -170,7 +170,7 @@ fn too_many_lines(trial: &mut Trial, _: u64) -> Check {
         trial.pages += 2;
         let area = spoil::too_many_lines(&page, &line);
         let codes = each_operation(trial, &page, &area)?;
-        figure("1,025 lines", codes, vec![Some(PAGE_UNSOUND); 7])?;
+        figure("1,025 lines", codes, vec![Some(PAGE_UNSOUND); 8])?;
         let full = Page {
             lines: vec![line; 1024],
             ..page.clone()
