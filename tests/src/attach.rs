@@ -158,7 +158,7 @@ fn example_pages(trial: &mut Trial, _: u64) -> Check {
 }
 
 /// The example pages and what `attach` prints for each.
-const STATED: [(&str, &str); 5] = [
+const STATED: [(&str, &str); 6] = [
     (
         "attach-cup",
         "top,100\nK,0,0,90\nK,1,90,100\nK,4,0,95\nK,5,0,100\nW,0,70,90\nW,4,95,95\nW,5,0,0\nend,7\n",
@@ -173,6 +173,7 @@ const STATED: [(&str, &str); 5] = [
     ),
     ("short-check", "top,100\nK,0,75,100\nK,1,90,100\nend,2\n"),
     ("two-sensors", "top,10\nK,0,2,7\nW,1,3,8\nend,2\n"),
+    ("two-stalls", "top,100\nK,0,70,90\nK,1,80,90\nend,2\n"),
 ];
 
 fn good_pages(trial: &mut Trial, _: u64) -> Check {
