@@ -168,7 +168,7 @@ pub const FAULTS: &[(&str, &str, &str)] = &[
     (
         "used_length_trusted_past_the_slice",
         "quick only CASE",
-        "closed_refuses_as_stated",
+        "refusal_order_of_closed",
     ),
     (
         "mark_0_interval_unchecked",
