@@ -1,31 +1,32 @@
 -- The operation as a whole: the start from the closure, the answers in list order, the cleared scratch, and the refusals. Assumes nothing.
 use mathlib.Core.Path.{_≡_, refl, sym, _∙_, ap, ap₂}
-use mathlib.Core.Bool.{Bool, true, false, not, _&&_, true≢false, or-true}
-use mathlib.Core.Logic.{_≢_, inl, inr}
+use mathlib.Core.Bool.{Bool, true, false, not, _&&_, true≢false}
+use mathlib.Core.Logic.{_≢_, inr}
 use mathlib.Core.List.{List, [], _∷_, _++_, append-assoc}
 use mathlib.Core.Option.{none, some}
 use Prim.Native.Nat.{ℕ, suc, _+_, _*_, _-_, _≤_, _<_}
 use native.Mathlib.Numerals.{add-one}
 use native.Mathlib.Omega.{arith}
-use lib.Dec.{eqb, leb, ltb}
+use lib.Dec.{leb}
 use lib.ListN.{length, getD, set, take, drop, length-append, length-take, length-drop, length-set}
 use lib.Seq.{drop-at, length-take-le, drop-cons, take-suc, take-length, set-at, getD-set-same, getD-set-other, drop-set-lt}
 use borrow.Rule.Slice.PartAt.{part-to-end}
-use borrow.Author.Tests.{le-leb, lt-leb, leb-true, ltb-true, eq-eqb, eqb-true, not-false}
+use borrow.Author.Tests.{le-leb, lt-leb, leb-true, not-false}
 use Rattle.fixpoint.specs.ChaoticIteration.{DependencyClosed}
-use Rattle.fixpoint.specs.Interval.{Interval, Assign}
+use Rattle.fixpoint.specs.Interval.{Assign}
 use Rattle.semantics.specs.Area.{sound, pageOf, conditionsOf, allUnder}
 use Rattle.semantics.specs.Body.{unknownByDefault}
-use Rattle.semantics.specs.Call.{Cause, cause, firstOf}
-use Rattle.semantics.specs.Operation.{ends, zeros, scratchLength, queryCauses, closedCauses, indexLength, usedWorkspace, closedWorkspace, refusedClosing, closedAfter, ClosedAnswers, ClosedOf}
+use Rattle.semantics.specs.Call.{Cause, cause}
+use Rattle.semantics.specs.Operation.{ends, zeros, scratchLength, closedCauses, indexLength, usedWorkspace, closedWorkspace, refusedClosing, closedAfter, ClosedOf}
 use Rattle.semantics.specs.Page.{names}
-use Rattle.semantics.specs.Reading.{queried, closure, reached}
+use Rattle.semantics.specs.Reading.{queried, closure}
 use Rattle.semantics.specs.Table.{listed, member}
 use Rattle.semantics.proofs.Closure.{reached-closed, reached-complete}
+use Rattle.semantics.proofs.Demand.{under-listed}
 use Rattle.semantics.proofs.Invariant.{no-cause-holds}
+use Rattle.semantics.proofs.Keeps.{length-ends, ends-listed}
 use Rattle.semantics.proofs.Readings.{names-inside, closed-is}
-use Rattle.semantics.proofs.Soundness.{sound-proper, both-true}
-use Rattle.semantics.proofs.Table.{or-cases}
+use Rattle.semantics.proofs.Soundness.{sound-proper}
 use Rattle.page.proofs.Head.{head-of}
 use Rattle.index.specs.Parts.{linesLength, Index}
 use Rattle.reach.specs.Marks.{Marks}
@@ -97,10 +98,6 @@ module _ (I : Assign) (qs answers₀ : List ℕ) where
   pub answering-first : 2 * length qs ≤ length answers₀ → Answering answers₀ 0
   answering-first h = record { long = h; in-list = omega arith; is = refl }
 
-  length-ends : (xs : List ℕ) → length (ends I xs) ≡ 2 * length xs
-  length-ends [] = omega arith
-  length-ends (x ∷ xs) = omega (arith, length-ends xs)
-
   ends-append : (xs ys : List ℕ) → ends I (xs ++ ys) ≡ ends I xs ++ ends I ys
   ends-append [] ys = refl
   ends-append (x ∷ xs) ys = ap (λ (t : List ℕ). I x .low ∷ I x .high ∷ t) (ends-append xs ys)
@@ -121,7 +118,7 @@ module _ (I : Assign) (qs answers₀ : List ℕ) where
     pub answering-length : length answers ≡ length answers₀
     answering-length =
         ap length (s .is) ∙ length-append (ends I (take i qs)) (drop (2 * i) answers₀)
-        ∙ omega (arith, length-ends (take i qs), length-take i qs, length-drop (2 * i) answers₀, s .in-list, s .long)
+        ∙ omega (arith, length-ends I (take i qs), length-take i qs, length-drop (2 * i) answers₀, s .in-list, s .long)
 
     pub answering-next : i < length qs → {answers′ : List ℕ} → answers′ ≡ set (set answers (2 * i) (I (getD qs i 0) .low)) (2 * i + 1) (I (getD qs i 0) .high) → Answering answers′ (i + 1)
     answering-next l w =
@@ -131,7 +128,7 @@ module _ (I : Assign) (qs answers₀ : List ℕ) where
           long = s .long;
           in-list = omega arith;
           is = w ∙ ap (λ (t : List ℕ). set (set t (2 * i) (I q .low)) (2 * i + 1) (I q .high)) (s .is)
-              ∙ two-stores (ends I (take i qs)) answers₀ (2 * i) (I q .low) (I q .high) (length-ends (take i qs) ∙ omega (arith, length-take i qs, s .in-list)) (omega (arith, s .long))
+              ∙ two-stores (ends I (take i qs)) answers₀ (2 * i) (I q .low) (I q .high) (length-ends I (take i qs) ∙ omega (arith, length-take i qs, s .in-list)) (omega (arith, s .long))
               ∙ ap₂ {C = List ℕ} (λ x y. x ++ y) (sym (ap (ends I) (ap (λ (j : ℕ). take j qs) (add-one i) ∙ take-suc qs i 0 l) ∙ ends-append (take i qs) (q ∷ []))) (ap (λ (j : ℕ). drop j answers₀) e);
         }
 
@@ -139,24 +136,6 @@ module _ (I : Assign) (qs answers₀ : List ℕ) where
     answering-last l =
         let e : i ≡ length qs = omega (arith, s .in-list) in
         s .is ∙ ap (λ (j : ℕ). ends I (take j qs) ++ drop (2 * j) answers₀) e ∙ ap (λ (t : List ℕ). ends I t ++ drop (2 * length qs) answers₀) (take-length qs)
-
--- every query is a condition that is reached
-under-listed : (n : ℕ) (qs : List ℕ) → allUnder n qs ≡ true → (c : ℕ) → listed c qs ≡ true → c < n
-unfolding allUnder listed
-under-listed n [] h c e = absurd (true≢false (sym e))
-under-listed n (q ∷ qs) h c e =
-    let b = both-true (ltb q n) (allUnder n qs) h in
-    elim (or-cases (eqb q c) (listed c qs) e) [
-      | inl f ↦ omega (arith, ltb-true q n (b .0), eqb-true q c f)
-      | inr f ↦ under-listed n qs (b .1) c f
-    ]
-
-ends-same : (I J : Assign) (qs : List ℕ) → ((q : ℕ) → listed q qs ≡ true → I q ≡ J q) → ends I qs ≡ ends J qs
-unfolding listed
-ends-same I J [] h = refl
-ends-same I J (q ∷ qs) h =
-    ap₂ {C = List ℕ} (λ (p : Interval) (t : List ℕ). p .low ∷ p .high ∷ t) (h q (rw (eq-eqb q q refl)))
-    (ends-same I J qs (λ c e. h c (rw (e, or-true))))
 
 -- the answers are written over the closed reading, and then the rounds are counted
 module _ (a qs s w : List ℕ) (r : SolveReady a qs s w) {marks : List Bool} (m : Marks (closure (pageOf a) qs) marks) {s₁ : List ℕ} (b : Begun (conditionsOf a) s s₁)
@@ -183,7 +162,7 @@ module _ (a qs s w : List ℕ) (r : SolveReady a qs s w) {marks : List Bool} (m 
 
   module _ {w′ : List ℕ} (d : w′ ≡ ends (held (conditionsOf a) s₂) qs ++ drop (2 * length qs) w) where
     written : w′ ≡ ends (closedAt a) qs ++ drop (2 * length qs) w
-    written = d ∙ ap (λ (t : List ℕ). t ++ drop (2 * length qs) w) (ends-same (held (conditionsOf a) s₂) (closedAt a) qs answer)
+    written = d ∙ ap (λ (t : List ℕ). t ++ drop (2 * length qs) w) (ends-listed (held (conditionsOf a) s₂) (closedAt a) qs answer)
 
     pub solved-uncounted : (k : ℕ) → Solved a qs s w s₂ w′ false k
     solved-uncounted k =

@@ -16,7 +16,7 @@ use Rattle.semantics.proofs.Table.{or-cases}
 use Rattle.bits.specs.Words.{has, Inserted}
 use Rattle.bits.proofs.Sets.{word-none}
 use Rattle.settle.specs.Waiting.{WaitSet, MaybeIndexed, MaybeIndex}
-use Rattle.rounds.specs.Round.{AllWait}
+use Rattle.rounds.specs.Round.{MarkedWait}
 
 -- the reached conditions before c wait
 module _ (n : ℕ) (m : List Bool) where
@@ -57,7 +57,7 @@ module _ (n : ℕ) (m : List Bool) where
           ];
         })
 
-  pub waiting-last : {words : List ℕ} {c : ℕ} → WaitingAll words c → n ≤ c → AllWait n m words
+  pub waiting-last : {words : List ℕ} {c : ℕ} → WaitingAll words c → n ≤ c → MarkedWait n m words
   waiting-last v l = record { set = v .set; waits = λ d k r. v .waits d (omega arith) r }
 
 -- a set of nobody
@@ -70,7 +70,7 @@ nobody-waits n = record { size = refl; inside = λ c l r. absurd (true≢false (
     zero-at (suc m) (suc i) = zero-at m i
 
 -- all who are reached wait: an index with them
-pub all-indexed : (e : End) (a : List ℕ) (m : List Bool) (lines users s words : List ℕ) → MaybeIndex a lines users → (length users ≡ 0) ⊎ AllWait (conditionsOf a) m words → MaybeIndexed e a m lines users s words
+pub all-indexed : (e : End) (a : List ℕ) (m : List Bool) (lines users s words : List ℕ) → MaybeIndex a lines users → (length users ≡ 0) ⊎ MarkedWait (conditionsOf a) m words → MaybeIndexed e a m lines users s words
 all-indexed e a m lines users s words (inl z) w = inl z
 all-indexed e a m lines users s words (inr i) (inl z) = inl z
 all-indexed e a m lines users s words (inr i) (inr w) =

@@ -20,7 +20,7 @@ use Rattle.index.specs.Parts.{Users}
 use Rattle.settle.specs.Ends.{reads, room}
 use Rattle.settle.specs.Scratch.{held, roomAt, Half, RestsAt, Settled}
 use Rattle.settle.specs.Waiting.{WaitSet, MaybeIndex, MaybeIndexed}
-use Rattle.rounds.specs.Round.{AllWait, HighsBegun, LowsBegun, Woke, past, LowsWait, TurnedAt, ToppedAt, closedAt, Comparable, Fresh, Searched, LinesHave, RoundReady, Rounded, Alternated}
+use Rattle.rounds.specs.Round.{MarkedWait, HighsBegun, LowsBegun, Woke, past, LowsWait, TurnedAt, ToppedAt, closedAt, Comparable, Fresh, Searched, LinesHave, RoundReady, Rounded, Alternated}
 use Rattle.settle.proofs.Halves.{settled-alike, settled-others}
 use Rattle.settle.proofs.Raising.{S, E}
 use Rattle.rounds.proofs.Turns.{turned-same, topped-by, turned-by, lows-known, rounds-end}
@@ -218,6 +218,6 @@ module _ (a : List ℕ) (m : List Bool) (s₀ : List ℕ) where
         }
 
 -- at first everybody waits
-pub all-lows : (a : List ℕ) (m : List Bool) (users s words : List ℕ) → WaitSet (conditionsOf a) words → (length users ≡ 0) ⊎ AllWait (conditionsOf a) m words → LowsWait a m users s words
+pub all-lows : (a : List ℕ) (m : List Bool) (users s words : List ℕ) → WaitSet (conditionsOf a) words → (length users ≡ 0) ⊎ MarkedWait (conditionsOf a) m words → LowsWait a m users s words
 all-lows a m users s words h w =
     record { set-in = h; rests = λ y c l r z. ⊎-elim (λ e. absurd (y e)) (λ v. absurd (true≢false (sym (v .waits c l r) ∙ z))) w }

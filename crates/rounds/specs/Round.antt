@@ -20,7 +20,7 @@ use Rattle.settle.specs.Scratch.{held, roomAt}
 use Rattle.settle.specs.Waiting.{WaitSet}
 
 -- every reached condition waits
-pub record AllWait (n : ℕ) (m : List Bool) (words : List ℕ) : Type 0 where
+pub record MarkedWait (n : ℕ) (m : List Bool) (words : List ℕ) : Type 0 where
   pub set : WaitSet n words
   pub waits : (c : ℕ) → c < n → member m c ≡ true → has words c ≡ true
 

@@ -9,7 +9,7 @@ ghost use Rattle.semantics.specs.Area.{sound, lineAt, pageOf, topOf, conditions
 ghost use Rattle.page.specs.Places.{LineIn};
 ghost use Rattle.index.specs.Parts.{MaybeUsers};
 ghost use Rattle.settle.specs.Waiting.{WaitSet, MaybeIndex};
-ghost use Rattle.rounds.specs.Round.{AllWait, HighsBegun, Renegated, Woke, LowsWait, LowsBegun, HighsIn, Comparable, Searched, Between, LinesHave, RoundReady, Rounded, Alternated};
+ghost use Rattle.rounds.specs.Round.{MarkedWait, HighsBegun, Renegated, Woke, LowsWait, LowsBegun, HighsIn, Comparable, Searched, Between, LinesHave, RoundReady, Rounded, Alternated};
 use settle::settle;
 use settle::wake;
 use value::End;
@@ -66,7 +66,7 @@ fn start_lows(a: &[u16], users: &[u16], scratch: &mut [u16], words: &mut [u64])
 // Every reached condition waits.
 pub fn wait_marked(marks: &[bool], n: u16, words: &mut [u64])
     requires { ⌜ (n ≤ length (now marks)) × (n ≤ 512) × WaitSet n (now words) ⌝ }
-    ensures { λ r. ⌜ AllWait n (now (marks .entry)) (now (words .exit)) ⌝ }
+    ensures { λ r. ⌜ MarkedWait n (now (marks .entry)) (now (words .exit)) ⌝ }
 {
     let mut c: u16 = 0;
     while c < n {
@@ -80,7 +80,7 @@ pub fn wait_marked(marks: &[bool], n: u16, words: &mut [u64])
 // Every reached condition waits, if there is an index.
 fn wait_all(marks: &[bool], users: &[u16], n: u16, words: &mut [u64])
     requires { ⌜ (n ≤ length (now marks)) × (n ≤ 512) × WaitSet n (now words) ⌝ }
-    ensures { λ r. ⌜ WaitSet n (now (words .exit)) × ((length (now (users .entry)) ≡ 0) ⊎ AllWait n (now (marks .entry)) (now (words .exit))) ⌝ }
+    ensures { λ r. ⌜ WaitSet n (now (words .exit)) × ((length (now (users .entry)) ≡ 0) ⊎ MarkedWait n (now (marks .entry)) (now (words .exit))) ⌝ }
 {
     if users.len() == 0 {
         return;

@@ -23,7 +23,7 @@ use Rattle.settle.specs.Ends.{reads, room}
 use Rattle.settle.specs.Scratch.{held, roomAt}
 use Rattle.settle.specs.Waiting.{WaitSet}
 use Rattle.settle.proofs.Raising.{S, E}
-use Rattle.rounds.specs.Round.{AllWait, past, Comparable, Fresh, LinesHave}
+use Rattle.rounds.specs.Round.{MarkedWait, past, Comparable, Fresh, LinesHave}
 use Rattle.rounds.proofs.AllWaiting.{nobody-waits}
 use Rattle.stages.specs.Steps.{Nobody, ahead, seen, Notable, AllNoted, LowsRest, TakeReady, AllTaken, LookedAgain}
 use Rattle.stages.specs.Stages.{stageAt, Tables, Older, AtSupport, Advanced}
@@ -200,7 +200,7 @@ module _ {a : List ℕ} {m : List Bool} {users : List ℕ} {k : ℕ} {s lows : L
       older-fresh f = older (λ c d i q e. omega (arith, f d (c, e), table₁ (2 * d) (omega arith), b .tables .within d i .low-in))
 
       -- without an index
-      all-or-none : length users ≡ 0 → AllWait n m look′ ⊎ (Nobody look′ × Older a m (suc k) look′)
+      all-or-none : length users ≡ 0 → MarkedWait n m look′ ⊎ (Nobody look′ × Older a m (suc k) look′)
       all-or-none z =
           elim again [
             | inl d ↦ absurd (d .0 z)

@@ -16,7 +16,7 @@ use Rattle.semantics.specs.Table.{member}
 use Rattle.semantics.proofs.Soundness.{sound-proper}
 use Rattle.settle.specs.Ends.{room}
 use Rattle.settle.specs.Scratch.{roomAt}
-use Rattle.rounds.specs.Round.{AllWait}
+use Rattle.rounds.specs.Round.{MarkedWait}
 use Rattle.rounds.proofs.Rounding.{all-lows}
 use Rattle.stages.specs.Counted.{CountReady, Counted}
 use Rattle.stages.specs.Steps.{firstHigh, Begun, TopsCopied}
@@ -53,7 +53,7 @@ module _ {a : List ℕ} {m : List Bool} {s : List ℕ} (b : CountReady a m s) wh
           apart = λ c l r. v .each c l .high ∙ cond-false (topOf a) 0 r;
         }
 
-    pub stage-begins : (users : List ℕ) {look lows : List ℕ} → AllWait n m look → AllWait n m lows → AtStage a m users 0 s₁ look lows
+    pub stage-begins : (users : List ℕ) {look lows : List ℕ} → MarkedWait n m look → MarkedWait n m lows → AtStage a m users 0 s₁ look lows
     stage-begins users {look} {lows} w z =
         record {
           tables = tables;

@@ -17,7 +17,7 @@ use Rattle.bits.specs.Words.{has}
 use Rattle.settle.specs.Ends.{reads}
 use Rattle.settle.specs.Scratch.{held, roomAt}
 use Rattle.settle.specs.Waiting.{WaitSet}
-use Rattle.rounds.specs.Round.{AllWait, LowsWait, closedAt}
+use Rattle.rounds.specs.Round.{MarkedWait, LowsWait, closedAt}
 use Rattle.stages.specs.Steps.{Nobody, Whole}
 
 -- assignment k
@@ -52,7 +52,7 @@ pub record AtStage (a : List ℕ) (m : List Bool) (users : List ℕ) (k : ℕ) (
   pub tables : Tables a m s
   pub staged : (c : ℕ) → c < conditionsOf a → member m c ≡ true → held (conditionsOf a) s c ≡ stageAt a k c
   pub look-in : WaitSet (conditionsOf a) look
-  pub spread : AllWait (conditionsOf a) m look ⊎ Older a m k look
+  pub spread : MarkedWait (conditionsOf a) m look ⊎ Older a m k look
   pub whole : Whole users (conditionsOf a) m look
   pub lows-wait : LowsWait a m users s lows
 

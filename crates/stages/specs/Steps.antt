@@ -18,7 +18,7 @@ use Rattle.index.specs.Readers.{linesRead}
 use Rattle.value.specs.Table.{Grades}
 use Rattle.settle.specs.Ends.{reads}
 use Rattle.settle.specs.Waiting.{WaitSet}
-use Rattle.rounds.specs.Round.{AllWait, past, Fresh, LinesHave}
+use Rattle.rounds.specs.Round.{MarkedWait, past, Fresh, LinesHave}
 
 -- nobody is in the set
 abbrev pub Nobody : List ℕ → Type 0
@@ -189,11 +189,11 @@ pub record Lowered (a : List ℕ) (m : List Bool) (tops s s′ look look′ lowe
 
 -- without an index everybody reached is looked at, or nobody
 abbrev pub Whole : (users : List ℕ) (n : ℕ) (m : List Bool) (look : List ℕ) → Type 0
-Whole users n m look = length users ≡ 0 → AllWait n m look ⊎ Nobody look
+Whole users n m look = length users ≡ 0 → MarkedWait n m look ⊎ Nobody look
 
 -- everybody reached is looked at, or every negation is fresh: no low end that a rule negates is another next
 abbrev pub LookedAgain : (a : List ℕ) (m : List Bool) (s look look′ : List ℕ) → Type 0
-LookedAgain a m s look look′ = AllWait (conditionsOf a) m look′ ⊎ ((look′ ≡ look) × ((c : ℕ) → LinesHave (pageOf a .lines) (2 * c + 1) → Fresh a s c))
+LookedAgain a m s look look′ = MarkedWait (conditionsOf a) m look′ ⊎ ((look′ ≡ look) × ((c : ℕ) → LinesHave (pageOf a .lines) (2 * c + 1) → Fresh a s c))
 
 -- what the negations of the lowered conditions ask: all others have their numbers already
 pub record FollowReady (a users s lowered lows : List ℕ) : Type 0 where
