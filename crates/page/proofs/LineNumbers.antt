@@ -13,7 +13,7 @@ use borrow.Author.Tests.{eqb-true, eq-eqb}
 use Rattle.fixpoint.specs.Interval.{Interval, Assign}
 use Rattle.semantics.specs.Area.{Kind, factKind, ruleKind, queryKind, noKind, kind, lineAs, lineAt, literalOf, sound, topOf, conditionsOf, countOf, usedOf}
 use Rattle.semantics.specs.Body.{ruleValue, onlyIf, lineBody}
-use Rattle.semantics.specs.Page.{Line, fact, rule, query}
+use Rattle.semantics.specs.Page.{Line, fact, rule, query, default}
 use Rattle.page.specs.Graded.{RuleAt, SoundEntry}
 use Rattle.page.proofs.Scan.{line-at, entry-four, fact-kind, rule-kind, over-five}
 use Rattle.page.proofs.Scanning.{Scanning, linesLeft, scanning-first, scanning-next, entry-ok, lines-on}
@@ -58,6 +58,7 @@ module _ (top : ℕ) (I : Assign) (c : ℕ) where
   shape (fact d l h) = only-shape (eqb d c) _
   shape (rule d w op lits) = only-shape (eqb d c) _
   shape (query r d) = inl refl
+  shape (default d) = inl refl
 
   only-true : (t : Bool) (p : Interval) {q : Interval} → onlyIf t p ≡ q ∷ [] → t ≡ true
   only-true true p e = refl

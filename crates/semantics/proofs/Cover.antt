@@ -13,7 +13,7 @@ use Rattle.semantics.specs.Area.{sound, pageOf}
 use Rattle.semantics.specs.Body.{literalValue, ruleValue, onlyIf, bodies, bodyless, largestOf, T}
 use Rattle.semantics.specs.Exact.{Fraction, IsFraction, whole, Covers, exactCombine, exactFold, Figures, exactLiteral, exactRule, exactBodies, exactBody, ChosenFrom, Exact, PlainCovers}
 use Rattle.semantics.specs.Grade.{Op, X, combine, endwise, foldFrom, foldAll, largest}
-use Rattle.semantics.specs.Page.{Literal, positive, negative, conditionOf, mentions, Line, fact, rule, query, linesName, Page, names}
+use Rattle.semantics.specs.Page.{Literal, positive, negative, conditionOf, mentions, Line, fact, rule, query, default, linesName, Page, names}
 use Rattle.semantics.specs.Reading.{IsPlain, named}
 use Rattle.semantics.proofs.Closure.{reached-real}
 use Rattle.semantics.proofs.Fractions.{covers-equal, Covered, whole-covered, op-covered, largest-covered, negated-covered, weighted-covered}
@@ -64,6 +64,7 @@ module _ (top : ℕ) (pos : 1 ≤ top) (choice : ℕ → ℕ) (I : Assign) (x : 
       added (eqb d c) (λ e. rule-covered w op lits (λ b f. h b (left (eqb d c && mentions lits b) (linesName ls c b) (rw (e, f)))))
       (bodies-covered c (suc k) ls (g .1) (λ b f. h b (right (eqb d c && mentions lits b) (linesName ls c b) f)))
   bodies-covered c k (query r d ∷ ls) g h = bodies-covered c (suc k) ls (g .1) h
+  bodies-covered c k (default d ∷ ls) g h = bodies-covered c (suc k) ls (g .1) h
 
   largest-of-covered : (d : Interval) → Covered d (whole 0) → {ps : List Interval} {xs : List Fraction} → Forall₂ Covered ps xs
       → Covered (largestOf d ps) (exactFold (exactCombine top X) xs)

@@ -14,7 +14,6 @@ use Rattle.semantics.specs.Exact.{Fraction, whole, scaled, Equal, Covers
 use Rattle.semantics.specs.Page.{mentions, linesName}
 use Rattle.semantics.specs.Reading.{IsPlain, IsClosed, Reached, queried, named}
 use Rattle.semantics.specs.Table.{allBelow, listed}
-use Rattle.semantics.proofs.Areas.{all-at}
 use Rattle.semantics.proofs.Bench.{proper, bench}
 use Rattle.semantics.proofs.Closure.{reached-real}
 use Rattle.semantics.proofs.Cover.{plain-covers}
@@ -23,6 +22,7 @@ use Rattle.semantics.proofs.Proper.{Proper}
 use Rattle.semantics.proofs.Readings.{names-inside}
 use Rattle.semantics.proofs.Rows.{rows, interval, page6, pageExact}
 use Rattle.semantics.proofs.Soundness.{Every, every-true}
+use Rattle.semantics.proofs.Table.{all-at}
 
 abbrev over : ℕ → ℕ → Fraction
 over n d = record { numerator = n; denominator = d }

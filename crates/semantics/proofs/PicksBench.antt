@@ -20,12 +20,12 @@ use Rattle.semantics.specs.Picks.{bookAfter, pickWaits, AllWait, PicksAn
 use Rattle.semantics.specs.Reading.{pass, passes, closure}
 use Rattle.semantics.specs.Table.{tableFrom, allUnknown, anyBelow, allBelow, listed, intervalOf}
 use Rattle.semantics.specs.Worklist.{start, changes, waitingAfter, evaluated, lowestFrom, rest, spent, status}
-use Rattle.semantics.proofs.Areas.{all-at}
 use Rattle.semantics.proofs.AreaRows.{area1, area7, areaNine, chain, many}
 use Rattle.semantics.proofs.Picks.{plain-figures}
 use Rattle.semantics.proofs.PicksRows.{PicksRow, checks, PicksHold, picksRows}
 use Rattle.semantics.proofs.Same.{sameList, sameNumbers, same-numbers, differ-numbers, sameCause, same-cause, sameStatus, same-status}
 use Rattle.semantics.proofs.Soundness.{both-true, Every, every-true}
+use Rattle.semantics.proofs.Table.{all-at}
 
 -- all picks wait
 abbrev waits? : Page → (qs picks : List ℕ) → Bool

@@ -22,7 +22,6 @@ use Rattle.semantics.specs.Table.{intervalOf, member, tableFrom, anyBelo
 use Rattle.semantics.proofs.RoundRows.{CountRow, counts, Counts, AllCount, chain, open0, loops, countRows}
 use Rattle.semantics.specs.Rounds.{IsRounds}
 use Rattle.fixpoint.proofs.Evaluation.{same-true}
-use Rattle.semantics.proofs.Areas.{all-true, all-at}
 use Rattle.semantics.proofs.Bench.{proper}
 use Rattle.semantics.proofs.Closure.{reached-closed}
 use Rattle.semantics.proofs.Computed.{rounds-iter}
@@ -30,6 +29,7 @@ use Rattle.semantics.proofs.Readings.{page-system}
 use Rattle.semantics.proofs.Soundness.{both-true, Every, every-true, sound-proper}
 use Rattle.semantics.proofs.Sweeps.{sweep, sweeps, supportList, closeList, rounds}
 use Rattle.semantics.proofs.RoundsReached.{count-counted}
+use Rattle.semantics.proofs.Table.{all-true, all-at}
 
 -- I and J are the same on the members of m
 unfoldable pub likeAt : List Bool → Assign → Assign → ℕ → Bool
