@@ -20,7 +20,7 @@ use Rattle.semantics.proofs.Readings.{plain-is, closed-is, plain-one, c
 use Rattle.semantics.proofs.ReadProper.{accepted-proper, SmallRefusal, read-small}
 use Rattle.semantics.proofs.ExactAreas.{proper-sound}
 use Rattle.semantics.proofs.RoundTrip.{page-area}
-use Rattle.semantics.proofs.UsedLength.{used-most}
+use Rattle.semantics.proofs.UsedLength.{mostUsed, used-most}
 use Rattle.semantics.proofs.TextNumbers.{number-short, number-four}
 use Rattle.semantics.specs.Output.{Query, queriesOf, Answers, AreAnswers, topFields, answerFields, endFields, refusalFields, printed, answerLines, pageOutput, PrintedAs, IsOutput}
 
@@ -203,7 +203,7 @@ output-short text output p = go (textRefusal text) refl p
     go none e p = omega (arith, ap length (p .is), page-short (pageRead text) (accepted-proper text e) (p .are))
 
 -- Reading into an area that is long enough for every page: it is refused exactly if the text is.
-module _ (text area : List ℕ) (long : 12804 ≤ length area) where
+module _ (text area : List ℕ) (long : mostUsed ≤ length area) where
   no-cause : textRefusal text ≡ none → refusalOf text area ≡ none
   unfolding refusalOf areaOf
   no-cause e =

@@ -1,4 +1,4 @@
--- A page that is read is proper: its area is sound, and its used length is at most 12,804. A refusal's number is at most 24, its line at most
+-- A page that is read is proper: its area is sound, and its used length is at most that of the longest page. A refusal's number is at most 24, its line at most
 -- 1,026, its place at most 12. Assumes nothing.
 use mathlib.Core.Path.{_≡_, refl, ap}
 use mathlib.Core.Bool.{Bool, true, false, not}
@@ -21,7 +21,7 @@ use Rattle.semantics.proofs.FieldRanges.{else-none, inside, Sized}
 use Rattle.semantics.proofs.ReadLines.{good-line, good-head}
 use Rattle.semantics.proofs.Repeats.{defaults-pass, still-single}
 use Rattle.semantics.proofs.TextForms.{sized, in-range}
-use Rattle.semantics.proofs.UsedLength.{used-most}
+use Rattle.semantics.proofs.UsedLength.{mostUsed, used-most}
 
 -- the lines from line k on
 lines-proper : (top n k : ℕ) (before : List Line) (ls : List (List ℕ)) → k ≤ 1026 → badLine top n k before ls ≡ none
@@ -69,7 +69,7 @@ accepted-proper bytes e =
 -- what an answer says
 pub record GoodPage (bytes area : List ℕ) (used : ℕ) : Type 0 where
   pub page-sound : sound (readOf bytes area .area) ≡ true
-  pub short : used ≤ 12804
+  pub short : used ≤ mostUsed
 
 pub read-good : (bytes area : List ℕ) {used : ℕ} → readPage used ≡ readOf bytes area .answer → GoodPage bytes area used
 unfolding readOf refusalOf areaOf
