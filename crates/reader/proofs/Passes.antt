@@ -2,10 +2,10 @@
 use mathlib.Core.Path.{_≡_, refl, _∙_, ap, subst}
 use mathlib.Core.List.{List, [], _∷_, _++_}
 use mathlib.Core.Option.{some}
-use Prim.Native.Nat.{ℕ, zero, suc, _+_, _*_, _-_, _/_, _≤_, _<_}
+use Prim.Native.Nat.{ℕ, suc, _+_, _*_, _-_, _≤_, _<_}
 use native.Mathlib.Omega.{arith}
 use native.Mathlib.Numerals.{add-one}
-use lib.ListN.{length, getD, drop, replicate, drop-of-length-le, length-append}
+use lib.ListN.{length, getD, drop, drop-of-length-le, length-append}
 use lib.Dec.{leb}
 use borrow.Author.Tests.{eq-eqb, ne-eqb}
 use Rattle.semantics.specs.Page.{Line as PageLine, defaults}
@@ -13,7 +13,7 @@ use Rattle.semantics.specs.Area.{headLength, lineCode, lineCodes}
 use Rattle.semantics.specs.Text.{textLines, fieldsOf, lineIn, linesIn}
 use Rattle.semantics.specs.ReadPage.{toldAt, orElse, lineFault, badLine}
 use Rattle.semantics.proofs.Repeats.{defaults-pass}
-use Rattle.bits.proofs.Sets.{word-none}
+use Rattle.bits.proofs.Sets.{zeros-none}
 use Rattle.fields.specs.Cursor.{fieldsAt, linesAfter}
 use Rattle.reader.specs.declared.check.Line.{Line}
 use Rattle.reader.specs.declared.check.Line.the-variants.{Good, Bad}
@@ -71,12 +71,7 @@ pub record Checking (s : List ℕ) (from top n : ℕ) (words : List ℕ) (i k u 
 -- an empty set
 pub seen-none : Seen [] (0 ∷ 0 ∷ 0 ∷ 0 ∷ 0 ∷ 0 ∷ 0 ∷ 0 ∷ [])
 unfolding defaults
-seen-none = record { size = refl; are = λ c l. word-none (0 ∷ 0 ∷ 0 ∷ 0 ∷ 0 ∷ 0 ∷ 0 ∷ 0 ∷ []) c (zero-at 8 (c / 64)) }
-  where
-    zero-at : (m i : ℕ) → _≡_ {A = ℕ} (getD (replicate m 0) i 0) 0
-    zero-at zero i = refl
-    zero-at (suc m) zero = refl
-    zero-at (suc m) (suc i) = zero-at m i
+seen-none = record { size = refl; are = λ c l. zeros-none c }
 
 pub checking-first : (s : List ℕ) (from top n : ℕ) {words : List ℕ} → Seen [] words → Checking s from top n words from 2 (headLength n)
 unfolding defaults

@@ -1,6 +1,6 @@
 -- The ranges of a line, and its refusal. Assumes nothing.
 use mathlib.Core.Path.{_≡_, refl, sym, _∙_, ap, subst}
-use mathlib.Core.Bool.{Bool, true, false, not, cond, _||_}
+use mathlib.Core.Bool.{Bool, true, false, not, cond, _||_, or-true, or-false}
 use mathlib.Core.List.{List, [], _∷_}
 use mathlib.Core.Option.{Option, none, some}
 use Prim.Native.Nat.{ℕ, suc, _+_, _≤_, _<_}
@@ -81,14 +81,6 @@ module _ (s : List ℕ) (at n : ℕ) {r : Parsed} (q : ParsedAs s at n r) where
 else-nothing : {A : Type 0} (o : Option A) → orElse o none ≡ o
 else-nothing none = refl
 else-nothing (some r) = refl
-
-or-true : (t : Bool) → (t || true) ≡ true
-or-true true = refl
-or-true false = refl
-
-or-false : (t : Bool) → (t || false) ≡ t
-or-false true = refl
-or-false false = refl
 
 -- the longest entry has 12 numbers
 entry-few : (s : List ℕ) (at : ℕ) {l : Line} {next : ℕ} → Says s at l next → length (lineCode l) ≤ 12
