@@ -4,12 +4,12 @@ use mathlib.Core.Logic.{_≢_}
 use mathlib.Core.Bool.{Bool, true, false, cond, not, _&&_, _||_}
 use mathlib.Core.List.{List}
 use Prim.Native.Nat.{ℕ, zero, suc, _+_, _-_, _*_, _/_, _%_, _^_, _≤_, _<_}
-use native.Mathlib.Decide.{ℕ-discrete}
+use native.Mathlib.Decide.{ℕ-discrete, decLt}
 use native.Mathlib.Omega.{arith}
 use lib.Bits.{bitAnd, bitOr}
 use lib.Count.{leadingZeros, trailingZeros}
 use lib.Dec.{eqb}
-use lib.ListN.{length, getD, set, length-set}
+use lib.ListN.{length, getD, set, replicate, length-set, getD-replicate, List·getD-eq-default}
 use lib.Seq.{getD-set-same, getD-set-other}
 use borrow.Author.Tests.{eq-eqb, ne-eqb}
 use Rattle.bits.specs.Words.{has, Inserted, Removed, Absorbed, LowestIn, AnyIn}
@@ -221,3 +221,17 @@ module _ (words : List ℕ) where
   any-passed from l none v m =
       let e : (from / 64 + (8 + v - from / 64) % 8) % 8 ≡ v = omega arith in
       ap (λ (i : ℕ). getD words i 0) (sym e) ∙ none ((8 + v - from / 64) % 8) (omega arith)
+
+-- the empty set
+abbrev pub emptySet : List ℕ
+emptySet = replicate 8 0
+
+zero-at : (i : ℕ) → getD emptySet i 0 ≡ 0
+zero-at i =
+    elim (decLt i 8) [
+      | yes l ↦ getD-replicate 8 i 0 0 l
+      | no l ↦ List·getD-eq-default emptySet 0 {n = i} (omega arith)
+    ]
+
+pub empty-has : (k : ℕ) → has emptySet k ≡ false
+empty-has k = word-none emptySet k (zero-at (k / 64))
