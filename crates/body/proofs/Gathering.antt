@@ -10,7 +10,7 @@ use native.Mathlib.Omega.{arith}
 use lib.ListN.{length, getD, drop}
 use Rattle.fixpoint.specs.Interval.{Interval, Assign}
 use Rattle.fixpoint.proofs.KnowledgeOrder.{pair-eq}
-use Rattle.semantics.specs.Area.{sound, pageOf, topOf, conditionsOf, countOf, usedOf, lineAt}
+use Rattle.semantics.specs.Area.{sound, pageOf, topOf, conditionsOf, countOf, usedOf, lineAt, firstLine}
 use Rattle.semantics.specs.Body.{lineBody, bodyless, T}
 use Rattle.semantics.specs.Grade.{End, lower, upper}
 use Rattle.page.specs.Places.{placeOf, LineIn, LineOf}
@@ -193,7 +193,7 @@ module _ (a values : List ℕ) (c : ℕ) (ok : sound a ≡ true) {found : Bool} 
       }
 
 -- the cursor stands where the line of its number begins
-pub place-first : (a : List ℕ) {at k : ℕ} → (at ≡ 4) × (k ≡ 0) → at ≡ placeOf a k
+pub place-first : (a : List ℕ) {at k : ℕ} → (at ≡ firstLine a) × (k ≡ 0) → at ≡ placeOf a k
 unfolding placeOf
 place-first a q = rw (q .1) (q .0)
 

@@ -100,7 +100,7 @@ module _ (a : List ℕ) (at c : ℕ) where
   fact-denies h = rw (line-at a at, fact-kind (getD a (at + 1) 0) (omega arith))
 
   pub over-denies : 5 < getD a (at + 1) 0 → lineNegates (lineAt (drop at a)) c ≡ false
-  over-denies h = rw (line-at a at) (⊎-elim (λ e. rw e) (λ e. rw e) (over-five (getD a (at + 1) 0) h))
+  over-denies h = rw (line-at a at) (⊎-elim (λ e. rw e) (⊎-elim (λ e. rw e) (λ e. rw e)) (over-five (getD a (at + 1) 0) h))
 
 -- lines that begin with the one at a place: it is of the head and negates c, or those behind it decide
 pub lines-negate : (a : List ℕ) (at head c : ℕ) (ls : List Line)
