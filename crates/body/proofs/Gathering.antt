@@ -20,7 +20,7 @@ use Rattle.page.proofs.Scanning.{entry-here}
 use Rattle.page.proofs.LineNumbers.{scanning-at, shape, line-of, adds-one}
 use Rattle.value.specs.Table.{endOf, EndTable}
 use Rattle.value.specs.LineEnds.{LineEnd}
-use Rattle.value.proofs.BodyEnds.{body-most, body-has, body-none}
+use Rattle.value.proofs.BodyEnds.{body-some, body-has, body-none}
 use Rattle.value.proofs.Defaults.{bodyless-in}
 use Rattle.ends.specs.Mirror.{mirrored}
 use Rattle.index.specs.Groups.{LinesByHead}
@@ -158,22 +158,15 @@ grouped-more places from i p (j, b, l, q) =
 pub grouped-all : (a first places : List ℕ) (c i : ℕ) → LinesByHead a first places → c < conditionsOf a → getD first (c + 1) 0 ≤ i → (p : ℕ) → LineOf a c p → Grouped places (getD first c 0) i p
 grouped-all a first places c i g l h p o = let w = g .every c p l o in (w .0, w .1, omega (arith, w .2), w .3)
 
--- no interval is not one interval
-nil-not-one : {p : Interval} → _≡_ {A = List Interval} [] (p ∷ []) → ⊥
-nil-not-one e = let z : _≡_ {A = ℕ} 0 1 = cc in omega arith
-
 -- the body value, where a line is found and where none is
 module _ (a values : List ℕ) (c : ℕ) (ok : sound a ≡ true) {found : Bool} {low high : ℕ} (b : BestOf a values c found low high) where
   module _ (some : found ≡ true) where
     most : (e : End) (table : List ℕ) {best : ℕ} → Largest e a table c best → (I : Assign) → EndTable e (topOf a) (conditionsOf a) I table → best ≡ endOf e (T (pageOf a) I c)
     most e table {best} v I t =
-        let h =
-            body-most e a ok I c best (λ j l p q. v .covers I t (placeOf a j) (line-of (topOf a) I c a j l q) p q)
-            (λ g. let o = b .some some .1 in
-              let w = adds-one (topOf a) I c a o in
-              let z = g (o .number) (o .in-count) in
-              let y = subst (λ (k : ℕ). lineBody (topOf a) I c (lineAt (drop k a)) ≡ w .0 ∷ []) (o .place) (w .1) in
-              absurd (nil-not-one (sym z ∙ y))) in
+        let o = b .some some .1 in
+        let w = adds-one (topOf a) I c a o in
+        let d = subst (λ (k : ℕ). lineBody (topOf a) I c (lineAt (drop k a)) ≡ w .0 ∷ []) (o .place) (w .1) in
+        let h = body-some e a ok I c best (λ j l p q. v .covers I t (placeOf a j) (line-of (topOf a) I c a j l q) p q) (o .number) (o .in-count) (w .0) d in
         omega (arith, v .reached I t)
 
     pub body-found : Body a values c low high

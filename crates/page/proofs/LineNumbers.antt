@@ -97,10 +97,9 @@ module _ (top : ℕ) (I : Assign) (c : ℕ) where
   pub adds-one : (a : List ℕ) {at : ℕ} → LineOf a c at → (p : Interval) × (lineBody top I c (lineAt (drop at a)) ≡ p ∷ [])
   adds-one a {at} s =
       elim (decLe 1 (getD a (at + 1) 0)) [
-        | yes z ↦ let o = rule-kind (getD a (at + 1) 0) z (s .body) in
-            (
-              ruleValue top I (getD a (at + 2) 0) (o .0) (map literalOf (take (getD a (at + 3) 0) (drop (at + 4) a))),
-              rw (line-at a at, o .1, eq-eqb (getD a at 0) c (s .head)),
-            )
+        | yes z ↦ let o = rule-kind (getD a (at + 1) 0) z (s .body) in (
+          ruleValue top I (getD a (at + 2) 0) (o .0) (map literalOf (take (getD a (at + 3) 0) (drop (at + 4) a))),
+          rw (line-at a at, o .1, eq-eqb (getD a at 0) c (s .head)),
+        )
         | no z ↦ (record { low = getD a (at + 2) 0; high = getD a (at + 3) 0 }, rw (line-at a at, fact-kind (getD a (at + 1) 0) (omega arith), eq-eqb (getD a at 0) c (s .head)))
       ]

@@ -21,6 +21,9 @@ end-largest : (e : End) (p q : Interval) → endOf e (largest p q) ≡ max (endO
 end-largest lower p q = refl
 end-largest upper p q = refl
 
+nil-not-one : {p : Interval} → _≡_ {A = List Interval} [] (p ∷ []) → ⊥
+nil-not-one d = let z : _≡_ {A = ℕ} 0 1 = cc in omega arith
+
 module _ (e : End) (a : List ℕ) (ok : sound a ≡ true) (I : Assign) (c : ℕ) where
   abbrev line : ℕ → Line
   line k = lineAt (drop (placeOf a k) a)
@@ -129,6 +132,10 @@ module _ (e : End) (a : List ℕ) (ok : sound a ≡ true) (I : Assign) (c : ℕ)
 
   pub body-has : (j : ℕ) → j < countOf a → (p : Interval) → lineBody (topOf a) I c (line j) ≡ p ∷ [] → endOf e p ≤ endOf e (T (pageOf a) I c)
   body-has j l p h = omega (arith, body-given, given-has (countOf a) 0 (omega arith) j (omega arith) l p h)
+
+  -- of a condition that has a line
+  pub body-some : (b : ℕ) → Bound b → (j : ℕ) → j < countOf a → (p : Interval) → lineBody (topOf a) I c (line j) ≡ p ∷ [] → endOf e (T (pageOf a) I c) ≤ b
+  body-some b h j l p d = body-most b h (λ g. absurd (nil-not-one (sym (g j l) ∙ d)))
 
 -- a condition without F and R lines has `bodyless`
 module _ (a : List ℕ) (ok : sound a ≡ true) (I : Assign) (c : ℕ) (none : (j : ℕ) → j < countOf a → lineBody (topOf a) I c (lineAt (drop (placeOf a j) a)) ≡ []) where

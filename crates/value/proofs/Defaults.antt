@@ -1,10 +1,9 @@
 -- What a condition without F and R lines has: the low end is 0, and the high end is top where it is unknown by default. Assumes nothing.
-use mathlib.Core.Path.{_≡_, refl, ap}
+use mathlib.Core.Path.{_≡_, refl}
 use mathlib.Core.Bool.{Bool, true, false, cond}
 use mathlib.Core.List.{List}
 use Prim.Native.Nat.{ℕ, _≤_}
 use native.Mathlib.Omega.{arith}
-use Rattle.fixpoint.specs.Interval.{Interval}
 use Rattle.fixpoint.specs.KnowledgeOrder.{unknown, certainly-false}
 use Rattle.semantics.specs.Area.{pageOf, topOf}
 use Rattle.semantics.specs.Body.{bodyless, unknownByDefault}
