@@ -1,0 +1,1 @@
+-- Worked rows of the small pages. Assumes nothing.
