@@ -8,16 +8,16 @@ use mathlib.Core.Option.{none}
 use Prim.Native.Nat.{ℕ, zero, suc, _≤_, _<_}
 use native.Mathlib.Omega.{arith}
 use native.Mathlib.Decide.{decLe}
-use lib.Dec.{eqb, ltb}
+use lib.Dec.{eqb, ltb, leb}
 use lib.ListN.{length, getD, drop}
-use borrow.Author.Tests.{eqb-true, eq-eqb, ltb-true, lt-ltb}
+use borrow.Author.Tests.{eqb-true, eq-eqb, ltb-true, lt-ltb, leb-true}
 use Rattle.semantics.specs.Grade.{Op, M}
 use Rattle.semantics.specs.Page.{Literal, positive, negative, conditionOf, Line, fact, rule, query, Page}
 use Rattle.semantics.specs.Area.{usedOf, areaOf}
 use Rattle.semantics.specs.ReadPage.{readPage, readOf}
 use Rattle.semantics.specs.Fields.{numberWithin, numberText}
 use Rattle.semantics.specs.Written.{textOf}
-use Rattle.semantics.specs.SmallPages.{SmallLine, smallFact, smallRule, SmallLines, SmallPage, lessOr, bytesBefore, earlier, Among, InOrder, AllSmallPages, numbersBelow, factsOn, ruleWith, rulesOn, smallLines, oneOf, twoOf, pageWith, smallPagesOf, smallPages, smallPage}
+use Rattle.semantics.specs.SmallPages.{SmallLine, smallFact, smallRule, SmallLines, SmallPage, lessOr, bytesBefore, earlier, Among, InOrder, AllSmallPages, numbersBelow, factsOn, ruleWith, rulesOn, smallLines, oneOf, twoOf, pageWith, smallPagesOf, smallPages, smallPage, smallText}
 use Rattle.semantics.proofs.Proper.{LiteralsBelow, InRange, AllInRange, Proper}
 use Rattle.semantics.proofs.WrittenPages.{written-read}
 use Rattle.semantics.proofs.Listing.{among-left, among-right, among-either, among-map, among-image, among-flat, among-part, among-below, below-among, among-at, place-of}
@@ -273,6 +273,23 @@ small-once p w =
     let m = place-of (pageWith 1 []) p smallPages (small-pages .exactly p .1 w) in
     let l : m .0 ≤ 241 = omega (arith, m .1, small-count) in
     record { number = m .0; most = l; is = m .2; only = λ k h e. omega (arith, one-number k (m .0) h l (e ∙ sym (m .2)), one-number (m .0) k l h (m .2 ∙ sym e)) }
+
+-- no text is longer than 28 bytes
+abbrev allShort : List Page → Bool
+allShort [] = true
+allShort (p ∷ ps) = leb (length (textOf p)) 28 && allShort ps
+
+short-at : (d : Page) (ps : List Page) → allShort ps ≡ true → (k : ℕ) → k < length ps → length (textOf (getD ps k d)) ≤ 28
+short-at d [] e k h = absurd (omega arith)
+short-at d (p ∷ ps) e zero h = leb-true (length (textOf p)) 28 (both (leb (length (textOf p)) 28) (allShort ps) e .0)
+short-at d (p ∷ ps) e (suc k) h = short-at d ps (both (leb (length (textOf p)) 28) (allShort ps) e .1) k (omega arith)
+
+all-short : allShort smallPages ≡ true
+unfolding smallPages smallPagesOf smallLines flatMap textOf numberText numberWithin
+all-short = refl
+
+pub small-short : (k : ℕ) → k < 242 → length (smallText k) ≤ 28
+small-short k h = short-at (pageWith 1 []) smallPages all-short k (omega (arith, small-count))
 
 -- The reader accepts each.
 line-ranged : (n : ℕ) {line : Line} → SmallLine n line → InRange 1 n line
