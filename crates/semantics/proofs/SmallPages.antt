@@ -2,25 +2,22 @@
 -- nothing.
 use mathlib.Core.Path.{_≡_, refl, sym, _∙_, ap, ap₂, subst}
 use mathlib.Core.Bool.{Bool, true, false, _&&_, _||_, false≢true, or-true}
-use mathlib.Core.Logic.{_⊎_, inl, inr, _↔_}
+use mathlib.Core.Logic.{_⊎_, inl, inr}
 use mathlib.Core.List.{List, [], _∷_, _++_, map, flatMap}
-use mathlib.Core.Option.{none}
 use Prim.Native.Nat.{ℕ, zero, suc, _≤_, _<_}
 use native.Mathlib.Omega.{arith}
-use native.Mathlib.Decide.{decLe}
 use lib.Dec.{eqb, ltb, leb}
 use lib.ListN.{length, getD, drop}
 use borrow.Author.Tests.{eqb-true, eq-eqb, ltb-true, lt-ltb, leb-true}
-use Rattle.semantics.specs.Grade.{Op, M}
-use Rattle.semantics.specs.Page.{Literal, positive, negative, conditionOf, Line, fact, rule, query, Page}
+use Rattle.semantics.specs.Page.{Literal, positive, negative, conditionOf, Line, fact, Page}
 use Rattle.semantics.specs.Area.{usedOf, areaOf}
 use Rattle.semantics.specs.ReadPage.{readPage, readOf}
 use Rattle.semantics.specs.Fields.{numberWithin, numberText}
 use Rattle.semantics.specs.Written.{textOf}
-use Rattle.semantics.specs.SmallPages.{SmallLine, smallFact, smallRule, SmallLines, SmallPage, lessOr, bytesBefore, earlier, Among, InOrder, AllSmallPages, numbersBelow, factsOn, ruleWith, rulesOn, smallLines, oneOf, twoOf, pageWith, smallPagesOf, smallPages, smallPage, smallText}
-use Rattle.semantics.proofs.Proper.{LiteralsBelow, InRange, AllInRange, Proper}
+use Rattle.semantics.specs.SmallPages.{SmallLine, smallFact, smallRule, SmallLines, SmallPage, lessOr, bytesBefore, earlier, StandsIn, InOrder, AllSmallPages, numbersBelow, factsOn, ruleWith, rulesOn, smallLines, oneOf, twoOf, pageWith, smallPagesOf, smallPages, smallPage, smallText}
+use Rattle.semantics.proofs.Proper.{InRange, AllInRange, Proper}
 use Rattle.semantics.proofs.WrittenPages.{written-read}
-use Rattle.semantics.proofs.Listing.{among-left, among-right, among-either, among-map, among-image, among-flat, among-part, among-below, below-among, among-at, place-of}
+use Rattle.semantics.proofs.Listing.{stands-left, stands-right, stands-either, stands-map, stands-image, stands-flat, stands-part, stands-below, below-stands, stands-at, place-of}
 
 -- The order: no page comes before itself, and it is transitive.
 less-cases : (x y : ℕ) (r : Bool) → lessOr x y r ≡ true → (x < y) ⊎ ((x ≡ y) × (r ≡ true))
@@ -42,10 +39,10 @@ less-trans x y z r s t f p q =
     elim (less-cases x y r p) [
       | inl a ↦ elim (less-cases y z s q) [ inl b ↦ less-first x z t (omega arith) | inr b ↦ less-first x z t (omega (arith, b .0)) ]
       | inr a ↦
-        elim (less-cases y z s q) [
-          | inl b ↦ less-first x z t (omega (arith, a .0))
-          | inr b ↦ less-same x z t (omega (arith, a .0, b .0)) (f (a .1) (b .1))
-        ]
+          elim (less-cases y z s q) [
+            | inl b ↦ less-first x z t (omega (arith, a .0))
+            | inr b ↦ less-same x z t (omega (arith, a .0, b .0)) (f (a .1) (b .1))
+          ]
     ]
 
 less-not : (x : ℕ) (r : Bool) → (r ≡ true → ⊥) → lessOr x x r ≡ true → ⊥
@@ -74,7 +71,7 @@ unfolding earlier
 earlier-not p h = less-not (p .conditions) _ (less-not (length (p .lines)) _ (bytes-not (textOf p))) h
 
 -- There is one list.
-one-order : (ps qs : List Page) → InOrder ps → InOrder qs → ((r : Page) → Among r ps → Among r qs) → ((r : Page) → Among r qs → Among r ps) → ps ≡ qs
+one-order : (ps qs : List Page) → InOrder ps → InOrder qs → ((r : Page) → StandsIn r ps → StandsIn r qs) → ((r : Page) → StandsIn r qs → StandsIn r ps) → ps ≡ qs
 one-order [] [] a b f g = refl
 one-order [] (q ∷ qs) a b f g = absurd (g q (inl refl))
 one-order (p ∷ ps) [] a b f g = absurd (f p (inl refl))
@@ -87,14 +84,14 @@ one-order (p ∷ ps) (q ∷ qs) a b f g = ap₂ {C = List Page} (λ x xs. x ∷ 
           | inr h ↦ elim (g q (inl refl)) [ inl e ↦ sym e | inr k ↦ absurd (earlier-not p (earlier-trans p q p (a .0 q k) (b .0 p h))) ]
         ]
 
-    tail : (r : Page) → Among r ps → Among r qs
+    tail : (r : Page) → StandsIn r ps → StandsIn r qs
     tail r h =
         elim (f r (inr h)) [
           | inl e ↦ absurd (earlier-not p (subst (λ (x : Page). earlier p x ≡ true) (e ∙ sym heads) (a .0 r h)))
           | inr k ↦ k
         ]
 
-    back : (r : Page) → Among r qs → Among r ps
+    back : (r : Page) → StandsIn r qs → StandsIn r ps
     back r h =
         elim (g r (inr h)) [
           | inl e ↦ absurd (earlier-not q (subst (λ (x : Page). earlier q x ≡ true) (e ∙ heads) (b .0 r h)))
@@ -105,107 +102,107 @@ pub small-pages-one : (ps qs : List Page) → AllSmallPages ps → AllSmallPages
 small-pages-one ps qs a b = one-order ps qs (a .order) (b .order) (λ r h. b .exactly r .1 (a .exactly r .0 h)) (λ r h. a .exactly r .1 (b .exactly r .0 h))
 
 -- The lines that a small page may have.
-fact-among : (c l h : ℕ) → l ≤ h → h ≤ 1 → Among (fact c l h) (factsOn c)
-fact-among c zero zero i j = inl refl
-fact-among c zero (suc zero) i j = inr (inl refl)
-fact-among c zero (suc (suc h)) i j = absurd (omega arith)
-fact-among c (suc l) zero i j = absurd (omega arith)
-fact-among c (suc zero) (suc zero) i j = inr (inr (inl refl))
-fact-among c (suc (suc l)) (suc zero) i j = absurd (omega arith)
-fact-among c (suc l) (suc (suc h)) i j = absurd (omega arith)
+fact-stands : (c l h : ℕ) → l ≤ h → h ≤ 1 → StandsIn (fact c l h) (factsOn c)
+fact-stands c zero zero i j = inl refl
+fact-stands c zero (suc zero) i j = inr (inl refl)
+fact-stands c zero (suc (suc h)) i j = absurd (omega arith)
+fact-stands c (suc l) zero i j = absurd (omega arith)
+fact-stands c (suc zero) (suc zero) i j = inr (inr (inl refl))
+fact-stands c (suc (suc l)) (suc zero) i j = absurd (omega arith)
+fact-stands c (suc l) (suc (suc h)) i j = absurd (omega arith)
 
-literal-among : (n : ℕ) (l : Literal) → conditionOf l < n → Among l (map negative (numbersBelow n) ++ map positive (numbersBelow n))
-literal-among n (negative d) h = among-left (negative d) (map negative (numbersBelow n)) (map positive (numbersBelow n)) (among-map negative d (numbersBelow n) (among-below n d h))
-literal-among n (positive d) h = among-right (positive d) (map negative (numbersBelow n)) (map positive (numbersBelow n)) (among-map positive d (numbersBelow n) (among-below n d h))
+literal-stands : (n : ℕ) (l : Literal) → conditionOf l < n → StandsIn l (map negative (numbersBelow n) ++ map positive (numbersBelow n))
+literal-stands n (negative d) h = stands-left (negative d) (map negative (numbersBelow n)) (map positive (numbersBelow n)) (stands-map negative d (numbersBelow n) (stands-below n d h))
+literal-stands n (positive d) h = stands-right (positive d) (map negative (numbersBelow n)) (map positive (numbersBelow n)) (stands-map positive d (numbersBelow n) (stands-below n d h))
 
-line-among : (n : ℕ) {line : Line} → SmallLine n line → Among line (smallLines n)
+line-stands : (n : ℕ) {line : Line} → SmallLine n line → StandsIn line (smallLines n)
 unfolding smallLines
-line-among n (smallFact {c} {l} {h} i j k) =
-    among-left (fact c l h) (flatMap factsOn (numbersBelow n)) (flatMap (rulesOn n) (numbersBelow n))
-    (among-flat factsOn c (fact c l h) (numbersBelow n) (among-below n c i) (fact-among c l h j k))
-line-among n (smallRule {c} {l} i j) =
-    among-right (ruleWith c l) (flatMap factsOn (numbersBelow n)) (flatMap (rulesOn n) (numbersBelow n))
-    (among-flat (rulesOn n) c (ruleWith c l) (numbersBelow n) (among-below n c i)
-    (among-map (ruleWith c) l (map negative (numbersBelow n) ++ map positive (numbersBelow n)) (literal-among n l j)))
+line-stands n (smallFact {c} {l} {h} i j k) =
+    stands-left (fact c l h) (flatMap factsOn (numbersBelow n)) (flatMap (rulesOn n) (numbersBelow n))
+    (stands-flat factsOn c (fact c l h) (numbersBelow n) (stands-below n c i) (fact-stands c l h j k))
+line-stands n (smallRule {c} {l} i j) =
+    stands-right (ruleWith c l) (flatMap factsOn (numbersBelow n)) (flatMap (rulesOn n) (numbersBelow n))
+    (stands-flat (rulesOn n) c (ruleWith c l) (numbersBelow n) (stands-below n c i)
+    (stands-map (ruleWith c) l (map negative (numbersBelow n) ++ map positive (numbersBelow n)) (literal-stands n l j)))
 
-fact-small : (n c : ℕ) → c < n → (line : Line) → Among line (factsOn c) → SmallLine n line
+fact-small : (n c : ℕ) → c < n → (line : Line) → StandsIn line (factsOn c) → SmallLine n line
 fact-small n c i line (inl e) = subst (SmallLine n) (sym e) (smallFact i (omega arith) (omega arith))
 fact-small n c i line (inr (inl e)) = subst (SmallLine n) (sym e) (smallFact i (omega arith) (omega arith))
 fact-small n c i line (inr (inr (inl e))) = subst (SmallLine n) (sym e) (smallFact i (omega arith) (omega arith))
 fact-small n c i line (inr (inr (inr h))) = absurd h
 
-literal-below : (n : ℕ) (l : Literal) → Among l (map negative (numbersBelow n) ++ map positive (numbersBelow n)) → conditionOf l < n
+literal-below : (n : ℕ) (l : Literal) → StandsIn l (map negative (numbersBelow n) ++ map positive (numbersBelow n)) → conditionOf l < n
 literal-below n l h =
-    elim (among-either l (map negative (numbersBelow n)) (map positive (numbersBelow n)) h) [
-      | inl k ↦ let w = among-image negative l (numbersBelow n) k in omega (arith, ap conditionOf (w .2), below-among n (w .0) (w .1))
-      | inr k ↦ let w = among-image positive l (numbersBelow n) k in omega (arith, ap conditionOf (w .2), below-among n (w .0) (w .1))
+    elim (stands-either l (map negative (numbersBelow n)) (map positive (numbersBelow n)) h) [
+      | inl k ↦ let w = stands-image negative l (numbersBelow n) k in omega (arith, ap conditionOf (w .2), below-stands n (w .0) (w .1))
+      | inr k ↦ let w = stands-image positive l (numbersBelow n) k in omega (arith, ap conditionOf (w .2), below-stands n (w .0) (w .1))
     ]
 
-line-small : (n : ℕ) (line : Line) → Among line (smallLines n) → SmallLine n line
+line-small : (n : ℕ) (line : Line) → StandsIn line (smallLines n) → SmallLine n line
 unfolding smallLines
 line-small n line h =
-    elim (among-either line (flatMap factsOn (numbersBelow n)) (flatMap (rulesOn n) (numbersBelow n)) h) [
-      | inl k ↦ let w = among-part factsOn line (numbersBelow n) k in fact-small n (w .0) (below-among n (w .0) (w .1)) line (w .2)
+    elim (stands-either line (flatMap factsOn (numbersBelow n)) (flatMap (rulesOn n) (numbersBelow n)) h) [
+      | inl k ↦ let w = stands-part factsOn line (numbersBelow n) k in fact-small n (w .0) (below-stands n (w .0) (w .1)) line (w .2)
       | inr k ↦
-        let w = among-part (rulesOn n) line (numbersBelow n) k in
-        let v = among-image (ruleWith (w .0)) line (map negative (numbersBelow n) ++ map positive (numbersBelow n)) (w .2) in
-        subst (SmallLine n) (sym (v .2)) (smallRule (below-among n (w .0) (w .1)) (literal-below n (v .0) (v .1)))
+          let w = stands-part (rulesOn n) line (numbersBelow n) k in
+          let v = stands-image (ruleWith (w .0)) line (map negative (numbersBelow n) ++ map positive (numbersBelow n)) (w .2) in
+          subst (SmallLine n) (sym (v .2)) (smallRule (below-stands n (w .0) (w .1)) (literal-below n (v .0) (v .1)))
     ]
 
 -- The pages of n conditions.
-lines-among : (n : ℕ) (ls : List Line) → length ls ≤ 2 → SmallLines n ls → Among ls (([] ∷ oneOf (smallLines n)) ++ twoOf (smallLines n))
-lines-among n [] s h = inl refl
-lines-among n (l ∷ []) s h = inr (among-left (l ∷ []) (oneOf (smallLines n)) (twoOf (smallLines n)) (among-map (λ l. l ∷ []) l (smallLines n) (line-among n (h .0))))
-lines-among n (l ∷ m ∷ []) s h =
-    inr (among-right (l ∷ m ∷ []) (oneOf (smallLines n)) (twoOf (smallLines n))
-    (among-flat (λ l. map (λ m. l ∷ m ∷ []) (smallLines n)) l (l ∷ m ∷ []) (smallLines n) (line-among n (h .0))
-    (among-map (λ m. l ∷ m ∷ []) m (smallLines n) (line-among n (h .1 .0)))))
-lines-among n (l ∷ m ∷ k ∷ ls) s h = absurd (omega arith)
+lines-stands : (n : ℕ) (ls : List Line) → length ls ≤ 2 → SmallLines n ls → StandsIn ls (([] ∷ oneOf (smallLines n)) ++ twoOf (smallLines n))
+lines-stands n [] s h = inl refl
+lines-stands n (l ∷ []) s h = inr (stands-left (l ∷ []) (oneOf (smallLines n)) (twoOf (smallLines n)) (stands-map (λ l. l ∷ []) l (smallLines n) (line-stands n (h .0))))
+lines-stands n (l ∷ m ∷ []) s h =
+    inr (stands-right (l ∷ m ∷ []) (oneOf (smallLines n)) (twoOf (smallLines n))
+    (stands-flat (λ l. map (λ m. l ∷ m ∷ []) (smallLines n)) l (l ∷ m ∷ []) (smallLines n) (line-stands n (h .0))
+    (stands-map (λ m. l ∷ m ∷ []) m (smallLines n) (line-stands n (h .1 .0)))))
+lines-stands n (l ∷ m ∷ k ∷ ls) s h = absurd (omega arith)
 
 abbrev FewSmall : ℕ → List Line → Type 0
 FewSmall n ls = (length ls ≤ 2) × SmallLines n ls
 
-lines-small : (n : ℕ) (ls : List Line) → Among ls (([] ∷ oneOf (smallLines n)) ++ twoOf (smallLines n)) → FewSmall n ls
+lines-small : (n : ℕ) (ls : List Line) → StandsIn ls (([] ∷ oneOf (smallLines n)) ++ twoOf (smallLines n)) → FewSmall n ls
 lines-small n ls (inl e) = subst (FewSmall n) (sym e) (omega arith, tt)
 lines-small n ls (inr h) =
-    elim (among-either ls (oneOf (smallLines n)) (twoOf (smallLines n)) h) [
+    elim (stands-either ls (oneOf (smallLines n)) (twoOf (smallLines n)) h) [
       | inl k ↦
-        let w = among-image (λ l. l ∷ []) ls (smallLines n) k in
-        subst (FewSmall n) (sym (w .2)) (omega arith, (line-small n (w .0) (w .1), tt))
+          let w = stands-image (λ l. l ∷ []) ls (smallLines n) k in
+          subst (FewSmall n) (sym (w .2)) (omega arith, (line-small n (w .0) (w .1), tt))
       | inr k ↦
-        let w = among-part (λ l. map (λ m. l ∷ m ∷ []) (smallLines n)) ls (smallLines n) k in
-        let v = among-image (λ m. w .0 ∷ m ∷ []) ls (smallLines n) (w .2) in
-        subst (FewSmall n) (sym (v .2)) (omega arith, (line-small n (w .0) (w .1), (line-small n (v .0) (v .1), tt)))
+          let w = stands-part (λ l. map (λ m. l ∷ m ∷ []) (smallLines n)) ls (smallLines n) k in
+          let v = stands-image (λ m. w .0 ∷ m ∷ []) ls (smallLines n) (w .2) in
+          subst (FewSmall n) (sym (v .2)) (omega arith, (line-small n (w .0) (w .1), (line-small n (v .0) (v .1), tt)))
     ]
 
-pages-among : (n : ℕ) (ls : List Line) → length ls ≤ 2 → SmallLines n ls → Among (pageWith n ls) (smallPagesOf n)
+pages-stands : (n : ℕ) (ls : List Line) → length ls ≤ 2 → SmallLines n ls → StandsIn (pageWith n ls) (smallPagesOf n)
 unfolding smallPagesOf
-pages-among n ls s h = among-map (pageWith n) ls (([] ∷ oneOf (smallLines n)) ++ twoOf (smallLines n)) (lines-among n ls s h)
+pages-stands n ls s h = stands-map (pageWith n) ls (([] ∷ oneOf (smallLines n)) ++ twoOf (smallLines n)) (lines-stands n ls s h)
 
-pages-small : (n : ℕ) → 1 ≤ n → n ≤ 2 → (p : Page) → Among p (smallPagesOf n) → SmallPage p
+pages-small : (n : ℕ) → 1 ≤ n → n ≤ 2 → (p : Page) → StandsIn p (smallPagesOf n) → SmallPage p
 unfolding smallPagesOf
 pages-small n i j p h =
-    let w = among-image (pageWith n) p (([] ∷ oneOf (smallLines n)) ++ twoOf (smallLines n)) h in
+    let w = stands-image (pageWith n) p (([] ∷ oneOf (smallLines n)) ++ twoOf (smallLines n)) h in
     let v = lines-small n (w .0) (w .1) in
     subst SmallPage (sym (w .2)) (record { top-is = refl; conditions-least = i; conditions-most = j; few-lines = v .0; each = v .1 })
 
-among-small : (p : Page) → SmallPage p → Among p smallPages
+stands-small : (p : Page) → SmallPage p → StandsIn p smallPages
 unfolding smallPages
-among-small p w = go (p .conditions) refl
+stands-small p w = go (p .conditions) refl
   where
-    is : (n : ℕ) → p .conditions ≡ n → Among (pageWith n (p .lines)) smallPages → Among p smallPages
-    is n e h = subst (λ (q : Page). Among q smallPages) (λ i. record { top = sym (w .top-is) i; conditions = sym e i; lines = p .lines }) h
+    is : (n : ℕ) → p .conditions ≡ n → StandsIn (pageWith n (p .lines)) smallPages → StandsIn p smallPages
+    is n e h = subst (λ (q : Page). StandsIn q smallPages) (λ i. record { top = sym (w .top-is) i; conditions = sym e i; lines = p .lines }) h
 
-    go : (n : ℕ) → p .conditions ≡ n → Among p smallPages
+    go : (n : ℕ) → p .conditions ≡ n → StandsIn p smallPages
     go zero e = absurd (omega (arith, w .conditions-least))
-    go (suc zero) e = is 1 e (among-left (pageWith 1 (p .lines)) (smallPagesOf 1) (smallPagesOf 2) (pages-among 1 (p .lines) (w .few-lines) (subst (λ (n : ℕ). SmallLines n (p .lines)) e (w .each))))
-    go (suc (suc zero)) e = is 2 e (among-right (pageWith 2 (p .lines)) (smallPagesOf 1) (smallPagesOf 2) (pages-among 2 (p .lines) (w .few-lines) (subst (λ (n : ℕ). SmallLines n (p .lines)) e (w .each))))
+    go (suc zero) e = is 1 e (stands-left (pageWith 1 (p .lines)) (smallPagesOf 1) (smallPagesOf 2) (pages-stands 1 (p .lines) (w .few-lines) (subst (λ (n : ℕ). SmallLines n (p .lines)) e (w .each))))
+    go (suc (suc zero)) e = is 2 e (stands-right (pageWith 2 (p .lines)) (smallPagesOf 1) (smallPagesOf 2) (pages-stands 2 (p .lines) (w .few-lines) (subst (λ (n : ℕ). SmallLines n (p .lines)) e (w .each))))
     go (suc (suc (suc n))) e = absurd (omega (arith, w .conditions-most))
 
-small-among : (p : Page) → Among p smallPages → SmallPage p
+small-stands : (p : Page) → StandsIn p smallPages → SmallPage p
 unfolding smallPages
-small-among p h =
-    elim (among-either p (smallPagesOf 1) (smallPagesOf 2) h) [
+small-stands p h =
+    elim (stands-either p (smallPagesOf 1) (smallPagesOf 2) h) [
       | inl k ↦ pages-small 1 (omega arith) (omega arith) p k
       | inr k ↦ pages-small 2 (omega arith) (omega arith) p k
     ]
@@ -228,7 +225,7 @@ climbs-order (p ∷ q ∷ ps) e = go (climbs-order (q ∷ ps) (both (earlier p q
     go : InOrder (q ∷ ps) → InOrder (p ∷ q ∷ ps)
     go w = (behind, w)
       where
-        behind : (r : Page) → Among r (q ∷ ps) → earlier p r ≡ true
+        behind : (r : Page) → StandsIn r (q ∷ ps) → earlier p r ≡ true
         behind r (inl k) = subst (λ (x : Page). earlier p x ≡ true) (sym k) (both (earlier p q) (climbs (q ∷ ps)) e .0)
         behind r (inr k) = earlier-trans p q r (both (earlier p q) (climbs (q ∷ ps)) e .0) (w .0 r k)
 
@@ -238,7 +235,7 @@ small-climbs = refl
 
 -- all small pages, and nothing else, in their order
 pub small-pages : AllSmallPages smallPages
-small-pages = record { exactly = λ p. (small-among p, among-small p); order = climbs-order smallPages small-climbs }
+small-pages = record { exactly = λ p. (small-stands p, stands-small p); order = climbs-order smallPages small-climbs }
 
 -- "as numbers 0 to 241"
 pub small-count : length smallPages ≡ 242
@@ -249,14 +246,14 @@ small-count = refl
 at-order : (d : Page) (ps : List Page) → InOrder ps → (j k : ℕ) → j < k → k < length ps → earlier (getD ps j d) (getD ps k d) ≡ true
 at-order d [] w j k h i = absurd (omega arith)
 at-order d (p ∷ ps) w j zero h i = absurd (omega arith)
-at-order d (p ∷ ps) w zero (suc k) h i = w .0 (getD ps k d) (among-at d ps k (omega arith))
+at-order d (p ∷ ps) w zero (suc k) h i = w .0 (getD ps k d) (stands-at d ps k (omega arith))
 at-order d (p ∷ ps) w (suc j) (suc k) h i = at-order d ps (w .1) j k (omega arith) (omega arith)
 
 pub small-earlier : (j k : ℕ) → j < k → k < 242 → earlier (smallPage j) (smallPage k) ≡ true
 small-earlier j k h i = at-order (pageWith 1 []) smallPages (small-pages .order) j k h (omega (arith, small-count))
 
 pub small-is : (k : ℕ) → k < 242 → SmallPage (smallPage k)
-small-is k h = small-pages .exactly (smallPage k) .0 (among-at (pageWith 1 []) smallPages k (omega (arith, small-count)))
+small-is k h = small-pages .exactly (smallPage k) .0 (stands-at (pageWith 1 []) smallPages k (omega (arith, small-count)))
 
 -- "Each page stands in the list exactly once": it has one number
 pub record Numbered (p : Page) : Type 0 where

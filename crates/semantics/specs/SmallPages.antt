@@ -44,19 +44,19 @@ bytesBefore (x ∷ s) (y ∷ t) = lessOr x y (bytesBefore s t)
 unfoldable pub earlier : Page → Page → Bool
 earlier p q = lessOr (p .conditions) (q .conditions) (lessOr (length (p .lines)) (length (q .lines)) (bytesBefore (textOf p) (textOf q)))
 
-abbrev pub Among : {A : Type 0} → A → List A → Type 0
-Among x [] = ⊥
-Among x (y ∷ ys) = (x ≡ y) ⊎ Among x ys
+abbrev pub StandsIn : {A : Type 0} → A → List A → Type 0
+StandsIn x [] = ⊥
+StandsIn x (y ∷ ys) = (x ≡ y) ⊎ StandsIn x ys
 
 -- each page comes before all that stand behind it
 abbrev pub InOrder : List Page → Type 0
 InOrder [] = Unit {0}
-InOrder (p ∷ ps) = ((q : Page) → Among q ps → earlier p q ≡ true) × InOrder ps
+InOrder (p ∷ ps) = ((q : Page) → StandsIn q ps → earlier p q ≡ true) × InOrder ps
 
 -- the list of all small pages, in their order. There is exactly one: `small-pages`, `small-pages-one`. Each page stands in it once:
 -- `small-once`.
 pub record AllSmallPages (ps : List Page) : Type 0 where
-  pub exactly : (p : Page) → Among p ps ↔ SmallPage p
+  pub exactly : (p : Page) → StandsIn p ps ↔ SmallPage p
   pub order : InOrder ps
 
 -- That list, written out.

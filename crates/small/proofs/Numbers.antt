@@ -1,13 +1,13 @@
 -- The page with a number, by arithmetic, is the one at that place of the list. Assumes nothing.
 use mathlib.Core.Path.{_≡_, refl, sym, _∙_, ap}
 use mathlib.Core.List.{List, [], _∷_, _++_, map, flatMap}
-use Prim.Native.Nat.{ℕ, zero, suc, _+_, _<_, _≤_}
+use Prim.Native.Nat.{ℕ, zero, suc, _+_, _<_}
 use native.Mathlib.Omega.{arith}
 use native.Mathlib.Decide.{decLe}
 use lib.ListN.{length, getD, length-append, List·getD-map}
 use Rattle.semantics.specs.Page.{Page}
 use Rattle.semantics.specs.SmallPages.{numbersBelow, smallLines, smallPagesOf, smallPages, smallPage}
-use Rattle.small.specs.Numbers.{pageAt}
+use Rattle.small.specs.Numbers.{pageNumbered}
 
 below-length : (n : ℕ) → length (numbersBelow n) ≡ n
 below-length zero = refl
@@ -33,9 +33,9 @@ below-at (suc n) k h =
       | no l ↦ let e : k ≡ n = omega arith in at-behind (numbersBelow n) n k (omega (arith, below-length n)) ∙ sym e
     ]
 
-listed : map pageAt (numbersBelow 242) ≡ smallPages
+listed : map pageNumbered (numbersBelow 242) ≡ smallPages
 unfolding smallPages smallPagesOf smallLines flatMap
 listed = refl
 
-pub page-at : (k : ℕ) → k < 242 → pageAt k ≡ smallPage k
-page-at k h = sym (ap (λ (ps : List Page). getD ps k (pageAt 0)) (sym listed) ∙ List·getD-map pageAt (numbersBelow 242) k 0 ∙ ap pageAt (below-at 242 k h))
+pub page-at : (k : ℕ) → k < 242 → pageNumbered k ≡ smallPage k
+page-at k h = sym (ap (λ (ps : List Page). getD ps k (pageNumbered 0)) (sym listed) ∙ List·getD-map pageNumbered (numbersBelow 242) k 0 ∙ ap pageNumbered (below-at 242 k h))

@@ -1,22 +1,21 @@
 -- Texts of lines and pages, part by part, and the outcome for a number and a buffer. Assumes nothing.
-use mathlib.Core.Path.{_≡_, refl, sym, _∙_, ap}
-use mathlib.Core.Bool.{false}
+use mathlib.Core.Path.{_≡_, sym, ap}
 use mathlib.Core.List.{List, [], _∷_, _++_, append-assoc}
 use Prim.Native.Nat.{ℕ, zero, suc, _+_, _*_, _-_, _/_, _%_, _≤_, _<_}
 use native.Mathlib.Omega.{arith}
 use native.Mathlib.Decide.{decLe}
-use lib.ListN.{length, take, drop, length-append}
+use lib.ListN.{length, take, drop}
 use lib.Seq.{take-at}
 use borrow.Author.Tests.{lt-ltb, le-ltb}
 use Rattle.semantics.specs.Grade.{M}
-use Rattle.semantics.specs.Page.{Literal, positive, negative, Line, fact, rule, Page}
-use Rattle.semantics.specs.Fields.{numberText, joined, endedLines}
+use Rattle.semantics.specs.Page.{positive, negative, Line, fact, rule}
+use Rattle.semantics.specs.Fields.{joined, endedLines}
 use Rattle.semantics.specs.Written.{headFields, lineFields, lineTexts, textOf}
-use Rattle.semantics.specs.SmallPages.{pageWith, smallPage, smallText, refusedSmall, wroteSmall, smallOf}
+use Rattle.semantics.specs.SmallPages.{pageWith, smallText, refusedSmall, wroteSmall, smallOf}
 use Rattle.semantics.proofs.TextNumbers.{number-one}
 use Rattle.print.specs.Wrote.{Wrote}
-use Rattle.print.proofs.Writing.{wrote-then, wrote-as, wrote-front}
-use Rattle.small.specs.Numbers.{kinds, factAt, literalAt, ruleAt, lineAt, pairAt, linesAt, pageAt}
+use Rattle.print.proofs.Writing.{wrote-as, wrote-front}
+use Rattle.small.specs.Numbers.{kinds, factRanked, ruleRanked, lineRanked, linesNumbered, pageNumbered}
 use Rattle.small.proofs.Numbers.{page-at}
 
 -- The text of a page's lines.
@@ -43,22 +42,22 @@ rule-digits (suc (suc zero)) r a b h = (omega arith, omega arith)
 rule-digits (suc (suc (suc n))) r a b h = absurd (omega arith)
 
 pub rule-negative : (n r : ℕ) → r / (2 * n) < 10 → r % n < 10 → r % (2 * n) < n
-    → 82 ∷ 44 ∷ (48 + r / (2 * n)) ∷ 44 ∷ 49 ∷ 44 ∷ 77 ∷ 44 ∷ 33 ∷ (48 + r % n) ∷ 10 ∷ [] ≡ linesText (ruleAt n r ∷ [])
+    → 82 ∷ 44 ∷ (48 + r / (2 * n)) ∷ 44 ∷ 49 ∷ 44 ∷ 77 ∷ 44 ∷ 33 ∷ (48 + r % n) ∷ 10 ∷ [] ≡ linesText (ruleRanked n r ∷ [])
 rule-negative n r i j h = rw (lt-ltb (r % (2 * n)) n h) (sym (negative-text (r / (2 * n)) (r % n) i j))
 
 pub rule-positive : (n r : ℕ) → r / (2 * n) < 10 → r % n < 10 → n ≤ r % (2 * n)
-    → 82 ∷ 44 ∷ (48 + r / (2 * n)) ∷ 44 ∷ 49 ∷ 44 ∷ 77 ∷ 44 ∷ (48 + r % n) ∷ 10 ∷ [] ≡ linesText (ruleAt n r ∷ [])
+    → 82 ∷ 44 ∷ (48 + r / (2 * n)) ∷ 44 ∷ 49 ∷ 44 ∷ 77 ∷ 44 ∷ (48 + r % n) ∷ 10 ∷ [] ≡ linesText (ruleRanked n r ∷ [])
 rule-positive n r i j h = rw (le-ltb (r % (2 * n)) n h) (sym (positive-text (r / (2 * n)) (r % n) i j))
 
 -- The line with a rank.
-pub line-fact : (n r : ℕ) → r < 3 * n → linesText (factAt r ∷ []) ≡ linesText (lineAt n r ∷ [])
+pub line-fact : (n r : ℕ) → r < 3 * n → linesText (factRanked r ∷ []) ≡ linesText (lineRanked n r ∷ [])
 line-fact n r h = rw (lt-ltb r (3 * n) h)
 
-pub line-rule : (n r : ℕ) → 3 * n ≤ r → linesText (ruleAt n (r - 3 * n) ∷ []) ≡ linesText (lineAt n r ∷ [])
+pub line-rule : (n r : ℕ) → 3 * n ≤ r → linesText (ruleRanked n (r - 3 * n) ∷ []) ≡ linesText (lineRanked n r ∷ [])
 line-rule n r h = rw (le-ltb r (3 * n) h)
 
 -- it has at most 11 bytes
-rule-short : (n r : ℕ) → 1 ≤ n → n ≤ 2 → r < 2 * n * n → length (linesText (ruleAt n r ∷ [])) ≤ 11
+rule-short : (n r : ℕ) → 1 ≤ n → n ≤ 2 → r < 2 * n * n → length (linesText (ruleRanked n r ∷ [])) ≤ 11
 rule-short n r a b h =
     let w = rule-digits n r a b h in
     elim (decLe (suc (r % (2 * n))) n) [
@@ -66,7 +65,7 @@ rule-short n r a b h =
       | no k ↦ omega (arith, ap length (rule-positive n r (w .0) (w .1) (omega arith)))
     ]
 
-pub line-short : (n r : ℕ) → 1 ≤ n → n ≤ 2 → r < kinds n → length (linesText (lineAt n r ∷ [])) ≤ 11
+pub line-short : (n r : ℕ) → 1 ≤ n → n ≤ 2 → r < kinds n → length (linesText (lineRanked n r ∷ [])) ≤ 11
 line-short n r a b h =
     elim (decLe (suc r) (3 * n)) [
       | yes k ↦ omega (arith, ap length (line-fact n r k), ap length (fact-text (r / 3) (r % 3 / 2) ((r % 3 + 1) / 2) (omega arith) (omega arith) (omega arith)))
@@ -87,10 +86,10 @@ pair-ranks (suc zero) k a b i j = (omega arith, omega arith)
 pair-ranks (suc (suc zero)) k a b i j = (omega arith, omega arith)
 pair-ranks (suc (suc (suc n))) k a b i j = absurd (omega arith)
 
-pub lines-none : (n k : ℕ) → k < 1 → [] ≡ linesText (linesAt n k)
+pub lines-none : (n k : ℕ) → k < 1 → [] ≡ linesText (linesNumbered n k)
 lines-none n k h = rw (lt-ltb k 1 h)
 
-pub lines-one : (n k : ℕ) → 1 ≤ k → k < 1 + kinds n → linesText (lineAt n (k - 1) ∷ []) ≡ linesText (linesAt n k)
+pub lines-one : (n k : ℕ) → 1 ≤ k → k < 1 + kinds n → linesText (lineRanked n (k - 1) ∷ []) ≡ linesText (linesNumbered n k)
 lines-one n k h i = rw (le-ltb k 1 h, lt-ltb k (1 + kinds n) i)
 
 -- a text with lines behind it
@@ -98,21 +97,21 @@ ended-then : (l : List ℕ) (ls : List (List ℕ)) → endedLines (l ∷ []) ++ 
 ended-then l ls = append-assoc l (10 ∷ []) (endedLines ls)
 
 pub lines-two : (n k : ℕ) → 1 ≤ k → 1 + kinds n ≤ k
-    → linesText (lineAt n ((k - 1 - kinds n) / kinds n) ∷ []) ++ linesText (lineAt n ((k - 1 - kinds n) % kinds n) ∷ []) ≡ linesText (linesAt n k)
+    → linesText (lineRanked n ((k - 1 - kinds n) / kinds n) ∷ []) ++ linesText (lineRanked n ((k - 1 - kinds n) % kinds n) ∷ []) ≡ linesText (linesNumbered n k)
 lines-two n k h i =
     rw (le-ltb k 1 h, le-ltb k (1 + kinds n) i)
-    (ended-then (joined (lineFields (lineAt n ((k - 1 - kinds n) / kinds n)))) (lineTexts (lineAt n ((k - 1 - kinds n) % kinds n) ∷ [])))
+    (ended-then (joined (lineFields (lineRanked n ((k - 1 - kinds n) / kinds n)))) (lineTexts (lineRanked n ((k - 1 - kinds n) % kinds n) ∷ [])))
 
 -- The page with a number.
 text-parts : (n : ℕ) (ls : List Line) → endedLines (joined (headFields 1 n) ∷ []) ++ linesText ls ≡ textOf (pageWith n ls)
 unfolding textOf
 text-parts n ls = ended-then (joined (headFields 1 n)) (lineTexts ls)
 
-pub page-of-one : (k : ℕ) → k < 31 → endedLines (joined (headFields 1 1) ∷ []) ++ linesText (linesAt 1 k) ≡ textOf (pageAt k)
-page-of-one k h = rw (lt-ltb k 31 h) (text-parts 1 (linesAt 1 k))
+pub page-of-one : (k : ℕ) → k < 31 → endedLines (joined (headFields 1 1) ∷ []) ++ linesText (linesNumbered 1 k) ≡ textOf (pageNumbered k)
+page-of-one k h = rw (lt-ltb k 31 h) (text-parts 1 (linesNumbered 1 k))
 
-pub page-of-two : (k : ℕ) → 31 ≤ k → endedLines (joined (headFields 1 2) ∷ []) ++ linesText (linesAt 2 (k - 31)) ≡ textOf (pageAt k)
-page-of-two k h = rw (le-ltb k 31 h) (text-parts 2 (linesAt 2 (k - 31)))
+pub page-of-two : (k : ℕ) → 31 ≤ k → endedLines (joined (headFields 1 2) ∷ []) ++ linesText (linesNumbered 2 (k - 31)) ≡ textOf (pageNumbered k)
+page-of-two k h = rw (le-ltb k 31 h) (text-parts 2 (linesNumbered 2 (k - 31)))
 
 -- The outcome.
 module _ (number : ℕ) (buffer : List ℕ) where
@@ -131,7 +130,7 @@ module _ (number : ℕ) (buffer : List ℕ) where
     small-wrote l = rw (le-ltb 241 number h, le-ltb (length buffer) (length (smallText number)) l)
 
 -- A text made in an array, and copied.
-module _ {space space′ : List ℕ} (number : ℕ) {n : ℕ} (h : number ≤ 241) (w : Wrote space 0 (textOf (pageAt number)) space′ n) where
+module _ {space space′ : List ℕ} (number : ℕ) {n : ℕ} (h : number ≤ 241) (w : Wrote space 0 (textOf (pageNumbered number)) space′ n) where
   made : Wrote space 0 (smallText number) space′ n
   made = wrote-as (ap textOf (page-at number (omega arith))) w
 

@@ -12,25 +12,25 @@ abbrev pub kinds : ℕ → ℕ
 kinds n = n * (3 + 2 * n)
 
 -- the fact with rank r; the rule with rank r on a page of n conditions; the line with rank r
-abbrev pub factAt : ℕ → Line
-factAt r = fact (r / 3) (r % 3 / 2) ((r % 3 + 1) / 2)
+abbrev pub factRanked : ℕ → Line
+factRanked r = fact (r / 3) (r % 3 / 2) ((r % 3 + 1) / 2)
 
-abbrev pub literalAt : (n r : ℕ) → Literal
-literalAt n r = cond (ltb (r % (2 * n)) n) (negative (r % n)) (positive (r % n))
+abbrev pub literalRanked : (n r : ℕ) → Literal
+literalRanked n r = cond (ltb (r % (2 * n)) n) (negative (r % n)) (positive (r % n))
 
-abbrev pub ruleAt : (n r : ℕ) → Line
-ruleAt n r = rule (r / (2 * n)) 1 M (literalAt n r ∷ [])
+abbrev pub ruleRanked : (n r : ℕ) → Line
+ruleRanked n r = rule (r / (2 * n)) 1 M (literalRanked n r ∷ [])
 
-abbrev pub lineAt : (n r : ℕ) → Line
-lineAt n r = cond (ltb r (3 * n)) (factAt r) (ruleAt n (r - 3 * n))
+abbrev pub lineRanked : (n r : ℕ) → Line
+lineRanked n r = cond (ltb r (3 * n)) (factRanked r) (ruleRanked n (r - 3 * n))
 
 -- no line; one; two
-abbrev pub pairAt : (n k : ℕ) → List Line
-pairAt n k = lineAt n (k / kinds n) ∷ lineAt n (k % kinds n) ∷ []
+abbrev pub pairNumbered : (n k : ℕ) → List Line
+pairNumbered n k = lineRanked n (k / kinds n) ∷ lineRanked n (k % kinds n) ∷ []
 
-abbrev pub linesAt : (n k : ℕ) → List Line
-linesAt n k = cond (ltb k 1) [] (cond (ltb k (1 + kinds n)) (lineAt n (k - 1) ∷ []) (pairAt n (k - 1 - kinds n)))
+abbrev pub linesNumbered : (n k : ℕ) → List Line
+linesNumbered n k = cond (ltb k 1) [] (cond (ltb k (1 + kinds n)) (lineRanked n (k - 1) ∷ []) (pairNumbered n (k - 1 - kinds n)))
 
 -- the page with number k: 31 pages of one condition, then those of two
-abbrev pub pageAt : ℕ → Page
-pageAt k = cond (ltb k 31) (pageWith 1 (linesAt 1 k)) (pageWith 2 (linesAt 2 (k - 31)))
+abbrev pub pageNumbered : ℕ → Page
+pageNumbered k = cond (ltb k 31) (pageWith 1 (linesNumbered 1 k)) (pageWith 2 (linesNumbered 2 (k - 31)))

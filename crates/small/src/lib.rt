@@ -8,7 +8,7 @@ ghost use Rattle.semantics.specs.Fields.{joined, endedLines};
 ghost use Rattle.semantics.specs.Written.{headFields, lineTexts, textOf};
 ghost use Rattle.semantics.specs.SmallPages.{smallOf};
 ghost use Rattle.print.specs.Wrote.{Wrote};
-ghost use Rattle.small.specs.Numbers.{kinds, factAt, ruleAt, lineAt, linesAt, pageAt};
+ghost use Rattle.small.specs.Numbers.{kinds, factRanked, ruleRanked, lineRanked, linesNumbered, pageNumbered};
 ghost use Rattle.small.specs.Answer.{answerOf};
 use print::put_all;
 
@@ -30,7 +30,7 @@ fn put_head(out: &mut [u8], n: u8) -> usize
 // The fact with rank r: three on each condition, by their ends.
 fn put_fact(out: &mut [u8], at: usize, r: u8) -> usize
     requires { ⌜ (at + 8 ≤ length (now out)) × (r < 6) ⌝ }
-    ensures { λ next. ⌜ Wrote (now (out .entry)) at (endedLines (lineTexts (factAt r ∷ []))) (now (out .exit)) next ⌝ }
+    ensures { λ next. ⌜ Wrote (now (out .entry)) at (endedLines (lineTexts (factRanked r ∷ []))) (now (out .exit)) next ⌝ }
 {
     let ends = r % 3;
     let bytes = [
@@ -49,7 +49,7 @@ fn put_fact(out: &mut [u8], at: usize, r: u8) -> usize
 // The rule with rank r on a page of n conditions: for each head the n negations, then the n conditions.
 fn put_rule(out: &mut [u8], at: usize, n: u8, r: u8) -> usize
     requires { ⌜ (at + 11 ≤ length (now out)) × (1 ≤ n) × (n ≤ 2) × (r < 2 * n * n) ⌝ }
-    ensures { λ next. ⌜ Wrote (now (out .entry)) at (endedLines (lineTexts (ruleAt n r ∷ []))) (now (out .exit)) next ⌝ }
+    ensures { λ next. ⌜ Wrote (now (out .entry)) at (endedLines (lineTexts (ruleRanked n r ∷ []))) (now (out .exit)) next ⌝ }
 {
     let head = r / (2 * n);
     let named = r % n;
@@ -87,7 +87,7 @@ fn put_rule(out: &mut [u8], at: usize, n: u8, r: u8) -> usize
 // The line with rank r on a page of n conditions: the facts, then the rules.
 fn put_line(out: &mut [u8], at: usize, n: u8, r: u8) -> usize
     requires { ⌜ (at + 11 ≤ length (now out)) × (1 ≤ n) × (n ≤ 2) × (r < kinds n) ⌝ }
-    ensures { λ next. ⌜ Wrote (now (out .entry)) at (endedLines (lineTexts (lineAt n r ∷ []))) (now (out .exit)) next ⌝ }
+    ensures { λ next. ⌜ Wrote (now (out .entry)) at (endedLines (lineTexts (lineRanked n r ∷ []))) (now (out .exit)) next ⌝ }
 {
     if r < 3 * n {
         return put_fact(out, at, r);
@@ -98,7 +98,7 @@ fn put_line(out: &mut [u8], at: usize, n: u8, r: u8) -> usize
 // The lines of the page with number k among those of n conditions: none, one, or two.
 fn put_lines(out: &mut [u8], at: usize, n: u8, k: u8) -> usize
     requires { ⌜ (at + 22 ≤ length (now out)) × (1 ≤ n) × (n ≤ 2) × (k < 1 + kinds n + kinds n * kinds n) ⌝ }
-    ensures { λ next. ⌜ Wrote (now (out .entry)) at (endedLines (lineTexts (linesAt n k))) (now (out .exit)) next ⌝ }
+    ensures { λ next. ⌜ Wrote (now (out .entry)) at (endedLines (lineTexts (linesNumbered n k))) (now (out .exit)) next ⌝ }
 {
     if k < 1 {
         return at;
@@ -115,7 +115,7 @@ fn put_lines(out: &mut [u8], at: usize, n: u8, k: u8) -> usize
 // The text of the page with a number.
 fn put_page(out: &mut [u8], number: u8) -> usize
     requires { ⌜ (28 ≤ length (now out)) × (number < 242) ⌝ }
-    ensures { λ r. ⌜ Wrote (now (out .entry)) 0 (textOf (pageAt number)) (now (out .exit)) r ⌝ }
+    ensures { λ r. ⌜ Wrote (now (out .entry)) 0 (textOf (pageNumbered number)) (now (out .exit)) r ⌝ }
 {
     if number < 31 {
         let at = put_head(out, 1);

@@ -1,7 +1,7 @@
 -- `small::put_lines` meets its contract: no line, one, or two. Assumes nothing.
 use native.Mathlib.Omega.{arith}
 use borrow.Author.Needs.{needs}
-use Prim.Native.Nat.{_-_, _/_, _%_}
+use Prim.Native.Nat.{_-_, _/_}
 use Rattle.print.proofs.Writing.{wrote-none, wrote-then, wrote-as}
 use Rattle.small.specs.Numbers.{kinds}
 use Rattle.small.proofs.Texts.{kinds-most, pair-ranks, line-short, lines-none, lines-one, lines-two}

@@ -3,7 +3,7 @@ use mathlib.Core.Path.{sym, ap, _∙_}
 use native.Mathlib.Omega.{arith}
 use lib.Seq.{length-take-le}
 use borrow.Author.Needs.{needs}
-use Rattle.semantics.specs.SmallPages.{SmallAnswer, wroteSmall, SmallOutcome}
+use Rattle.semantics.specs.SmallPages.{wroteSmall, SmallOutcome}
 use Rattle.small.proofs.Texts.{small-70, small-71, small-wrote, made-length, copied}
 use Rattle.small.proofs.small_page.Statement.{statement}
 use Rattle.small.proofs.small_page.Tie as tie
