@@ -139,7 +139,7 @@ fn every_function(_: &mut Trial, _: u64) -> Check {
     figure(
         "tests/c/every.c",
         lines(&ended),
-        vec!["99 passed, 0 failed".to_string()],
+        vec!["105 passed, 0 failed".to_string()],
     )?;
     figure("the exit status", ended.status, Some(0))?;
     let test = file("tests/c/every.c")?;
