@@ -14,13 +14,13 @@ cast-result c = search needs
 
 returns : tie.Need-returns
 returns c =
-    let e = ap answerOf (sym (c .before .before .answer .given .1)) ∙ c .before .before .before .before .small-page .ensures .0 in
-    (returned (c .minus .result) (c .minus .ok) ∙ c .minus .ensures ∙ ap smallCode e, c .before .before .before .before .small-page .ensures .1)
+    let e = ap answerOf (sym (c .before .before .answer .given .1)) ∙ c .before .before .before .before .before .before .small-page .ensures .0 in
+    (returned (c .minus .result) (c .minus .ok) ∙ c .minus .ensures ∙ ap smallCode e, c .before .before .before .before .before .before .small-page .ensures .1)
 
 returns-2 : tie.Need-returns-2
 returns-2 c =
-    let e = ap answerOf (sym (c .before .answer2 .given .1)) ∙ c .before .before .before .small-page .ensures .0 in
-    (toZ-pos w32 (cast-result c .sfits) ∙ ap smallCode e, c .before .before .before .small-page .ensures .1)
+    let e = ap answerOf (sym (c .before .answer2 .given .1)) ∙ c .before .before .before .before .before .small-page .ensures .0 in
+    (toZ-pos w32 (cast-result c .sfits) ∙ ap smallCode e, c .before .before .before .before .before .small-page .ensures .1)
 
 pub simjorad-small-page-spec : {M : Type 1} → statement M
 simjorad-small-page-spec =
