@@ -2908,7 +2908,16 @@ pub unsafe extern "C" fn simjorad_followers(
 /// The texts of the small pages, with the planted fault.
 fn small_texts() -> Vec<Vec<u8>> {
     let mut pages = small::pages().to_vec();
-    let two_ends = |line: &Line| matches!(line, Line::Fact { low: 0, high: 1, .. });
+    let two_ends = |line: &Line| {
+        matches!(
+            line,
+            Line::Fact {
+                low: 0,
+                high: 1,
+                ..
+            }
+        )
+    };
     if fault("facts_of_two_ends_left_out") {
         pages.retain(|page| !page.lines.iter().any(two_ends));
     }

@@ -93,7 +93,11 @@ fn rows(trial: &mut Trial, _: u64) -> Check {
             figure("a number over 241", got, Err(SMALL_NUMBER))?;
         }
     }
-    figure("an empty buffer", trial.small_page(0, &mut [])?, Err(BUFFER_SHORT))
+    figure(
+        "an empty buffer",
+        trial.small_page(0, &mut [])?,
+        Err(BUFFER_SHORT),
+    )
 }
 
 fn lengths(trial: &mut Trial, item: u64) -> Check {
