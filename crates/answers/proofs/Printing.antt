@@ -10,7 +10,7 @@ use lib.ListN.{length, getD, take, drop, length-append}
 use lib.Seq.{take-at}
 use borrow.Author.Tests.{le-leb, lt-leb}
 use Rattle.fixpoint.specs.Interval.{Interval, Within}
-use Rattle.semantics.specs.Area.{sound, pageOf, topOf, conditionsOf, countOf, usedOf, every, lineTests, lineAt}
+use Rattle.semantics.specs.Area.{sound, pageOf, topOf, conditionsOf, countOf, usedOf, every, lineTests, lineAt, firstLine}
 use Rattle.semantics.specs.Page.{Reading, K, W, Line, Page}
 use Rattle.semantics.specs.ReadPage.{pageRead, refusedPage, readPage, readOf}
 use Rattle.semantics.specs.Reading.{Reads}
@@ -106,7 +106,7 @@ pub record Printing (a out : List ℕ) (from line passed : ℕ) (out′ : List �
   pub whole : lines ++ linesLeft a line passed ≡ pageOf a .lines
   pub puts : PutLines (pageOf a) lines out from 0 out′ at count
 
-pub printing-first : (a out : List ℕ) (from : ℕ) → sound a ≡ true → from ≤ length out → {line passed : ℕ} → (line ≡ 4) × (passed ≡ 0) → Printing a out from line passed out from 0
+pub printing-first : (a out : List ℕ) (from : ℕ) → sound a ≡ true → from ≤ length out → {line passed : ℕ} → (line ≡ firstLine a) × (passed ≡ 0) → Printing a out from line passed out from 0
 unfolding queriesOf
 printing-first a out from e h q =
     rw (q .0, q .1) (record { scan = scanning-first a e; lines = []; size = refl; whole = lines-first a; puts = puts-none (pageOf a) [] refl out from 0 h })
