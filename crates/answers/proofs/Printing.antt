@@ -26,6 +26,7 @@ use Rattle.answers.specs.Asked.{readingOf}
 use Rattle.semantics.specs.Output.{Query, queriesOf, IsReading, topFields, answerFields, endFields, refusalFields, printed, answerLines, pageOutput, IsOutput, Prints}
 use Rattle.answers.specs.Printing.{PutLines, PutPage, PutOutput}
 use Rattle.semantics.proofs.Outputs.{printed-append, answers-append, queries-append, queries-most, answer-short, page-output, answers-exist, read-refused, read-accepted, page-accepted}
+use Rattle.semantics.proofs.UsedLength.{mostUsed}
 
 -- the Q line at a place, if there is one
 module _ (a : List ℕ) (at : ℕ) where
@@ -149,7 +150,7 @@ puts-page a {count = count} top lines end A h =
     (wrote-then (lines .wrote A h) (wrote-as (ap (λ (n : ℕ). printed (endFields n ∷ [])) e) end)))
 
 -- The output for a text, from what reading it answered.
-module _ (text area : List ℕ) (long : 12292 ≤ length area) {out out′ : List ℕ} {next : ℕ} where
+module _ (text area : List ℕ) (long : mostUsed ≤ length area) {out out′ : List ℕ} {next : ℕ} where
   pub puts-refusal : {number line place : ℕ} → refusedPage number line place ≡ readOf text area .answer
       → Wrote out 0 (printed (refusalFields number line ∷ [])) out′ next → PutOutput text out out′ next
   unfolding IsOutput

@@ -10,7 +10,7 @@ use lib.ListN.{length, drop, length-map}
 use borrow.Author.Tests.{eq-eqb, ne-eqb, eqb-true, eqb-false, le-leb, lt-leb, leb-false, ltb-true, ltb-false}
 use Rattle.fixpoint.specs.Sum.{bit}
 use Rattle.semantics.specs.Grade.{Op}
-use Rattle.semantics.specs.Page.{Literal, conditionOf, Line, fact, rule, query, default, defaults}
+use Rattle.semantics.specs.Page.{Literal, conditionOf, Line, fact, rule, default, defaults}
 use Rattle.semantics.specs.Area.{codeOf, lineCode}
 use Rattle.semantics.specs.Call.{cause, firstOf}
 use Rattle.semantics.specs.Text.{hasForm}
@@ -23,7 +23,7 @@ use Rattle.lines.specs.Lines.{farIn, Says, RuleSays, QuerySays, ParsedAs}
 use Rattle.bits.specs.Words.{has, Inserted, InsertedNew}
 use Rattle.reader.specs.declared.check.Fault.{Fault as Answer}
 use Rattle.reader.specs.declared.check.Fault.the-variants.{None, At}
-use Rattle.reader.specs.Checks.{faultOf, ruleFault, queryFault, defaultFault, DefaultAs, Seen, lineBy, faultIn, LineGood, LineAs, CheckedLine}
+use Rattle.reader.specs.Checks.{faultOf, ruleFault, queryFault, DefaultAs, Seen, lineBy, faultIn, LineAs, CheckedLine}
 use Rattle.lines.proofs.Forms.{query-size, form-size}
 
 -- the leftmost literal of a rule that is out of range, from the place j on, is the first that is

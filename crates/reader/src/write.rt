@@ -15,8 +15,8 @@ ghost use Rattle.fields.specs.Cursor.{InText, fieldsAt};
 ghost use Rattle.lines.specs.Lines.{PairLetter, PairThen};
 ghost use Rattle.reader.specs.Checks.{LinesFit, entriesOf};
 ghost use Rattle.reader.specs.Entries.{Formed, LineFits, LinePut, LiteralsPut};
-use bits::contains;
 use crate::check::head_length;
+use bits::contains;
 use fields::checked_literal;
 use fields::checked_number;
 use lines::op_kind;
@@ -46,7 +46,14 @@ fn put_defaults(area: &mut [u16], conditions: u16, unknown: &[u64])
 }
 
 // The head of a page area, where `unknown` are the conditions that are unknown by default; answers where the lines begin.
-pub fn put_head(area: &mut [u16], top: u16, conditions: u16, count: u16, used: u16, unknown: &[u64]) -> usize
+pub fn put_head(
+    area: &mut [u16],
+    top: u16,
+    conditions: u16,
+    count: u16,
+    used: u16,
+    unknown: &[u64],
+) -> usize
     requires { ⌜ (headLength conditions ≤ length (now area)) × (conditions ≤ 512) × (length (now unknown) ≡ 8) ⌝ }
     ensures head { λ _. ⌜ now (area .exit) ≡ sets (now (area .entry)) 0 (top ∷ conditions ∷ count ∷ used ∷ table conditions (λ c. bit (has (now (unknown .entry)) c))) ⌝ }
     ensures start { λ r. ⌜ r ≡ headLength conditions ⌝ }

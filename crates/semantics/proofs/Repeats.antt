@@ -1,11 +1,11 @@
 -- D lines: none is a second one for its condition exactly if no condition has two of them. Assumes nothing.
 use mathlib.Core.Path.{_≡_, refl, ap}
 use mathlib.Core.Bool.{Bool, true, false}
-use mathlib.Core.List.{List, [], _∷_}
+use mathlib.Core.List.{List, _∷_}
 use mathlib.Core.Option.{none}
 use Prim.Native.Nat.{ℕ, _+_, _≤_}
 use native.Mathlib.Omega.{arith}
-use lib.Dec.{eqb, leb}
+use lib.Dec.{eqb}
 use borrow.Author.Tests.{eqb-true, eq-eqb, leb-false, lt-leb}
 use Rattle.fixpoint.specs.Sum.{bit}
 use Rattle.semantics.specs.Call.{firstOf}
