@@ -64,6 +64,30 @@ areaNine = 10 ∷ 1 ∷ 1 ∷ 10 ∷ 0 ∷ 0 ∷ 1 ∷ 9 ∷ 1 ∷ 0 ∷ []
 unfoldable pub chain : List ℕ
 chain = 10 ∷ 3 ∷ 2 ∷ 17 ∷ 0 ∷ 0 ∷ 0 ∷ 0 ∷ 1 ∷ 10 ∷ 1 ∷ 2 ∷ 1 ∷ 1 ∷ 10 ∷ 1 ∷ 4 ∷ []
 
+-- `G,10,2 / D,0,U / R,1,10,M,0`: a camera that is not fitted, and a rule that asks it
+unfoldable pub areaCamera : List ℕ
+areaCamera = 10 ∷ 2 ∷ 2 ∷ 15 ∷ 1 ∷ 0 ∷ 0 ∷ 7 ∷ 0 ∷ 0 ∷ 1 ∷ 1 ∷ 10 ∷ 1 ∷ 0 ∷ []
+
+-- `G,10,1 / D,0,U / R,0,10,M,0`, and the same without the D line
+unfoldable pub areaDoubt : List ℕ
+areaDoubt = 10 ∷ 1 ∷ 2 ∷ 14 ∷ 1 ∷ 0 ∷ 7 ∷ 0 ∷ 0 ∷ 0 ∷ 1 ∷ 10 ∷ 1 ∷ 0 ∷ []
+
+unfoldable pub areaLoop : List ℕ
+areaLoop = 10 ∷ 1 ∷ 1 ∷ 10 ∷ 0 ∷ 0 ∷ 1 ∷ 10 ∷ 1 ∷ 0 ∷ []
+
+-- D numbers that tell another count of D lines, or two
+unfoldable pub areaNoEntry : List ℕ
+areaNoEntry = 10 ∷ 1 ∷ 0 ∷ 5 ∷ 1 ∷ []
+
+unfoldable pub areaNoNumber : List ℕ
+areaNoNumber = 10 ∷ 1 ∷ 1 ∷ 9 ∷ 0 ∷ 0 ∷ 7 ∷ 0 ∷ 0 ∷ []
+
+unfoldable pub areaTwoEntries : List ℕ
+areaTwoEntries = 10 ∷ 1 ∷ 2 ∷ 13 ∷ 1 ∷ 0 ∷ 7 ∷ 0 ∷ 0 ∷ 0 ∷ 7 ∷ 0 ∷ 0 ∷ []
+
+unfoldable pub areaNumberTwo : List ℕ
+areaNumberTwo = 10 ∷ 1 ∷ 2 ∷ 13 ∷ 2 ∷ 0 ∷ 7 ∷ 0 ∷ 0 ∷ 0 ∷ 7 ∷ 0 ∷ 0 ∷ []
+
 -- seven numbers: the last lies past 3 × C
 unfoldable pub opened1 : List ℕ
 opened1 = 0 ∷ 10 ∷ 2 ∷ 0 ∷ 10 ∷ 2 ∷ 9 ∷ []
@@ -146,6 +170,17 @@ areaRows =
     ∷ refusesOn area1 (2 ∷ []) scratch1 nines 12
     ∷ refusesOn area1 (1 ∷ []) nines nines 18
     ∷ refusesOn area1 (1 ∷ []) scratch1 (9 ∷ []) 19
+    -- a condition that is unknown by default: no line holds its low end; with a rule on itself it stays unknown in the closed reading too
+    ∷ opensOn areaCamera (1 ∷ []) nines (openedWith 2 1 12 2) opened1
+    ∷ callsOn areaCamera opened1 (evaluate 0) (unchanged 0) (0 ∷ 10 ∷ 1 ∷ 0 ∷ 10 ∷ 2 ∷ 9 ∷ [])
+    ∷ callsOn areaCamera opened1 (evaluate 1) (unchanged 3) (0 ∷ 10 ∷ 2 ∷ 0 ∷ 10 ∷ 1 ∷ 9 ∷ [])
+    ∷ closesOn areaCamera (0 ∷ 1 ∷ []) (9 ∷ nines) (9 ∷ 9 ∷ 9 ∷ 9 ∷ []) 0 (0 ∷ 0 ∷ 0 ∷ 0 ∷ 0 ∷ 0 ∷ 0 ∷ 0 ∷ []) (0 ∷ 10 ∷ 0 ∷ 10 ∷ [])
+    ∷ closesOn areaDoubt (0 ∷ []) (9 ∷ 9 ∷ 9 ∷ 9 ∷ []) (9 ∷ 9 ∷ []) 0 (0 ∷ 0 ∷ 0 ∷ 0 ∷ []) (0 ∷ 10 ∷ [])
+    ∷ closesOn areaLoop (0 ∷ []) (9 ∷ 9 ∷ 9 ∷ 9 ∷ []) (9 ∷ 9 ∷ []) 1 (0 ∷ 0 ∷ 0 ∷ 0 ∷ []) (0 ∷ 0 ∷ [])
+    ∷ opensOn areaNoEntry (0 ∷ []) nines (refusedOpening 10) nines
+    ∷ opensOn areaNoNumber (0 ∷ []) nines (refusedOpening 10) nines
+    ∷ opensOn areaTwoEntries (0 ∷ []) nines (refusedOpening 10) nines
+    ∷ opensOn areaNumberTwo (0 ∷ []) nines (refusedOpening 10) nines
     -- the order of the causes: of two neighbours that hold at once the first tells
     ∷ opensOn areaNoKind [] nines (refusedOpening 10) nines
     ∷ opensOn area1 (2 ∷ many) nines (refusedOpening 11) nines
