@@ -1,5 +1,5 @@
--- What exactness needs: a page with one wide fact, one with a weight below top, one with a P line, and a crisp page with a loop have closed answers with
--- low below high. Assumes nothing.
+-- What exactness needs: a page with one wide fact, one with a D line, one with a weight below top, one with a P line, and a crisp page with a loop have
+-- closed answers with low below high. Assumes nothing.
 use mathlib.Core.Path.{_≡_, refl, _∙_}
 use mathlib.Core.List.{[], _∷_}
 use Prim.Native.Nat.{ℕ, _<_}
@@ -9,7 +9,7 @@ use Rattle.fixpoint.specs.Support.{roof, raise}
 use Rattle.semantics.specs.Area.{kind, span, linesOk, allUnder, lineCodes, areaOf, sound, defaultsOk, pageOf, linesOf}
 use Rattle.semantics.specs.Body.{bodies, unknownByDefault, bodyless, largestOf, T}
 use Rattle.semantics.specs.Grade.{M, P, rounding, divided, combine, foldFrom, foldAll, weighted, negated}
-use Rattle.semantics.specs.Page.{positive, negative, fact, rule, mentions, linesName, Page, defaults}
+use Rattle.semantics.specs.Page.{positive, negative, fact, rule, default, mentions, linesName, Page, defaults}
 use Rattle.semantics.proofs.Proper.{Proper}
 use Rattle.semantics.specs.Reading.{IsClosed, Reads}
 use Rattle.semantics.proofs.Rows.{interval}
@@ -41,6 +41,18 @@ proper-wide = proper pageWide (unfold areaOf lineCodes sound kind span linesOk a
 pub wide-fact : ((c : ℕ) → ¬ Loops pageWide c) × Reads (IsClosed pageWide) 0 (interval 0 1)
 unfolding pageWide linesName linesNegate raised raisePass tableFrom largest rounding divided combine foldFrom foldAll weighted negated bodies unknownByDefault bodyless largestOf T allUnknown sweep sweeps supportList closeList rounds closedList roof raise defaults
 wide-fact = (flat-free pageWide proper-wide refl, closed-reads pageWide proper-wide 0 (interval 0 1) (omega arith) refl)
+
+-- D,0,U
+unfoldable pub pageDefault : Page
+pageDefault = record { top = 1; conditions = 1; lines = default 0 ∷ [] }
+
+pub proper-default : Proper pageDefault
+unfolding pageDefault
+proper-default = proper pageDefault (unfold areaOf lineCodes sound kind span linesOk allUnder defaultsOk defaults allBelow pageOf linesOf tableFrom unknownByDefault in refl)
+
+pub wide-default : ((c : ℕ) → ¬ Loops pageDefault c) × Reads (IsClosed pageDefault) 0 (interval 0 1)
+unfolding pageDefault linesName linesNegate raised raisePass tableFrom largest rounding divided combine foldFrom foldAll weighted negated bodies unknownByDefault bodyless largestOf T allUnknown sweep sweeps supportList closeList rounds closedList roof raise defaults
+wide-default = (flat-free pageDefault proper-default refl, closed-reads pageDefault proper-default 0 (interval 0 1) (omega arith) refl)
 
 -- R,0,1,M,!0
 unfoldable pub pageLoop : Page
