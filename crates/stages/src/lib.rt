@@ -4,7 +4,7 @@ ghost use mathlib.Core.Bool.{true, false};
 ghost use Prim.Native.Nat.{ℕ, _≤_, _<_, _+_, _*_};
 ghost use lib.ListN.{length, getD};
 ghost use Rattle.semantics.specs.Area.{sound, topOf, conditionsOf, countOf};
-ghost use Rattle.semantics.specs.Table.{member};
+ghost use Rattle.semantics.specs.Table.{member, anyBelow};
 ghost use Rattle.page.specs.Places.{placeOf, LineIn};
 ghost use Rattle.bits.specs.Words.{AnyIn};
 ghost use Rattle.index.specs.Parts.{Lines, MaybeUsers};
@@ -14,7 +14,7 @@ ghost use Rattle.rounds.specs.Round.{LowsBegun, Woke, Comparable};
 ghost use Rattle.stages.specs.Counted.{CountReady, Counted};
 ghost use Rattle.stages.specs.Steps.{Nobody, Notable, NotedAt, Noted, AllNoted, LowsRest, TakenOver, TakeReady, AllTaken, LoweredTop, LowerReady, Lowered, Whole, LookedAgain, FollowReady, Begun, firstTop, TopsCopied, FreeTold, LoweredFree, FreeLowered, HighsReady, HighsTaken};
 ghost use Rattle.stages.specs.Stages.{AtStage, AtSupport, Supported, Advanced};
-ghost use Rattle.unknowns.specs.NextHighs.{Places, HighTable, NextHighs};
+ghost use Rattle.unknowns.specs.NextHighs.{sought, Places, HighTable, NextHighs};
 use settle::settle;
 use settle::wake;
 use value::End;
@@ -376,15 +376,15 @@ fn lower_free(
     ensures { λ r. ⌜ FreeLowered (now (a .entry)) (now (users .entry)) (now (marks .entry)) (now (tops .entry)) (now (scratch .entry)) (now (scratch .exit)) (now (look .entry)) (now (look .exit)) (now (lowered .exit)) r ⌝ }
 {
     let n = a[1];
-    let mut fell = false;
+    let mut any = false;
     let mut c: u16 = 0;
     while c < n {
         if lower_free_top(a, users, marks, scratch, tops, look, lowered, c) {
-            fell = true;
+            any = true;
         }
         c += 1;
     }
-    fell
+    any
 }
 
 // The next high ends of the free conditions are taken over, if one is reached; whether any fell. Whoever names such a one plainly may have
@@ -405,18 +405,18 @@ fn take_highs(
     if !free {
         return false;
     }
-    let mut lowered = [0u64; 8];
-    let fell = lower_free(a, users, marks, scratch, tops, look, &mut lowered);
-    follow(a, users, scratch, &mut lowered, lows);
+    let mut down = [0u64; 8];
+    let fell = lower_free(a, users, marks, scratch, tops, look, &mut down);
+    follow(a, users, scratch, &mut down, lows);
     fell
 }
 
 // Without an index: everybody reached is looked at, if a high end fell or a low end that a rule negates is another next.
-fn look_again(a: &[u16], marks: &[bool], scratch: &[u16], look: &mut [u64], fell: bool)
+fn look_again(a: &[u16], marks: &[bool], scratch: &[u16], look: &mut [u64], dropped: bool)
     requires { ⌜ Comparable (now a) (now scratch) × (conditionsOf (now a) ≤ length (now marks)) × WaitSet (conditionsOf (now a)) (now look) ⌝ }
-    ensures { λ r. ⌜ LookedAgain (now (a .entry)) (now (marks .entry)) (now (scratch .entry)) (now (look .entry)) (now (look .exit)) fell ⌝ }
+    ensures { λ r. ⌜ LookedAgain (now (a .entry)) (now (marks .entry)) (now (scratch .entry)) (now (look .entry)) (now (look .exit)) dropped ⌝ }
 {
-    if !fell {
+    if !dropped {
         if !rounds::negation_stale(a, scratch) {
             return;
         }
@@ -434,8 +434,27 @@ fn next_tops(a: &[u16], marks: &[bool], scratch: &[u16], tops: &mut [u8], free: 
     }
 }
 
-// The floor of the next assignment; whether it moves. If it does not, nothing is taken over. The next high ends come first: the next low ends
-// are noted where the negations stand that they read.
+// The next floor: the high ends of the free conditions, and the low ends. The high ends come first: the next low ends are noted where the
+// negations stand that they read.
+fn next_floor(
+    a: &[u16],
+    lines: &[u16],
+    users: &[u16],
+    marks: &[bool],
+    scratch: &mut [u16],
+    tops: &mut [u8],
+    lows: &mut [u64],
+    moved: &mut [u64],
+    free: bool,
+)
+    requires { ⌜ (Places (now a) (now marks) (now tops) × HighTable (now a) (now scratch) × FreeTold (now a) (now marks) free) × (Notable (now a) (now marks) (now scratch) (now moved) × MaybeIndex (now a) (now lines) (now users) × WaitSet (conditionsOf (now a)) (now lows) × ((length (now users) ≡ 0 → ⊥) → LowsRest (now a) (now marks) (now scratch) (now lows))) ⌝ }
+    ensures { λ r. ⌜ NextHighs (now (a .entry)) (now (marks .entry)) (now (scratch .entry)) (now (tops .entry)) (now (tops .exit)) × AllNoted (now (a .entry)) (now (marks .entry)) (now (scratch .entry)) (now (scratch .exit)) (now (moved .entry)) (now (moved .exit)) × WaitSet (conditionsOf (now (a .entry))) (now (lows .exit)) ⌝ }
+{
+    next_tops(a, marks, scratch, tops, free);
+    next_lows(a, lines, users, marks, scratch, lows, moved);
+}
+
+// The next assignment, if the floor moves; whether it does. If not, nothing is taken over.
 fn advance(
     a: &[u16],
     lines: &[u16],
@@ -451,24 +470,24 @@ fn advance(
     ensures { λ r. ⌜ ((k : ℕ) → AtSupport (now (a .entry)) (now (marks .entry)) (now (users .entry)) (now (tops .entry)) k (now (scratch .entry)) (now (lows .entry)) → Advanced (now (a .entry)) (now (marks .entry)) (now (users .entry)) (now (tops .entry)) (now (tops .exit)) k (now (scratch .entry)) (now (scratch .exit)) (now (look .exit)) (now (lows .exit)) r) ⌝ }
 {
     let mut moved = [0u64; 8];
-    next_tops(a, marks, scratch, tops, free);
-    next_lows(a, lines, users, marks, scratch, lows, &mut moved);
-    let fell = take_highs(a, users, marks, scratch, tops, look, lows, free);
+    next_floor(a, lines, users, marks, scratch, tops, lows, &mut moved, free);
+    let fallen = take_highs(a, users, marks, scratch, tops, look, lows, free);
     let c = bits::any_in(&moved, 0);
-    if !fell {
+    if !fallen {
         if 512 <= c {
             return false;
         }
     }
     if users.len() == 0 {
-        look_again(a, marks, scratch, look, fell);
+        look_again(a, marks, scratch, look, fallen);
     }
     take_all(a, users, scratch, &mut moved, lows, look, c);
     true
 }
 
 // The count of rounds on what is marked: the number of the first assignment that the next one equals. If the floor does not move, the high
-// ends are those of the closed reading, so the next one is another only if a high end fell to them. `tops` is lent.
+// ends are those of the closed reading, so the next one is another only if a high end fell to them. `tops` is lent, and `free` tells whether a
+// reached condition is free.
 pub fn count_rounds(
     a: &[u16],
     lines: &[u16],
@@ -476,13 +495,13 @@ pub fn count_rounds(
     marks: &[bool],
     scratch: &mut [u16],
     tops: &mut [u8],
+    free: bool,
 ) -> u32
-    requires { ⌜ CountReady (now a) (now marks) (now scratch) × MaybeIndex (now a) (now lines) (now users) × (conditionsOf (now a) ≤ length (now tops)) ⌝ }
+    requires { ⌜ CountReady (now a) (now marks) (now scratch) × MaybeIndex (now a) (now lines) (now users) × (conditionsOf (now a) ≤ length (now tops)) × (free ≡ anyBelow (conditionsOf (now a)) (sought (now a) (now marks))) ⌝ }
     ensures { λ r. ⌜ Counted (now (a .entry)) (now (marks .entry)) (now (scratch .entry)) (now (scratch .exit)) r ⌝ }
 {
     copy_tops(a, marks, scratch, tops);
     begin(a, marks, scratch);
-    let free = unknowns::any_free(a, marks);
     let mut look = [0u64; 8];
     let mut lows = [0u64; 8];
     rounds::wait_marked(marks, a[1], &mut look);

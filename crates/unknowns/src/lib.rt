@@ -13,7 +13,7 @@ ghost use Rattle.unknowns.specs.NextHighs.{sought, highFrom, Places, Cle
 use value::End;
 
 // Whether c is reached and unknown by default.
-fn is_sought(a: &[u16], marks: &[bool], c: u16) -> bool
+pub fn is_sought(a: &[u16], marks: &[bool], c: u16) -> bool
     requires { ⌜ (sound (now a) ≡ true) × (conditionsOf (now a) ≤ length (now marks)) × (c < conditionsOf (now a)) ⌝ }
     ensures { λ r. ⌜ r ≡ sought (now (a .entry)) (now (marks .entry)) c ⌝ }
 {

@@ -22,29 +22,26 @@ copy-tops-requires c κs = let p = c .before .before .before .before .before .be
 begin-requires : tie.Need-begin-requires Inv-loop μ-loop
 begin-requires c κs = let p = c .before .before .before .before .before .before .before .before .before .before .before .before .pre .0 in (p .page-sound, p .long, p .marked)
 
-any-free-requires : tie.Need-any-free-requires Inv-loop μ-loop
-any-free-requires c κs = let p = c .before .before .before .before .before .before .before .before .before .before .before .before .before .before .before .pre .0 in (p .page-sound, p .marked)
-
 shared-slice-read-wait-marked : tie.Need-shared-slice-read-wait-marked Inv-loop μ-loop
-shared-slice-read-wait-marked c = omega (arith, head-of (c .before .before .before .before .before .before .before .before .before .before .before .before .before .before .before .before .before .args .a .now) (c .before .before .before .before .before .before .before .before .before .before .before .before .before .before .before .before .before .pre .0 .page-sound))
+shared-slice-read-wait-marked c = omega (arith, head-of (c .before .before .before .before .before .before .before .before .before .before .before .before .before .before .before .before .args .a .now) (c .before .before .before .before .before .before .before .before .before .before .before .before .before .before .before .before .pre .0 .page-sound))
 
 slice-aggregate-wait-marked : tie.Need-slice-aggregate-wait-marked Inv-loop μ-loop
 slice-aggregate-wait-marked c = search needs
 
 wait-marked-requires : tie.Need-wait-marked-requires Inv-loop μ-loop
-wait-marked-requires c κs = let p = c .before .before .before .before .before .before .before .before .before .before .before .before .before .before .before .before .before .before .pre .0 in (p .marked, head-of (c .before .before .before .before .before .before .before .before .before .before .before .before .before .before .before .before .before .before .args .a .now) (p .page-sound) .few, nobody-waits _)
+wait-marked-requires c κs = let p = c .before .before .before .before .before .before .before .before .before .before .before .before .before .before .before .before .before .pre .0 in (p .marked, head-of (c .before .before .before .before .before .before .before .before .before .before .before .before .before .before .before .before .before .args .a .now) (p .page-sound) .few, nobody-waits _)
 
 shared-slice-read-wait-marked-2 : tie.Need-shared-slice-read-wait-marked-2 Inv-loop μ-loop
-shared-slice-read-wait-marked-2 c = omega (arith, head-of (c .before .before .before .before .before .before .before .before .before .before .before .before .before .before .before .before .before .before .before .before .before .args .a .now) (c .before .before .before .before .before .before .before .before .before .before .before .before .before .before .before .before .before .before .before .before .before .pre .0 .page-sound))
+shared-slice-read-wait-marked-2 c = omega (arith, head-of (c .before .before .before .before .before .before .before .before .before .before .before .before .before .before .before .before .before .before .before .before .args .a .now) (c .before .before .before .before .before .before .before .before .before .before .before .before .before .before .before .before .before .before .before .before .pre .0 .page-sound))
 
 slice-aggregate-wait-marked-2 : tie.Need-slice-aggregate-wait-marked-2 Inv-loop μ-loop
 slice-aggregate-wait-marked-2 c = search needs
 
 wait-marked-requires-2 : tie.Need-wait-marked-requires-2 Inv-loop μ-loop
-wait-marked-requires-2 c κs = let p = c .before .before .before .before .before .before .before .before .before .before .before .before .before .before .before .before .before .before .before .before .before .before .pre .0 in (p .marked, head-of (c .before .before .before .before .before .before .before .before .before .before .before .before .before .before .before .before .before .before .before .before .before .before .args .a .now) (p .page-sound) .few, nobody-waits _)
+wait-marked-requires-2 c κs = let p = c .before .before .before .before .before .before .before .before .before .before .before .before .before .before .before .before .before .before .before .before .before .pre .0 in (p .marked, head-of (c .before .before .before .before .before .before .before .before .before .before .before .before .before .before .before .before .before .before .before .before .before .args .a .now) (p .page-sound) .few, nobody-waits _)
 
 loop-holds : tie.Need-loop-holds Inv-loop μ-loop
-loop-holds c = let p = c .before .before .before .before .before .before .before .before .before .before .before .before .before .before .before .before .before .before .before .before .before .before .before .before .pre .0 in rounding-first (stage-begins p (c .before .before .before .before .before .before .before .before .before .before .before .begin .ensures) _ (tops-are p (c .before .before .before .before .before .before .before .before .before .before .before .before .before .before .before .copy-tops .ensures)) (c .before .before .before .before .before .wait-marked .ensures) (c .before .wait-marked2 .ensures))
+loop-holds c = let p = c .before .before .before .before .before .before .before .before .before .before .before .before .before .before .before .before .before .before .before .before .before .before .before .pre .0 in rounding-first (stage-begins p (c .before .before .before .before .before .before .before .before .before .before .begin .ensures) _ (tops-are p (c .before .before .before .before .before .before .before .before .before .before .before .before .before .before .copy-tops .ensures)) (c .before .before .before .before .before .wait-marked .ensures) (c .before .wait-marked2 .ensures))
 
 slice-aggregate-support : tie.Need-slice-aggregate-support Inv-loop μ-loop
 slice-aggregate-support c = search needs
@@ -53,7 +50,7 @@ slice-aggregate-support-2 : tie.Need-slice-aggregate-support-2 Inv-loop μ-loop
 slice-aggregate-support-2 c = search needs
 
 support-requires : tie.Need-support-requires Inv-loop μ-loop
-support-requires c κs = ((c .before .before .before .before .loop .k, c .before .before .before .before .loop .inv .at), c .before .before .before .before .before .before .before .before .before .before .before .before .before .before .before .before .before .before .before .before .before .before .before .before .before .before .before .before .before .pre .1)
+support-requires c κs = ((c .before .before .before .before .loop .k, c .before .before .before .before .loop .inv .at), c .before .before .before .before .before .before .before .before .before .before .before .before .before .before .before .before .before .before .before .before .before .before .before .before .before .before .before .before .pre .1)
 
 slice-aggregate-advance : tie.Need-slice-aggregate-advance Inv-loop μ-loop
 slice-aggregate-advance c = search needs
@@ -62,7 +59,7 @@ slice-aggregate-advance-2 : tie.Need-slice-aggregate-advance-2 Inv-loop μ-loop
 slice-aggregate-advance-2 c = search needs
 
 advance-requires : tie.Need-advance-requires Inv-loop μ-loop
-advance-requires c κs = let x = (c .before .before .before .before .before .before .before .before .support .ensures (c .before .before .before .before .before .before .before .before .before .before .before .before .before .loop .k) (c .before .before .before .before .before .before .before .before .before .before .before .before .before .loop .inv .at)) in ((c .before .before .before .before .before .before .before .before .before .before .before .before .before .loop .k, x .at), x .look-in, x .drained, c .before .before .before .before .before .before .before .before .before .before .before .before .before .before .before .before .before .before .before .before .before .before .before .before .before .before .before .before .before .before .before .before .before .before .before .before .before .before .pre .1, free-told (c .before .before .before .before .before .before .before .before .before .before .before .before .before .before .before .before .before .before .before .before .before .before .before .before .before .before .before .before .before .before .before .before .before .before .before .before .before .before .args .a .now) (c .before .before .before .before .before .before .before .before .before .before .before .before .before .before .before .before .before .before .before .before .before .before .before .before .before .before .before .before .before .before .before .before .before .before .before .before .before .before .args .marks .now) (c .before .before .before .before .before .before .before .before .before .before .before .before .before .before .before .before .before .before .before .before .before .before .any-free .ensures))
+advance-requires c κs = let x = (c .before .before .before .before .before .before .before .before .support .ensures (c .before .before .before .before .before .before .before .before .before .before .before .before .before .loop .k) (c .before .before .before .before .before .before .before .before .before .before .before .before .before .loop .inv .at)) in ((c .before .before .before .before .before .before .before .before .before .before .before .before .before .loop .k, x .at), x .look-in, x .drained, c .before .before .before .before .before .before .before .before .before .before .before .before .before .before .before .before .before .before .before .before .before .before .before .before .before .before .before .before .before .before .before .before .before .before .before .before .before .pre .1, free-told (c .before .before .before .before .before .before .before .before .before .before .before .before .before .before .before .before .before .before .before .before .before .before .before .before .before .before .before .before .before .before .before .before .before .before .before .before .before .args .a .now) (c .before .before .before .before .before .before .before .before .before .before .before .before .before .before .before .before .before .before .before .before .before .before .before .before .before .before .before .before .before .before .before .before .before .before .before .before .before .args .marks .now) (c .before .before .before .before .before .before .before .before .before .before .before .before .before .before .before .before .before .before .before .before .before .before .before .before .before .before .before .before .before .before .before .before .before .before .before .before .before .pre .3))
 
 add-k : tie.Need-add-k Inv-loop μ-loop
 add-k c = omega (arith, rounds-small (c .before .before .before .before .before .before .before .before .before .before .before .before .before .before .before .before .before .before .before .before .before .loop .inv))
@@ -77,22 +74,22 @@ add-result : tie.Need-add-result Inv-loop μ-loop
 add-result c = omega (arith, rounds-small (c .before .before .before .before .before .before .before .before .before .before .before .before .before .before .before .before .before .before .before .before .before .before .loop .inv))
 
 same-length : tie.Need-same-length Inv-loop μ-loop
-same-length c = rounds-length (c .before .before .before .before .before .before .before .before .before .before .before .before .before .before .before .before .before .before .before .before .before .before .loop .inv) (c .before .before .before .before .before .before .before .before .before .before .before .before .before .before .before .before .before .support .ensures (c .before .before .before .before .before .before .before .before .before .before .before .before .before .before .before .before .before .before .before .before .before .before .loop .k) (c .before .before .before .before .before .before .before .before .before .before .before .before .before .before .before .before .before .before .before .before .before .before .loop .inv .at)) (c .before .before .before .before .before .before .before .before .advance .ensures (c .before .before .before .before .before .before .before .before .before .before .before .before .before .before .before .before .before .before .before .before .before .before .loop .k) ((c .before .before .before .before .before .before .before .before .before .before .before .before .before .before .before .before .before .support .ensures (c .before .before .before .before .before .before .before .before .before .before .before .before .before .before .before .before .before .before .before .before .before .before .loop .k) (c .before .before .before .before .before .before .before .before .before .before .before .before .before .before .before .before .before .before .before .before .before .before .loop .inv .at)) .at)) ∙ c .before .before .before .before .before .before .before .before .before .before .before .before .before .before .before .before .before .before .before .before .before .before .before .before .before .before .before .before .before .before .before .before .before .before .begin .ensures .same-length
+same-length c = rounds-length (c .before .before .before .before .before .before .before .before .before .before .before .before .before .before .before .before .before .before .before .before .before .before .loop .inv) (c .before .before .before .before .before .before .before .before .before .before .before .before .before .before .before .before .before .support .ensures (c .before .before .before .before .before .before .before .before .before .before .before .before .before .before .before .before .before .before .before .before .before .before .loop .k) (c .before .before .before .before .before .before .before .before .before .before .before .before .before .before .before .before .before .before .before .before .before .before .loop .inv .at)) (c .before .before .before .before .before .before .before .before .advance .ensures (c .before .before .before .before .before .before .before .before .before .before .before .before .before .before .before .before .before .before .before .before .before .before .loop .k) ((c .before .before .before .before .before .before .before .before .before .before .before .before .before .before .before .before .before .support .ensures (c .before .before .before .before .before .before .before .before .before .before .before .before .before .before .before .before .before .before .before .before .before .before .loop .k) (c .before .before .before .before .before .before .before .before .before .before .before .before .before .before .before .before .before .before .before .before .before .before .loop .inv .at)) .at)) ∙ c .before .before .before .before .before .before .before .before .before .before .before .before .before .before .before .before .before .before .before .before .before .before .before .before .before .before .before .before .before .before .before .before .before .begin .ensures .same-length
 
 same-length-2 : tie.Need-same-length-2 Inv-loop μ-loop
-same-length-2 c = rounds-size (c .before .before .before .before .before .before .before .before .before .before .before .before .before .before .before .before .before .before .before .before .before .before .loop .inv) (c .before .before .before .before .before .before .before .before .before .before .before .before .before .before .before .before .before .support .ensures (c .before .before .before .before .before .before .before .before .before .before .before .before .before .before .before .before .before .before .before .before .before .before .loop .k) (c .before .before .before .before .before .before .before .before .before .before .before .before .before .before .before .before .before .before .before .before .before .before .loop .inv .at)) (c .before .before .before .before .before .before .before .before .advance .ensures (c .before .before .before .before .before .before .before .before .before .before .before .before .before .before .before .before .before .before .before .before .before .before .loop .k) ((c .before .before .before .before .before .before .before .before .before .before .before .before .before .before .before .before .before .support .ensures (c .before .before .before .before .before .before .before .before .before .before .before .before .before .before .before .before .before .before .before .before .before .before .loop .k) (c .before .before .before .before .before .before .before .before .before .before .before .before .before .before .before .before .before .before .before .before .before .before .loop .inv .at)) .at)) ∙ c .before .before .before .before .before .before .before .before .before .before .before .before .before .before .before .before .before .before .before .before .before .before .before .before .before .before .before .before .before .before .before .before .before .before .before .before .before .before .copy-tops .ensures .size
+same-length-2 c = rounds-size (c .before .before .before .before .before .before .before .before .before .before .before .before .before .before .before .before .before .before .before .before .before .before .loop .inv) (c .before .before .before .before .before .before .before .before .before .before .before .before .before .before .before .before .before .support .ensures (c .before .before .before .before .before .before .before .before .before .before .before .before .before .before .before .before .before .before .before .before .before .before .loop .k) (c .before .before .before .before .before .before .before .before .before .before .before .before .before .before .before .before .before .before .before .before .before .before .loop .inv .at)) (c .before .before .before .before .before .before .before .before .advance .ensures (c .before .before .before .before .before .before .before .before .before .before .before .before .before .before .before .before .before .before .before .before .before .before .loop .k) ((c .before .before .before .before .before .before .before .before .before .before .before .before .before .before .before .before .before .support .ensures (c .before .before .before .before .before .before .before .before .before .before .before .before .before .before .before .before .before .before .before .before .before .before .loop .k) (c .before .before .before .before .before .before .before .before .before .before .before .before .before .before .before .before .before .before .before .before .before .before .loop .inv .at)) .at)) ∙ c .before .before .before .before .before .before .before .before .before .before .before .before .before .before .before .before .before .before .before .before .before .before .before .before .before .before .before .before .before .before .before .before .before .before .before .before .before .copy-tops .ensures .size
 
 returns : tie.Need-returns Inv-loop μ-loop
-returns c = counted-from (rounds-after (c .before .before .before .before .before .before .before .before .before .before .before .before .before .before .before .before .before .before .before .before .before .before .loop .inv) (c .before .before .before .before .before .before .before .before .before .before .before .before .before .before .before .before .before .support .ensures (c .before .before .before .before .before .before .before .before .before .before .before .before .before .before .before .before .before .before .before .before .before .before .loop .k) (c .before .before .before .before .before .before .before .before .before .before .before .before .before .before .before .before .before .before .before .before .before .before .loop .inv .at)) (c .before .before .before .before .before .before .before .before .advance .ensures (c .before .before .before .before .before .before .before .before .before .before .before .before .before .before .before .before .before .before .before .before .before .before .loop .k) ((c .before .before .before .before .before .before .before .before .before .before .before .before .before .before .before .before .before .support .ensures (c .before .before .before .before .before .before .before .before .before .before .before .before .before .before .before .before .before .before .before .before .before .before .loop .k) (c .before .before .before .before .before .before .before .before .before .before .before .before .before .before .before .before .before .before .before .before .before .before .loop .inv .at)) .at)) (c .before .if1 .left) (c .if2 .taken)) (c .before .before .before .before .before .before .before .before .before .before .before .before .before .before .before .before .before .before .before .before .before .before .before .before .before .before .before .before .before .before .before .before .before .before .begin .ensures .same-length) (c .before .before .before .before .before .before .before .before .before .before .before .before .before .before .before .before .before .before .before .before .before .before .before .before .before .before .before .before .before .before .before .before .before .before .begin .ensures .beyond)
+returns c = counted-from (rounds-after (c .before .before .before .before .before .before .before .before .before .before .before .before .before .before .before .before .before .before .before .before .before .before .loop .inv) (c .before .before .before .before .before .before .before .before .before .before .before .before .before .before .before .before .before .support .ensures (c .before .before .before .before .before .before .before .before .before .before .before .before .before .before .before .before .before .before .before .before .before .before .loop .k) (c .before .before .before .before .before .before .before .before .before .before .before .before .before .before .before .before .before .before .before .before .before .before .loop .inv .at)) (c .before .before .before .before .before .before .before .before .advance .ensures (c .before .before .before .before .before .before .before .before .before .before .before .before .before .before .before .before .before .before .before .before .before .before .loop .k) ((c .before .before .before .before .before .before .before .before .before .before .before .before .before .before .before .before .before .support .ensures (c .before .before .before .before .before .before .before .before .before .before .before .before .before .before .before .before .before .before .before .before .before .before .loop .k) (c .before .before .before .before .before .before .before .before .before .before .before .before .before .before .before .before .before .before .before .before .before .before .loop .inv .at)) .at)) (c .before .if1 .left) (c .if2 .taken)) (c .before .before .before .before .before .before .before .before .before .before .before .before .before .before .before .before .before .before .before .before .before .before .before .before .before .before .before .before .before .before .before .before .before .begin .ensures .same-length) (c .before .before .before .before .before .before .before .before .before .before .before .before .before .before .before .before .before .before .before .before .before .before .before .before .before .before .before .before .before .before .before .before .before .begin .ensures .beyond)
 
 same-length-3 : tie.Need-same-length-3 Inv-loop μ-loop
-same-length-3 c = rounds-length (c .before .before .before .before .before .before .before .before .before .before .before .before .before .before .before .before .before .before .before .before .before .before .loop .inv) (c .before .before .before .before .before .before .before .before .before .before .before .before .before .before .before .before .before .support .ensures (c .before .before .before .before .before .before .before .before .before .before .before .before .before .before .before .before .before .before .before .before .before .before .loop .k) (c .before .before .before .before .before .before .before .before .before .before .before .before .before .before .before .before .before .before .before .before .before .before .loop .inv .at)) (c .before .before .before .before .before .before .before .before .advance .ensures (c .before .before .before .before .before .before .before .before .before .before .before .before .before .before .before .before .before .before .before .before .before .before .loop .k) ((c .before .before .before .before .before .before .before .before .before .before .before .before .before .before .before .before .before .support .ensures (c .before .before .before .before .before .before .before .before .before .before .before .before .before .before .before .before .before .before .before .before .before .before .loop .k) (c .before .before .before .before .before .before .before .before .before .before .before .before .before .before .before .before .before .before .before .before .before .before .loop .inv .at)) .at)) ∙ c .before .before .before .before .before .before .before .before .before .before .before .before .before .before .before .before .before .before .before .before .before .before .before .before .before .before .before .before .before .before .before .before .before .before .begin .ensures .same-length
+same-length-3 c = rounds-length (c .before .before .before .before .before .before .before .before .before .before .before .before .before .before .before .before .before .before .before .before .before .before .loop .inv) (c .before .before .before .before .before .before .before .before .before .before .before .before .before .before .before .before .before .support .ensures (c .before .before .before .before .before .before .before .before .before .before .before .before .before .before .before .before .before .before .before .before .before .before .loop .k) (c .before .before .before .before .before .before .before .before .before .before .before .before .before .before .before .before .before .before .before .before .before .before .loop .inv .at)) (c .before .before .before .before .before .before .before .before .advance .ensures (c .before .before .before .before .before .before .before .before .before .before .before .before .before .before .before .before .before .before .before .before .before .before .loop .k) ((c .before .before .before .before .before .before .before .before .before .before .before .before .before .before .before .before .before .support .ensures (c .before .before .before .before .before .before .before .before .before .before .before .before .before .before .before .before .before .before .before .before .before .before .loop .k) (c .before .before .before .before .before .before .before .before .before .before .before .before .before .before .before .before .before .before .before .before .before .before .loop .inv .at)) .at)) ∙ c .before .before .before .before .before .before .before .before .before .before .before .before .before .before .before .before .before .before .before .before .before .before .before .before .before .before .before .before .before .before .before .before .before .begin .ensures .same-length
 
 same-length-4 : tie.Need-same-length-4 Inv-loop μ-loop
-same-length-4 c = rounds-size (c .before .before .before .before .before .before .before .before .before .before .before .before .before .before .before .before .before .before .before .before .before .before .loop .inv) (c .before .before .before .before .before .before .before .before .before .before .before .before .before .before .before .before .before .support .ensures (c .before .before .before .before .before .before .before .before .before .before .before .before .before .before .before .before .before .before .before .before .before .before .loop .k) (c .before .before .before .before .before .before .before .before .before .before .before .before .before .before .before .before .before .before .before .before .before .before .loop .inv .at)) (c .before .before .before .before .before .before .before .before .advance .ensures (c .before .before .before .before .before .before .before .before .before .before .before .before .before .before .before .before .before .before .before .before .before .before .loop .k) ((c .before .before .before .before .before .before .before .before .before .before .before .before .before .before .before .before .before .support .ensures (c .before .before .before .before .before .before .before .before .before .before .before .before .before .before .before .before .before .before .before .before .before .before .loop .k) (c .before .before .before .before .before .before .before .before .before .before .before .before .before .before .before .before .before .before .before .before .before .before .loop .inv .at)) .at)) ∙ c .before .before .before .before .before .before .before .before .before .before .before .before .before .before .before .before .before .before .before .before .before .before .before .before .before .before .before .before .before .before .before .before .before .before .before .before .before .before .copy-tops .ensures .size
+same-length-4 c = rounds-size (c .before .before .before .before .before .before .before .before .before .before .before .before .before .before .before .before .before .before .before .before .before .before .loop .inv) (c .before .before .before .before .before .before .before .before .before .before .before .before .before .before .before .before .before .support .ensures (c .before .before .before .before .before .before .before .before .before .before .before .before .before .before .before .before .before .before .before .before .before .before .loop .k) (c .before .before .before .before .before .before .before .before .before .before .before .before .before .before .before .before .before .before .before .before .before .before .loop .inv .at)) (c .before .before .before .before .before .before .before .before .advance .ensures (c .before .before .before .before .before .before .before .before .before .before .before .before .before .before .before .before .before .before .before .before .before .before .loop .k) ((c .before .before .before .before .before .before .before .before .before .before .before .before .before .before .before .before .before .support .ensures (c .before .before .before .before .before .before .before .before .before .before .before .before .before .before .before .before .before .before .before .before .before .before .loop .k) (c .before .before .before .before .before .before .before .before .before .before .before .before .before .before .before .before .before .before .before .before .before .before .loop .inv .at)) .at)) ∙ c .before .before .before .before .before .before .before .before .before .before .before .before .before .before .before .before .before .before .before .before .before .before .before .before .before .before .before .before .before .before .before .before .before .before .before .before .before .copy-tops .ensures .size
 
 returns-2 : tie.Need-returns-2 Inv-loop μ-loop
-returns-2 c = counted-from (rounds-here (c .before .before .before .before .before .before .before .before .before .before .before .before .before .before .before .before .before .before .before .before .before .before .loop .inv) (c .before .before .before .before .before .before .before .before .before .before .before .before .before .before .before .before .before .support .ensures (c .before .before .before .before .before .before .before .before .before .before .before .before .before .before .before .before .before .before .before .before .before .before .loop .k) (c .before .before .before .before .before .before .before .before .before .before .before .before .before .before .before .before .before .before .before .before .before .before .loop .inv .at)) (c .before .before .before .before .before .before .before .before .advance .ensures (c .before .before .before .before .before .before .before .before .before .before .before .before .before .before .before .before .before .before .before .before .before .before .loop .k) ((c .before .before .before .before .before .before .before .before .before .before .before .before .before .before .before .before .before .support .ensures (c .before .before .before .before .before .before .before .before .before .before .before .before .before .before .before .before .before .before .before .before .before .before .loop .k) (c .before .before .before .before .before .before .before .before .before .before .before .before .before .before .before .before .before .before .before .before .before .before .loop .inv .at)) .at)) (c .before .if1 .left) (c .if2 .left)) (c .before .before .before .before .before .before .before .before .before .before .before .before .before .before .before .before .before .before .before .before .before .before .before .before .before .before .before .before .before .before .before .before .before .before .begin .ensures .same-length) (c .before .before .before .before .before .before .before .before .before .before .before .before .before .before .before .before .before .before .before .before .before .before .before .before .before .before .before .before .before .before .before .before .before .before .begin .ensures .beyond)
+returns-2 c = counted-from (rounds-here (c .before .before .before .before .before .before .before .before .before .before .before .before .before .before .before .before .before .before .before .before .before .before .loop .inv) (c .before .before .before .before .before .before .before .before .before .before .before .before .before .before .before .before .before .support .ensures (c .before .before .before .before .before .before .before .before .before .before .before .before .before .before .before .before .before .before .before .before .before .before .loop .k) (c .before .before .before .before .before .before .before .before .before .before .before .before .before .before .before .before .before .before .before .before .before .before .loop .inv .at)) (c .before .before .before .before .before .before .before .before .advance .ensures (c .before .before .before .before .before .before .before .before .before .before .before .before .before .before .before .before .before .before .before .before .before .before .loop .k) ((c .before .before .before .before .before .before .before .before .before .before .before .before .before .before .before .before .before .support .ensures (c .before .before .before .before .before .before .before .before .before .before .before .before .before .before .before .before .before .before .before .before .before .before .loop .k) (c .before .before .before .before .before .before .before .before .before .before .before .before .before .before .before .before .before .before .before .before .before .before .loop .inv .at)) .at)) (c .before .if1 .left) (c .if2 .left)) (c .before .before .before .before .before .before .before .before .before .before .before .before .before .before .before .before .before .before .before .before .before .before .before .before .before .before .before .before .before .before .before .before .before .begin .ensures .same-length) (c .before .before .before .before .before .before .before .before .before .before .before .before .before .before .before .before .before .before .before .before .before .before .before .before .before .before .before .before .before .before .before .before .before .begin .ensures .beyond)
 
 pub count-rounds-spec : {M : Type 1} → statement M
 count-rounds-spec =
@@ -102,7 +99,6 @@ count-rounds-spec =
     μ-loop
     copy-tops-requires
     begin-requires
-    any-free-requires
     shared-slice-read-wait-marked
     slice-aggregate-wait-marked
     wait-marked-requires

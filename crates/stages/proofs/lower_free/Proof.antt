@@ -9,10 +9,10 @@ use Rattle.stages.proofs.lower_free.Statement.{statement}
 use Rattle.stages.proofs.lower_free.Tie as tie
 
 abbrev Inv-loop : tie.InvT-loop
-Inv-loop a users marks scratch₀ tops look₀ lowered₀ n fell₀ c₀ scratch look lowered fell c = Freeing a users marks tops scratch₀ scratch look₀ look lowered fell c
+Inv-loop a users marks scratch₀ tops look₀ lowered₀ n any₀ c₀ scratch look lowered any c = Freeing a users marks tops scratch₀ scratch look₀ look lowered any c
 
 abbrev μ-loop : tie.MeasureT-loop
-μ-loop a users marks scratch₀ tops look₀ lowered₀ n fell₀ c₀ scratch look lowered fell c = n - c
+μ-loop a users marks scratch₀ tops look₀ lowered₀ n any₀ c₀ scratch look lowered any c = n - c
 
 shared-slice-read-n : tie.Need-shared-slice-read-n Inv-loop μ-loop
 shared-slice-read-n c = omega (arith, head-of (c .before .before .before .before .before .before .before .before .args .a .now) (c .before .before .before .before .before .before .before .before .pre .0 .page-sound))
