@@ -64,7 +64,6 @@ module _ (a : List ℕ) (m : List Bool) (users next s₀ words₀ : List ℕ) wh
     pub negated : (d : ℕ) → d < n → getD s (2 * d + 1) 0 ≡ topOf a - high s d
     pub beyond : drop (4 * n) s ≡ drop (4 * n) s₀
     pub set-in : WaitSet n words
-    pub kept : (d : ℕ) → d < 512 → has words₀ d ≡ true → has words d ≡ true
     pub woken : (length users ≡ 0) ⊎ ((d : ℕ) → d < c → WokenFor s words d)
     pub still : fell ≡ false → (d : ℕ) → d < n → high s d ≡ high s₀ d
     pub moves : fell ≡ true → (d : ℕ) × (d < c) × Falls a m next s₀ d × (high s d ≡ getD next d 0)
@@ -82,7 +81,6 @@ module _ (a : List ℕ) (m : List Bool) (users next s₀ words₀ : List ℕ) wh
         negated = r .negated;
         beyond = refl;
         set-in = r .set-in;
-        kept = λ d l q. q;
         woken = inr (λ d l. absurd (omega arith));
         still = λ z d l. refl;
         moves = λ z. absurd (false≢true z);
@@ -112,7 +110,6 @@ module _ (a : List ℕ) (m : List Bool) (users next s₀ words₀ : List ℕ) wh
             negated = v .negated;
             beyond = v .beyond;
             set-in = v .set-in;
-            kept = v .kept;
             woken = ⊎-elim (λ y. inl y) (λ f. inr (upto (WokenFor s words) c f (λ x. absurd (x same)))) (v .woken);
             still = v .still;
             moves = λ y. let p = v .moves y in (p .0, omega (arith, p .1), p .2, p .3);
@@ -198,13 +195,12 @@ module _ (a : List ℕ) (m : List Bool) (users next s₀ words₀ : List ℕ) wh
               ];
               beyond = ap (drop (4 * n)) s-is ∙ drop-set-lt (4 * n) s₁ (2 * c + 1) y (omega arith) ∙ drop-set-lt (4 * n) s i (getD next c 0) (omega arith) ∙ v .beyond;
               set-in = renegated .set-in;
-              kept = λ d k q. renegated .kept d k (v .kept d k q);
               woken = next-woken;
               still = λ e. absurd (true≢false e);
               moves = λ e. (c, omega arith, falls-here, high-here);
             }
 
-  pub falling-last : {s words : List ℕ} {fell : Bool} {c : ℕ} → Falling s words fell c → n ≤ c → Fell a m users next s₀ s words₀ words fell
+  pub falling-last : {s words : List ℕ} {fell : Bool} {c : ℕ} → Falling s words fell c → n ≤ c → Fell a m users next s₀ s words fell
   falling-last v l =
       record {
         same-length = v .same-length;
@@ -214,7 +210,6 @@ module _ (a : List ℕ) (m : List Bool) (users next s₀ words₀ : List ℕ) wh
         negated = v .negated;
         beyond = v .beyond;
         set-in = v .set-in;
-        kept = v .kept;
         woken = ⊎-elim (λ e. inl e) (λ f. inr (λ d k. f d (omega arith))) (v .woken);
         still = v .still;
         moves = λ z. let p = v .moves z in (p .0, omega (arith, p .1, v .within), p .2, p .3);

@@ -1,16 +1,16 @@
 -- The floor over the high ends of a round: the low ends, and the high ends of the conditions that are unknown by default. Assumes nothing.
 use mathlib.Core.Path.{_≡_, refl, sym, _∙_, ap, subst}
 use mathlib.Core.Logic.{_⊎_, inl, inr, ⊎-elim}
-use mathlib.Core.Bool.{Bool, true, false, cond, _&&_, true≢false, false≢true}
+use mathlib.Core.Bool.{Bool, true, false, cond, true≢false, false≢true}
 use mathlib.Core.List.{List}
 use Prim.Native.Nat.{ℕ, _+_, _*_, _-_, _≤_, _<_}
 use native.Mathlib.Decide.{ℕ-discrete}
 use native.Mathlib.Omega.{arith}
 use lib.ListN.{length, getD, drop}
-use Rattle.fixpoint.specs.Interval.{Interval, Within, Assign}
+use Rattle.fixpoint.specs.Interval.{Interval, Within}
 use Rattle.fixpoint.specs.KnowledgeOrder.{Under, Alike}
 use Rattle.fixpoint.specs.AlternatingFixpoint.{mix, lows}
-use Rattle.fixpoint.proofs.Cond.{by-bool, cond-true, cond-false, cond-most, cond-least, cond-le}
+use Rattle.fixpoint.proofs.Cond.{cond-true, cond-false, cond-most, cond-least, cond-le}
 use Rattle.fixpoint.proofs.KnowledgeOrder.{pair-eq}
 use Rattle.fixpoint.proofs.Merge.{floor-in}
 use Rattle.fixpoint.proofs.PlainReading.{operator}
@@ -18,27 +18,19 @@ use Rattle.fixpoint.proofs.AlternatingHalves.{lows-anti}
 use Rattle.fixpoint.proofs.Sum.{sum-le, sum-eq, sum-drop}
 use Rattle.semantics.specs.Area.{sound, pageOf, topOf, conditionsOf}
 use Rattle.semantics.specs.Body.{T, unknownByDefault}
-use Rattle.semantics.specs.Grade.{lower, upper}
+use Rattle.semantics.specs.Grade.{lower}
 use Rattle.semantics.specs.Table.{member}
-use Rattle.semantics.proofs.Soundness.{both-true}
-use Rattle.page.proofs.Head.{head-of}
 use Rattle.bits.specs.Words.{has}
 use Rattle.index.specs.Parts.{Users, MaybeUsers}
-use Rattle.value.specs.Table.{endOf}
 use Rattle.settle.specs.Ends.{nobody, room}
 use Rattle.settle.specs.Scratch.{held, roomAt, Half, RestsAt, Settled}
 use Rattle.settle.specs.Waiting.{WaitSet, MaybeIndex, MaybeIndexed}
 use Rattle.settle.proofs.Halves.{settled-others}
 use Rattle.settle.proofs.Raising.{S, E, room-less}
-use Rattle.unknowns.specs.NextHighs.{sought, HighTable, NextHighs}
-use Rattle.rounds.specs.Round.{Comparable, Refreshed, Fallible, Fell, freeHighs, toLearn, floorAt, nextFloorAt, FloorHalf, FloorKept, AllRest, SameIntervals, FloorStep, Floored}
-use Rattle.rounds.proofs.Turns.{lows-under, highs-over, floor-done, lows-same}
-
-low-eq : {p q : Interval} → p ≡ q → p .low ≡ q .low
-low-eq h = ap (λ (r : Interval). r .low) h
-
-high-eq : {p q : Interval} → p ≡ q → p .high ≡ q .high
-high-eq h = ap (λ (r : Interval). r .high) h
+use Rattle.unknowns.specs.NextHighs.{HighTable, NextHighs}
+use Rattle.unknowns.proofs.Sought.{sought-here, sought-free}
+use Rattle.rounds.specs.Round.{Comparable, Refreshed, Fallible, Fell, freeHighs, toLearn, nextFloorAt, FloorHalf, FloorKept, AllRest, SameIntervals, FloorStep, Floored}
+use Rattle.rounds.proofs.Turns.{low-eq, high-eq, lows-under, highs-over, floor-done, lows-same}
 
 pub index-users : {a lines users : List ℕ} → MaybeIndex a lines users → MaybeUsers a users
 index-users = ⊎-elim (λ z. inl z) (λ i. inr (i .1))
@@ -194,18 +186,12 @@ module _ (a : List ℕ) (m : List Bool) where
       }
 
   -- high ends of conditions that are unknown by default fall
-  module _ {users next₀ next words words′ s s₂ : List ℕ} {fell : Bool} (F : FloorHalf a m s) (x : NextHighs a m s next₀ next) (g : Fell a m users next s s₂ words words′ fell) where
-    sought-free : (c : ℕ) → sought a m c ≡ true → free c ≡ true
-    sought-free c q = both-true (member m c) (free c) q .1
-
-    is-sought : (c : ℕ) → member m c ≡ true → free c ≡ true → sought a m c ≡ true
-    is-sought c r f = rw (r, f)
-
+  module _ {users next₀ next words s s₂ : List ℕ} {fell : Bool} (F : FloorHalf a m s) (x : NextHighs a m s next₀ next) (g : Fell a m users next s s₂ words fell) where
     high-fall : (c : ℕ) → c < n → held n s₂ c .high ≤ held n s c .high
     high-fall c l = ⊎-elim (λ e. omega arith) (λ e. omega (arith, e .0 .1, e .1)) (g .falls c l)
 
     others₂ : (c : ℕ) → c < n → free c ≡ false → held n s₂ c .high ≡ held n s c .high
-    others₂ c l f = ⊎-elim (λ e. e) (λ e. absurd (true≢false (sym (sought-free c (e .0 .0)) ∙ f))) (g .falls c l)
+    others₂ c l f = ⊎-elim (λ e. e) (λ e. absurd (true≢false (sym (sought-free a m c (e .0 .0)) ∙ f))) (g .falls c l)
 
     room₂ : roomAt lower a s₂ ≡ roomAt lower a s
     unfolding room
@@ -224,7 +210,7 @@ module _ (a : List ℕ) (m : List Bool) where
     pub less₂ : fell ≡ true → toLearn a s₂ < toLearn a s
     less₂ z =
         let p = g .moves z in
-        let f : free (p .0) ≡ true = sought-free (p .0) (p .2 .0) in
+        let f : free (p .0) ≡ true = sought-free a m (p .0) (p .2 .0) in
         omega (
           arith,
           room₂,
@@ -262,7 +248,7 @@ module _ (a : List ℕ) (m : List Bool) where
 
     -- whoever does not wait negates nobody whose high end fell
     module _ (q : AllRest a m s) where
-      rests₂ : Users a users → (c : ℕ) → c < n → member m c ≡ true → has words′ c ≡ false → RestsAt lower a s₂ c
+      rests₂ : Users a users → (c : ℕ) → c < n → member m c ≡ true → has words c ≡ false → RestsAt lower a s₂ c
       unfolding pageOf
       rests₂ u c l r o =
           omega (
@@ -276,7 +262,7 @@ module _ (a : List ℕ) (m : List Bool) where
                 ]),
           )
 
-      pub indexed₂ : {lines : List ℕ} → MaybeIndex a lines users → MaybeIndexed lower a m lines users s₂ words′
+      pub indexed₂ : {lines : List ℕ} → MaybeIndex a lines users → MaybeIndexed lower a m lines users s₂ words
       indexed₂ = ⊎-elim (λ z. inl z) (λ i. inr (record { lines-in = i .0; users-in = i .1; waiting = record { set = g .set-in; rests = rests₂ (i .1) } }))
 
       -- none fell
@@ -288,7 +274,7 @@ module _ (a : List ℕ) (m : List Bool) where
             half = half₂;
             rests = rests-same s s₂ e (F .half .page-sound) q;
             still = λ y c l. e c l ∙ same c l;
-            down = λ y c l r f. let o = is-sought c r f in omega (arith, g .down c l o, x .each c l o, high-eq (T-same s s₂ e (F .half .page-sound) c l));
+            down = λ y c l r f. let o = sought-here a m c r f in omega (arith, g .down c l o, x .each c l o, high-eq (T-same s s₂ e (F .half .page-sound) c l));
             moves = λ y. absurd (false≢true y);
           }
 

@@ -26,14 +26,8 @@ use Rattle.unknowns.proofs.Sought.{none-free}
 use Rattle.rounds.specs.Round.{MarkedWait, HighsBegun, LowsBegun, Woke, past, LowsWait, TurnedAt, ToppedAt, closedAt, Comparable, Fresh, Searched, LinesHave, toLearn, FloorHalf, Floored, RoundReady, Rounded, Alternated}
 use Rattle.settle.proofs.Halves.{settled-alike}
 use Rattle.settle.proofs.Raising.{S, E}
-use Rattle.rounds.proofs.Turns.{turned-same, topped-same, topped-by, capped-by, turned-by, lows-same, floor-first, lows-known, rounds-end}
+use Rattle.rounds.proofs.Turns.{low-eq, high-eq, turned-same, topped-same, topped-by, capped-by, turned-by, lows-same, floor-first, lows-known, rounds-end}
 use Rattle.rounds.proofs.Flooring.{floored-plain}
-
-low-eq : {p q : Interval} → p ≡ q → p .low ≡ q .low
-low-eq h = ap (λ (r : Interval). r .low) h
-
-high-eq : {p q : Interval} → p ≡ q → p .high ≡ q .high
-high-eq h = ap (λ (r : Interval). r .high) h
 
 module _ (a : List ℕ) (m : List Bool) (s : List ℕ) (b : RoundReady a m s) where
   abbrev n : ℕ
@@ -197,8 +191,7 @@ module _ (a : List ℕ) (m : List Bool) (s : List ℕ) (b : RoundReady a m s) wh
         pub rounded-told : Rounded a m s s₄ changed
         rounded-told = rounded ended (λ y. y)
 
-        -- The low ends are as before wherever a rule of a reached condition negates them, and so are the high ends of the conditions that are
-        -- unknown by default.
+        -- no reached condition is unknown by default, and the low ends are as before wherever a rule of a reached condition negates them
         module _ (numbers : (c : ℕ) → c < n → getD s₄ (2 * n + (2 * c + 1)) 0 ≡ getD s₃ (2 * n + (2 * c + 1)) 0) (none : (c : ℕ) → c < n → member m c ≡ true → free c ≡ false)
             (fresh : (c : ℕ) → LinesHave (pageOf a .lines) (2 * c + 1) → Fresh a s₄ c) where
           number₄ : (c : ℕ) → c < n → getD s₄ (2 * n + (2 * c + 1)) 0 ≡ topOf a - held n s c .low

@@ -10,7 +10,7 @@ use lib.ListN.{length, getD, set, drop, length-set}
 use lib.Seq.{getD-set-same, getD-set-other, drop-set-lt, ext-getD}
 use Rattle.fixpoint.proofs.Cond.{cond-true, cond-false}
 use Rattle.fixpoint.proofs.KnowledgeOrder.{pair-eq}
-use Rattle.semantics.specs.Area.{sound, pageOf, topOf, conditionsOf}
+use Rattle.semantics.specs.Area.{pageOf, topOf, conditionsOf}
 use Rattle.semantics.specs.Body.{unknownByDefault}
 use Rattle.page.proofs.Head.{head-of}
 use Rattle.bits.specs.Words.{has}

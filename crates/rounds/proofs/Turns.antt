@@ -1,7 +1,7 @@
 -- A round of the alternating fixed point on the reached conditions: what holds where each half starts and ends, and where the rounds end.
 -- Assumes nothing.
 use mathlib.Core.Path.{_≡_, refl, sym, _∙_, ap}
-use mathlib.Core.Bool.{Bool, true, false, cond}
+use mathlib.Core.Bool.{Bool, true, false}
 use Prim.Native.Nat.{ℕ, zero, suc, _≤_, _<_, min}
 use native.Mathlib.Omega.{arith}
 use Rattle.fixpoint.specs.Interval.{Interval, Within, Assign}
@@ -25,10 +25,10 @@ use Rattle.fixpoint.proofs.Tables.{turned-first, turned-closed}
 use Rattle.semantics.specs.Grade.{upper}
 use Rattle.settle.specs.Ends.{nobody, settledEnd}
 
-low-eq : {p q : Interval} → p ≡ q → p .low ≡ q .low
+pub low-eq : {p q : Interval} → p ≡ q → p .low ≡ q .low
 low-eq h = ap (λ (r : Interval). r .low) h
 
-high-eq : {p q : Interval} → p ≡ q → p .high ≡ q .high
+pub high-eq : {p q : Interval} → p ≡ q → p .high ≡ q .high
 high-eq h = ap (λ (r : Interval). r .high) h
 
 -- a pair whose high end is at hand is its own merge

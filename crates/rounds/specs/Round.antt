@@ -135,7 +135,7 @@ pub record Lowered (a : List ℕ) (m : List Bool) (users next : List ℕ) (c : �
   pub falls : fell ≡ true → Falls a m next s c × Renegated a users c (set s (2 * conditionsOf a + 2 * c) (getD next c 0)) s′ words words′
 
 -- every high end that is above the next one falls
-pub record Fell (a : List ℕ) (m : List Bool) (users next s s′ words words′ : List ℕ) (fell : Bool) : Type 0 where
+pub record Fell (a : List ℕ) (m : List Bool) (users next s s′ words′ : List ℕ) (fell : Bool) : Type 0 where
   pub same-length : length s′ ≡ length s
   pub lows : (c : ℕ) → c < conditionsOf a → getD s′ (2 * c) 0 ≡ getD s (2 * c) 0
   pub falls : (c : ℕ) → c < conditionsOf a
@@ -144,7 +144,6 @@ pub record Fell (a : List ℕ) (m : List Bool) (users next s s′ words words′
   pub negated : (c : ℕ) → c < conditionsOf a → getD s′ (2 * c + 1) 0 ≡ topOf a - getD s′ (2 * conditionsOf a + 2 * c) 0
   pub beyond : drop (4 * conditionsOf a) s′ ≡ drop (4 * conditionsOf a) s
   pub set-in : WaitSet (conditionsOf a) words′
-  pub kept : (d : ℕ) → d < 512 → has words d ≡ true → has words′ d ≡ true
   pub woken : (length users ≡ 0) ⊎ ((c : ℕ) → c < conditionsOf a → getD s′ (2 * conditionsOf a + 2 * c) 0 ≢ getD s (2 * conditionsOf a + 2 * c) 0
       → (h : ℕ) → linesRead (2 * c + 1) (pageOf a .lines) h ≡ true → has words′ h ≡ true)
   pub still : fell ≡ false → (c : ℕ) → c < conditionsOf a → getD s′ (2 * conditionsOf a + 2 * c) 0 ≡ getD s (2 * conditionsOf a + 2 * c) 0

@@ -202,7 +202,7 @@ fn fall(
     next: &[u8],
 ) -> bool
     requires { ⌜ Fallible (now a) (now marks) (now users) (now next) (now scratch) (now words) ⌝ }
-    ensures { λ r. ⌜ Fell (now (a .entry)) (now (marks .entry)) (now (users .entry)) (now (next .entry)) (now (scratch .entry)) (now (scratch .exit)) (now (words .entry)) (now (words .exit)) r ⌝ }
+    ensures { λ r. ⌜ Fell (now (a .entry)) (now (marks .entry)) (now (users .entry)) (now (next .entry)) (now (scratch .entry)) (now (scratch .exit)) (now (words .exit)) r ⌝ }
 {
     let n = a[1];
     let mut fell = false;
@@ -304,5 +304,15 @@ pub fn alternate(
     let mut tops = [0u64; 8];
     let mut lows = [0u64; 8];
     wait_all(marks, users, a[1], &mut lows);
-    while round(a, lines, users, marks, scratch, &mut tops, &mut lows, next, free) {}
+    while round(
+        a,
+        lines,
+        users,
+        marks,
+        scratch,
+        &mut tops,
+        &mut lows,
+        next,
+        free,
+    ) {}
 }

@@ -71,4 +71,3 @@ alternate-spec =
     same-length
     same-length-2
     returns)
-

@@ -56,4 +56,3 @@ fall-spec =
     same-length
     same-length-2
     returns)
-

@@ -58,4 +58,3 @@ lower-floor-spec =
     same-length-5
     same-length-6
     returns-2)
-

@@ -86,4 +86,3 @@ lower-free-spec =
     same-length
     same-length-2
     returns-3)
-

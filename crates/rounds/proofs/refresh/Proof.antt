@@ -95,4 +95,3 @@ refresh-spec =
     loop-again
     same-length
     returns)
-

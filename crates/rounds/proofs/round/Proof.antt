@@ -1,6 +1,6 @@
 -- `round` is a round of the alternating fixed point. Where a reached condition is unknown by default it is the last if no end moved
 -- (`rounded-told`); else if no low end rose (`rounded-still`), or none that a rule negates (`rounded-rose`).
-use mathlib.Core.Path.{refl, sym, _∙_}
+use mathlib.Core.Path.{refl}
 use native.Mathlib.Omega.{arith}
 use borrow.Author.Needs.{needs}
 use borrow.Author.Tests.{not-true, not-false}
@@ -99,4 +99,3 @@ round-spec =
     same-length-9
     same-length-10
     returns-3)
-

@@ -1,5 +1,5 @@
 -- `settle_floor` settles the low ends and lowers high ends until none falls (`Flooring`).
-use mathlib.Core.Path.{refl, sym, _∙_}
+use mathlib.Core.Path.{sym, _∙_}
 use native.Mathlib.Omega.{arith}
 use Rattle.rounds.specs.Round.{toLearn}
 use Rattle.rounds.proofs.Flooring.{indexed-index, Flooring, flooring-first, flooring-next, flooring-last}
@@ -54,4 +54,3 @@ settle-floor-spec =
     same-length-2
     same-length-3
     returns)
-

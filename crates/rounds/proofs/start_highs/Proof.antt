@@ -113,4 +113,3 @@ start-highs-spec =
     loop-again
     same-length
     returns)
-
