@@ -25,6 +25,10 @@
  * Rounding. In the value of a rule each division, that of P and that of the weight, rounds the low end down and the high end up: weight 5
  * over grade 5 at top 10 is 2 to 3. So the exact figures of a page, worked with fractions, lie within its plain intervals.
  *
+ * Unknown by default. A D line of the page makes its condition unknown by default, as for a sensor that is not fitted. Without F and R lines such a
+ * condition holds 0 and top in both readings, where any other is false, 0 and 0. With such lines they decide; in a support of the closed reading it
+ * holds 0 and top either way.
+ *
  * Allowance. No run takes more evaluations than the bound that its opening returned. Pass that bound, or less, as the allowance of a
  * drive, not the largest number: on a run area that was damaged or belongs to another page, and is sound by chance, a drive may
  * never come to rest.
@@ -205,7 +209,7 @@ int32_t simjorad_evaluate(const uint16_t *page, size_t page_length, uint16_t *ru
  * Drive: evaluates the lowest waiting condition until none waits or the allowance is used.
  * Returns 1 for rest, 0 for spent, or minus 10 or 14. Sets *taken to the evaluations taken, and *line to the line that its last evaluation
  * tells: the number of the first F or R line of that condition whose low end, on the intervals held before that evaluation, is the
- * condition's new low end (lines count from 1, and the G line is 1). It is never a D line. *line is 0 if the condition has no F or R lines, or if
+ * condition's new low end (lines count from 1, and the G line is 1). It is never a D line, though D lines count. *line is 0 if the condition has no F or R lines, or if
  * no evaluation was taken. Writes among the first 3 * C numbers of run.
  */
 int32_t simjorad_drive(const uint16_t *page, size_t page_length, uint16_t *run, size_t run_length, uint32_t allowance,
@@ -240,7 +244,7 @@ int32_t simjorad_line(const uint16_t *page, size_t page_length, const uint16_t *
 /*
  * Closed reading. Returns 0, or minus 10, 11, 12, 18 or 19. Writes low, high per query in list order to answers;
  * the first 4 * C numbers of scratch end as zero, and no other number of scratch is read or written. Each closed interval lies inside
- * the plain one of its condition.
+ * the plain one of its condition. A condition unknown by default holds 0 and top in every support.
  * Sets *rounds to the count of rounds: from [0;top] on every condition that the queries reach, each next assignment is the body value of the
  * last joined with its support; the count is the number of the first assignment that the next one equals. It is at most R * top, which needs 32 bits.
  */
