@@ -43,8 +43,9 @@
  *   value            no more than the check
  *   line             a scan of the page for the lines of the condition, and one up to the line
  *   closed           scans of the page until nothing changes, which can be many; then for each round counted a scan, and some more where a
- *                    negated low end rose
- *   closed_indexed   an index, then only the lines of what waits, and for each round counted those of what moved
+ *                    negated low end rose; where a reached condition is unknown by default, one more in each round and for each fall of such high ends
+ *   closed_indexed   an index, then only the lines of what waits, and for each round counted those of what moved; the scans for conditions
+ *                    unknown by default as in closed
  *   layers           scans of the page until nothing changes, usually a few and at most C; if the page is refused 30, a search with at most
  *                    2 * C scans more
  *   check_picks      a scan of the page for each reached condition, then for each pick a scan for the lines of the condition, and one
