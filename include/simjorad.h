@@ -43,7 +43,8 @@
  *   value            no more than the check
  *   line             a scan of the page for the lines of the condition, and one up to the line
  *   closed           scans of the page until nothing changes, which can be many; then for each round counted a scan, and some more where a
- *                    negated low end rose; where a reached condition is unknown by default, one more in each round and for each fall of such high ends
+ *                    negated low end rose; where a reached condition is unknown by default, one more in each round and for each fall of
+ *                    such high ends
  *   closed_indexed   an index, then only the lines of what waits, and for each round counted those of what moved; the scans for conditions
  *                    unknown by default as in closed
  *   layers           scans of the page until nothing changes, usually a few and at most C; if the page is refused 30, a search with at most
@@ -210,8 +211,8 @@ int32_t simjorad_evaluate(const uint16_t *page, size_t page_length, uint16_t *ru
  * Drive: evaluates the lowest waiting condition until none waits or the allowance is used.
  * Returns 1 for rest, 0 for spent, or minus 10 or 14. Sets *taken to the evaluations taken, and *line to the line that its last evaluation
  * tells: the number of the first F or R line of that condition whose low end, on the intervals held before that evaluation, is the
- * condition's new low end (lines count from 1, and the G line is 1). It is never a D line, though D lines count. *line is 0 if the condition has no F or R lines, or if
- * no evaluation was taken. Writes among the first 3 * C numbers of run.
+ * condition's new low end (lines count from 1, and the G line is 1). It is never a D line, though D lines count. *line is 0 if the condition
+ * has no F or R lines, or if no evaluation was taken. Writes among the first 3 * C numbers of run.
  */
 int32_t simjorad_drive(const uint16_t *page, size_t page_length, uint16_t *run, size_t run_length, uint32_t allowance,
                        uint32_t *taken, uint32_t *line);

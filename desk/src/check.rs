@@ -106,9 +106,7 @@ fn without_lines(page: &Page, readings: &Readings) -> Vec<Warning> {
         let label = page.label(condition);
         let mut more = named_lines(page, readings, condition);
         more.extend(opened_or_shut(page, readings, condition));
-        more.push(format!(
-            "if {label} is not measured, write D,{condition},U"
-        ));
+        more.push(format!("if {label} is not measured, write D,{condition},U"));
         Warning {
             text: format!(
                 "{label} has no F or R line: {}, not unknown",
