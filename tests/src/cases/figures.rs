@@ -197,7 +197,7 @@ fn row_03_closed_cuts_an_unsupported_rule(trial: &mut Trial, _: u64) -> Check {
 
 fn row_04_condition_without_lines_is_zero_after_one_evaluation(trial: &mut Trial, _: u64) -> Check {
     let area = load(trial, "G,1,1\n")?;
-    figure("the area", area.clone(), vec![1, 1, 0, 4])?;
+    figure("the area", area.clone(), vec![1, 1, 0, 5, 0])?;
     let (_, measures) = opened(trial, &area, 0)?;
     figure("the bound", measures.bound, 1)?;
     let (_, taken) = plain_of(trial, &area, 0)?;

@@ -2,6 +2,7 @@
 //! and eight literals with stated figures.
 
 use crate::answer::Driven;
+use crate::area::without_defaults;
 use crate::body::End;
 use crate::closed::scratch_length;
 use crate::ffi::Call;
@@ -350,21 +351,22 @@ fn closed_values(trial: &mut Trial, top: u16, rules: &[PointRule]) -> Check<Vec<
     };
     let n = rules.len() as u16;
     let count = 3 * n;
-    let mut area = vec![top, count, 0, 0];
+    let mut lines = 0;
+    let mut numbers = Vec::new();
     for ((kind, weight, p, q), rule) in rules.iter().zip(0..) {
-        area.extend([n + 2 * rule, 0, *p, *p]);
+        numbers.extend([n + 2 * rule, 0, *p, *p]);
         let literal = 2 * (n + 2 * rule);
-        area[2] += 2;
+        lines += 2;
         match q {
             Some(q) => {
-                area.extend([n + 2 * rule + 1, 0, *q, *q]);
-                area.extend([rule, *kind, *weight, 2, literal, literal + 2]);
-                area[2] += 1;
+                numbers.extend([n + 2 * rule + 1, 0, *q, *q]);
+                numbers.extend([rule, *kind, *weight, 2, literal, literal + 2]);
+                lines += 1;
             }
-            None => area.extend([rule, *kind, *weight, 1, literal]),
+            None => numbers.extend([rule, *kind, *weight, 1, literal]),
         }
     }
-    area[3] = area.len() as u16;
+    let area = without_defaults(top, count, lines, &numbers);
     let queries: Vec<u16> = (0..n).collect();
     let mut scratch = [0; 4 * 3 * ASKED];
     let mut workspace = [0; 400];
