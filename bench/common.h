@@ -12,13 +12,35 @@ enum {
     LITERALS_MAX = 8,
     QUERIES_MAX = 16,
     TEXT_MAX = 65535,
-    HEAD = 4,                                           /* top, C, lines, used length */
-    PAGE_MAX = HEAD + LINES_MAX * (4 + LITERALS_MAX),
+    HEAD = 4,                                           /* top, C, lines, used length; then C numbers, 1 for a condition unknown by default */
+    PAGE_MAX = HEAD + CONDITIONS_MAX + LINES_MAX * (4 + LITERALS_MAX),
     WORDS_MAX = CONDITIONS_MAX / 64
 };
 
-/* The kind of a line, its second number. */
-enum { FACT, RULE_M, RULE_X, RULE_L, RULE_B, RULE_P, QUERY };
+/* The kind of a line, its second number: F and R lines come before QUERY. */
+enum { FACT, RULE_M, RULE_X, RULE_L, RULE_B, RULE_P, QUERY, DEFAULT };
+
+typedef uint64_t set[WORDS_MAX];                    /* a set of conditions */
+
+static inline void set_add(set s, unsigned c)
+{
+    s[c / 64] |= (uint64_t)1 << c % 64;
+}
+
+static inline int set_has(const set s, unsigned c)
+{
+    return s[c / 64] >> c % 64 & 1;
+}
+
+static inline const uint16_t *first_line(const uint16_t *page)
+{
+    return page + HEAD + page[1];
+}
+
+static inline int unknown_by_default(const uint16_t *page, unsigned c)
+{
+    return page[HEAD + c];
+}
 
 static inline int is_rule(const uint16_t *line)
 {
@@ -35,16 +57,17 @@ static inline int page_sound(const uint16_t *page, size_t length)
 {
     unsigned top, count, lines, used, i, n;
     const uint16_t *p, *end;
+    set unknown = { 0 };                                /* the conditions with a D line */
 
     if (length < HEAD)
         return 0;
     top = page[0], count = page[1], lines = page[2], used = page[3];
-    if (top - 1 >= TOP_MAX || count - 1 >= CONDITIONS_MAX || lines > LINES_MAX || used < HEAD || used > length)
+    if (top - 1 >= TOP_MAX || count - 1 >= CONDITIONS_MAX || lines > LINES_MAX || used < HEAD + count || used > length)
         return 0;
-    p = page + HEAD;
+    p = first_line(page);
     end = page + used;
     for (; lines > 0; lines--) {
-        if (end - p < 4 || p[0] >= count || p[1] > QUERY)
+        if (end - p < 4 || p[0] >= count || p[1] > DEFAULT)
             return 0;
         if (is_rule(p)) {
             n = p[3];
@@ -55,13 +78,23 @@ static inline int page_sound(const uint16_t *page, size_t length)
                 if (p[i] >= 2 * count)
                     return 0;
             p += n;
+        } else if (p[1] == DEFAULT) {
+            if (p[2] != 0 || p[3] != 0 || set_has(unknown, p[0]))
+                return 0;
+            set_add(unknown, p[0]);
+            p += 4;
         } else {
             if (p[1] == FACT ? p[2] > p[3] || p[3] > top : p[2] > 1 || p[3] != 0)
                 return 0;
             p += 4;
         }
     }
-    return p == end;
+    if (p != end)
+        return 0;
+    for (i = 0; i < count; i++)
+        if (page[HEAD + i] != set_has(unknown, i))
+            return 0;
+    return 1;
 }
 
 static inline int run_sound(const uint16_t *run, size_t length, unsigned top, unsigned count)

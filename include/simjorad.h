@@ -71,8 +71,8 @@ extern "C" {
  * measurements and do not count). SIMJORAD_LAYOUT is raised whenever the layout of a page area or a run area changes: an area that was
  * kept under another layout must be read or opened again.
  */
-#define SIMJORAD_VERSION 12
-#define SIMJORAD_LAYOUT 1
+#define SIMJORAD_VERSION 13
+#define SIMJORAD_LAYOUT 2
 
 /*
  * Layout 1.
@@ -98,7 +98,7 @@ extern "C" {
 #define SIMJORAD_QUERIES_MAX 16       /* entries of a query list */
 #define SIMJORAD_SEASON_MAX 4096      /* pairs of a season */
 #define SIMJORAD_TEXT_MAX 65535       /* bytes of a page's text */
-#define SIMJORAD_PAGE_MAX 12292       /* numbers of the longest page area */
+#define SIMJORAD_PAGE_MAX 12804       /* numbers of the longest page area */
 #define SIMJORAD_RUN_LENGTH(c) (3 * (c))     /* numbers of a run area for c conditions */
 #define SIMJORAD_SCRATCH_LENGTH(c) (4 * (c)) /* numbers of scratch for the closed reading of c conditions */
 #define SIMJORAD_SHARED_LENGTH(c) (6 * (c))  /* numbers of an area for the runs of two stalls of c conditions */
