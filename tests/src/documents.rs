@@ -231,7 +231,7 @@ fn page_lines(lines: &[String], top: &str, asked: &str) -> Check<Vec<String>> {
     for line in lines {
         let fields: Vec<&str> = line.split(',').collect();
         let named = match fields[0] {
-            "F" => &fields[1..2],
+            "F" | "D" => &fields[1..2],
             "R" => &fields[4..],
             _ => return Err(format!("{line:?} in a checked table")),
         };
