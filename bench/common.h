@@ -4,6 +4,7 @@
 
 #include <stddef.h>
 #include <stdint.h>
+#include <string.h>
 
 enum {
     TOP_MAX = 200,
@@ -188,6 +189,28 @@ static inline unsigned rule_end(const uint16_t *rule, const uint16_t *value, uns
             v = (v * value[*p] + add) / top;
     }
     return (v * rule[2] + add) / top;
+}
+
+/* 1 more than the high end that the lines give each of these conditions over the high ends by literal; 0 where it has no lines. */
+static inline void next_highs(const uint16_t *page, const set sought, const uint16_t *high, uint8_t *next)
+{
+    const uint16_t *p, *end = page + page[3];
+    unsigned top = page[0], v;
+
+    memset(next, 0, page[1]);
+    for (p = first_line(page); p < end; p = next_line(p)) {
+        if (p[1] >= QUERY || !set_has(sought, p[0]))
+            continue;
+        v = 1 + (p[1] == FACT ? p[3] : rule_end(p, high, top, top - 1));
+        if (v > next[p[0]])
+            next[p[0]] = v;
+    }
+}
+
+/* Whether that high end is below the one held. */
+static inline int falls(const uint8_t *next, const uint16_t *high, unsigned c)
+{
+    return next[c] != 0 && next[c] <= high[2 * c];
 }
 
 #endif

@@ -627,43 +627,31 @@ static int next_lows(const uint16_t *page, const uint8_t *seen, const uint16_t *
     return moved;
 }
 
-/* Whether a reached condition is unknown by default. */
-static int any_unknown(const uint16_t *page, const uint8_t *seen)
+/* The reached conditions that are unknown by default; returns 1 if there is one. */
+static int find_unknown(const uint16_t *page, const uint8_t *seen, set unknown)
 {
     unsigned c;
+    int any = 0;
 
+    memset(unknown, 0, sizeof(set));
     for (c = 0; c < page[1]; c++)
-        if (seen[c] && unknown_by_default(page, c))
-            return 1;
-    return 0;
+        if (seen[c] && unknown_by_default(page, c)) {
+            set_add(unknown, c);
+            any = 1;
+        }
+    return any;
 }
 
-/* 1 more than the high end that the lines give each reached condition unknown by default; 0 where it has none. */
-static void next_highs(const uint16_t *page, const uint8_t *seen, const uint16_t *high, uint8_t *next)
-{
-    const uint16_t *p, *end = page + page[3];
-    unsigned top = page[0], v;
-
-    memset(next, 0, page[1]);
-    for (p = first_line(page); p < end; p = next_line(p)) {
-        if (p[1] >= QUERY || !unknown_by_default(page, p[0]) || !seen[p[0]])
-            continue;
-        v = 1 + (p[1] == FACT ? p[3] : rule_end(p, high, top, top - 1));
-        if (v > next[p[0]])
-            next[p[0]] = v;
-    }
-}
-
-/* Those high ends are put where they are below the ones held. Returns 1 if any fell. */
+/* The high ends that `next` tells are put where they are below the ones held. Returns 1 if any fell. */
 static int put_highs(const uint16_t *page, const uint8_t *next, uint16_t *low, uint16_t *high)
 {
-    unsigned top = page[0], count = page[1], c;
+    unsigned c;
     int fell = 0;
 
-    for (c = 0; c < count; c++)
-        if (next[c] != 0 && next[c] <= high[2 * c]) {
+    for (c = 0; c < page[1]; c++)
+        if (falls(next, high, c)) {
             high[2 * c] = next[c] - 1;
-            low[2 * c + 1] = top - high[2 * c];
+            low[2 * c + 1] = page[0] - high[2 * c];
             fell = 1;
         }
     return fell;
@@ -682,14 +670,14 @@ static void refresh(const uint16_t *page, const uint16_t *low, uint16_t *high)
  * The low ends rise and the high ends of what is unknown by default fall until they stay, the other high ends being as they are. Returns 1 if any
  * moved.
  */
-static int settle_floor(const uint16_t *page, const uint8_t *seen, uint16_t *low, uint16_t *high)
+static int settle_floor(const uint16_t *page, const uint8_t *seen, const set unknown, uint16_t *low, uint16_t *high)
 {
     uint8_t next[CONDITIONS_MAX];
     int moved = rise(page, seen, low, 2);
 
     for (;;) {
         refresh(page, low, high);
-        next_highs(page, seen, high, next);
+        next_highs(page, unknown, high, next);
         if (!put_highs(page, next, low, high))
             return moved;
         moved = 1;
@@ -701,7 +689,7 @@ static int settle_floor(const uint16_t *page, const uint8_t *seen, uint16_t *low
  * The count of rounds, over tables that hold the closed reading. The support's high ends are settled again from those of the closed reading,
  * where the low end of a negated condition rose or the high end of one unknown by default fell.
  */
-static uint32_t count_rounds(const uint16_t *page, const uint8_t *seen, uint16_t *low, uint16_t *high, int unknown)
+static uint32_t count_rounds(const uint16_t *page, const uint8_t *seen, uint16_t *low, uint16_t *high, const set unknown, int any)
 {
     uint8_t least[CONDITIONS_MAX], next[CONDITIONS_MAX];
     unsigned top = page[0], count = page[1], c;
@@ -721,10 +709,10 @@ static uint32_t count_rounds(const uint16_t *page, const uint8_t *seen, uint16_t
         fell |= seen[c] && high[2 * c] != top;
     }
     for (;;) {
-        if (unknown)
-            next_highs(page, seen, high, next);
+        if (any)
+            next_highs(page, unknown, high, next);
         moved = next_lows(page, seen, low, high);
-        if (unknown)
+        if (any)
             dropped = put_highs(page, next, low, high);
         if (!moved && !dropped)
             return rounds + fell;
@@ -755,7 +743,8 @@ int32_t scan_closed(const uint16_t *page, size_t page_length, const uint16_t *qu
     uint8_t seen[CONDITIONS_MAX];
     const uint16_t *p, *end;
     unsigned top, count, c, i;
-    int fault, more, unknown;
+    set unknown;
+    int fault, more, any;
 
     if ((fault = closed_fault(page, page_length, queries, queries_length, scratch_length, answers_length)) != 0)
         return -fault;
@@ -781,7 +770,7 @@ int32_t scan_closed(const uint16_t *page, size_t page_length, const uint16_t *qu
         }
     } while (more);
 
-    unknown = any_unknown(page, seen);
+    any = find_unknown(page, seen, unknown);
     for (c = 0; c < count; c++)
         high[2 * c] = unknown_by_default(page, c) ? top : 0;
     do {
@@ -792,11 +781,11 @@ int32_t scan_closed(const uint16_t *page, size_t page_length, const uint16_t *qu
         rise(page, seen, high, 3);
         for (c = 0; c < count; c++)
             low[2 * c + 1] = top - high[2 * c];
-    } while (unknown ? settle_floor(page, seen, low, high) : rise(page, seen, low, 2) && stale(page, low, high));
+    } while (any ? settle_floor(page, seen, unknown, low, high) : rise(page, seen, low, 2) && stale(page, low, high));
 
     put_answers(low, high, queries, queries_length, answers);
     if (rounds)
-        *rounds = count_rounds(page, seen, low, high, unknown);
+        *rounds = count_rounds(page, seen, low, high, unknown, any);
     memset(scratch, 0, 4 * count * sizeof *scratch);
     return 0;
 }
