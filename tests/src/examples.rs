@@ -189,7 +189,7 @@ fn exported_functions(_: &mut Trial, _: u64) -> Check {
 }
 
 /// The version of the header and a fingerprint of what it declares. A change of either asks for the other.
-const VERSION: (usize, u64) = (12, 3_123_327_914_394_460_744);
+const VERSION: (usize, u64) = (13, 9_289_633_018_536_062_750);
 
 /// What a program may depend on: the figures but those of stack, and the declarations.
 fn version(_: &mut Trial, _: u64) -> Check {
