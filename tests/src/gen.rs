@@ -595,7 +595,7 @@ pub fn structured(rng: &mut Rng, most: u16) -> Page {
     page
 }
 
-/// A page of 512 conditions, 1,024 lines and top 200; 0 to 3 name special ones, the others are random.
+/// A page of 512 conditions, 1,024 lines and top 200; 0 to 4 name special ones, the others are random.
 pub fn limit_page(rng: &mut Rng, item: u64) -> Page {
     let literal = |cond: u16, negated: bool| Literal { cond, negated };
     let count = CONDITIONS_MAX;
@@ -649,6 +649,20 @@ pub fn limit_page(rng: &mut Rng, item: u64) -> Page {
                     closed: number % 2 == 0,
                     cond: number % count,
                 },
+            })
+            .collect(),
+        // A ring that fades by single steps, all of it unknown by default; each rule has a negation too.
+        4 => (0..LINES_MAX as u16)
+            .map(|number| match (number % 2, number / 2) {
+                (0, head) => Line::Rule {
+                    head,
+                    weight: 198,
+                    op: Op::M,
+                    body: (1..=8)
+                        .map(|step| literal((head + step) % count, step == 8))
+                        .collect(),
+                },
+                (_, cond) => Line::Default { cond },
             })
             .collect(),
         _ => return page(rng, Size::Limit),
