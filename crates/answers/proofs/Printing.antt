@@ -4,7 +4,7 @@ use mathlib.Core.Logic.{_≢_}
 use mathlib.Core.Bool.{true, false≢true}
 use mathlib.Core.List.{List, [], _∷_, _++_, append-nil, append-assoc}
 use Prim.Native.Nat.{ℕ, _+_, _*_, _-_, _≤_, _<_}
-use native.Mathlib.Decide.{decLe}
+use native.Mathlib.Decide.{decLe, ℕ-discrete}
 use native.Mathlib.Omega.{arith}
 use lib.ListN.{length, getD, take, drop, length-append}
 use lib.Seq.{take-at}
@@ -18,7 +18,7 @@ use Rattle.semantics.proofs.ReadProper.{accepted-proper}
 use Rattle.semantics.proofs.Soundness.{sound-proper}
 use Rattle.page.specs.Lines.{Next}
 use Rattle.page.proofs.Head.{head-of, top-is, conditions-is}
-use Rattle.page.proofs.Scan.{line-at, rule-kind, fact-kind, query-kind, fields-none, entry-fits, entry-head, entry-fields}
+use Rattle.page.proofs.Scan.{line-at, rule-kind, fact-kind, query-kind, fields-none, entry-fits, entry-head, entry-fields, default-kind}
 use Rattle.page.proofs.Scanning.{Scanning, linesLeft, scanning-first, lines-first, lines-moved, scanning-moved, lines-none}
 use Rattle.print.specs.Wrote.{Wrote}
 use Rattle.print.proofs.Writing.{wrote-none, wrote-then, wrote-as, wrote-front}
@@ -36,9 +36,9 @@ module _ (a : List ℕ) (at : ℕ) where
 
   module _ (t : every (lineTests (topOf a) (conditionsOf a) (usedOf a - at) (drop at a)) ≡ true) where
     -- an entry has a kind
-    kind-most : getD a (at + 1) 0 ≤ 6
+    kind-most : getD a (at + 1) 0 ≤ 7
     kind-most =
-        elim (decLe (getD a (at + 1) 0) 6) [
+        elim (decLe (getD a (at + 1) 0) 7) [
           | yes h ↦ h
           | no h ↦ absurd (false≢true (sym (entry-fields (topOf a) (conditionsOf a) (usedOf a - at) a at (entry-fits (topOf a) (conditionsOf a) (usedOf a - at) a at t) (entry-head (topOf a) (conditionsOf a) (usedOf a - at) a at t)
               ∙ fields-none (topOf a) (conditionsOf a) (getD a (at + 1) 0) (getD a (at + 2) 0) (getD a (at + 3) 0) (take (getD a (at + 3) 0) (drop (at + 4) a)) (omega arith)) ∙ t))
@@ -48,7 +48,11 @@ module _ (a : List ℕ) (at : ℕ) where
     unfolding queriesOf
     no-query n =
         elim (decLe 1 (getD a (at + 1) 0)) [
-          | yes h ↦ rw (line-at a at, rule-kind (getD a (at + 1) 0) h (omega (arith, kind-most)) .1)
+          | yes h ↦
+            elim (ℕ-discrete (getD a (at + 1) 0) 7) [
+              | yes d ↦ rw (line-at a at, default-kind (getD a (at + 1) 0) d)
+              | no d ↦ rw (line-at a at, rule-kind (getD a (at + 1) 0) h (omega (arith, kind-most)) .1)
+            ]
           | no h ↦ rw (line-at a at, fact-kind (getD a (at + 1) 0) (omega arith))
         ]
 
