@@ -13,7 +13,7 @@
 #include "simjorad.h"
 
 enum { READ, SHOW_LINE, OPEN, EVALUATE, DRIVE, DRIVE_INDEXED, VALUE, LINE, CLOSED, CLOSED_INDEXED, LAYERS, CHECK_PICKS, OPEN_FIRST,
-       OPEN_SECOND, EVALUATE_FIRST, EVALUATE_SECOND, TURN, FOLLOWERS, SEASON, FUNCTIONS };
+       OPEN_SECOND, EVALUATE_FIRST, EVALUATE_SECOND, TURN, FOLLOWERS, SMALL_PAGE, SEASON, FUNCTIONS };
 enum { SLICES = 5, OUTS = 9 };
 
 /* What a call is lent and answers. A slice that is not lent has no place here: its size is 0. */
@@ -53,6 +53,7 @@ int32_t engine_evaluate_first(const uint16_t *, size_t, uint16_t *, size_t, uint
 int32_t engine_evaluate_second(const uint16_t *, size_t, uint16_t *, size_t, uint32_t);
 int32_t engine_turn(const uint16_t *, size_t, uint16_t *, size_t, uint32_t, uint32_t *, uint32_t *, uint32_t *, uint32_t *, uint32_t *);
 int32_t engine_followers(const uint16_t *, size_t, uint32_t);
+int32_t engine_small_page(uint32_t, uint8_t *, size_t);
 int32_t engine_season(const uint16_t *, size_t, uint32_t *, uint32_t *, uint32_t *, uint32_t *, uint32_t *, uint32_t *, uint32_t *, int32_t *,
                       uint32_t *);
 #else
@@ -130,6 +131,9 @@ static void make(struct call *c)
         break;
     case FOLLOWERS:
         c->answer = (uint32_t)NAME(followers)(s[0].at, s[0].length, c->number);
+        break;
+    case SMALL_PAGE:
+        c->answer = (uint32_t)NAME(small_page)(c->number, s[0].at, s[0].length);
         break;
     default:
         c->answer = (uint32_t)NAME(season)(s[0].at, s[0].length, &c->outs[0], &c->outs[1], &c->outs[2], &c->outs[3], &c->outs[4],
@@ -405,6 +409,13 @@ int32_t simjorad_followers(const uint16_t *page, size_t page_length, uint32_t co
     return (int32_t)c.answer;
 }
 
+int32_t simjorad_small_page(uint32_t number, uint8_t *buffer, size_t buffer_length)
+{
+    struct call c = {.function = SMALL_PAGE, BYTES(0, buffer), .number = number};
+    hand_on(&c);
+    return (int32_t)c.answer;
+}
+
 int32_t simjorad_season(const uint16_t *pairs, size_t pairs_length, uint32_t *count, uint32_t *sum_low, uint32_t *sum_width,
                         uint32_t *smallest, uint32_t *largest, uint32_t *mean, uint32_t *remainder, int32_t *change, uint32_t *place)
 {
@@ -422,7 +433,7 @@ int32_t simjorad_season(const uint16_t *pairs, size_t pairs_length, uint32_t *co
 
 static const char *const names[FUNCTIONS] = {"read", "show_line", "open", "evaluate", "drive", "drive_indexed", "value", "line",
                                              "closed", "closed_indexed", "layers", "check_picks", "open_first", "open_second", "evaluate_first",
-                                             "evaluate_second", "turn", "followers", "season"};
+                                             "evaluate_second", "turn", "followers", "small_page", "season"};
 static FILE *file;
 
 static unsigned byte(void)

@@ -275,9 +275,12 @@ def _(f, x, t):
 
 @word('value aggregate')
 def _(f, x, t):
-    """aggregate A...: a struct of these fields, or a variant: its number, then its fields; a slice is a pointer and a length"""
+    """aggregate A...: a struct of these fields, or a variant: its number, then its fields; a slice is a pointer and a length; an array of
+    these elements"""
     if t[0] == 'tyStruct':
         return slice_of(f, x[1], t)
+    if t[0] == 'tyArray' and t[2] == ('lenLit', str(len(x[1]))):
+        return f'({f.ctype(t)}){{ {{ {", ".join(operand(f, a)[0] for a in x[1])} }} }}', ATOM
     if t[0] != 'tyNamed':
         raise Unknown(f'an aggregate of the type {t}')
     if f.program.shape(t)[0] == 'variants':

@@ -32,7 +32,7 @@ def chain(parts, cons='lcons', nil='lnil'):
 
 def function(name, types, parameters, body):
     """A function of the MIR; types: of the locals, body: its statements."""
-    listed = chain([f'(local {t} valueLocal)' for t in types])
+    listed = chain([f'(local {t} {"memorySlot" if t.startswith("(tyArray ") else "valueLocal"})' for t in types])
     for statement in reversed(body):
         code = f'(seq {statement} {code})' if statement is not body[-1] else f'(seq {statement} return)'
     return f'(fn-def "t::{name}" (fnItem 0 lnil {parameters} {listed} {code}))'
@@ -71,6 +71,13 @@ def operations():
         yield f'cast signed unsigned {w}', [number(64), number(w), number(w)], body, w, lambda a, b, w: signed(a, w)
         body = [assign(3, f'(op1 not {copy(1)})'), widened(0, 3)]
         yield f'not {w}', [number(64)] + [number(w)] * 3, body, w, lambda a, b, w: 2 ** w - 1 - a
+        array = f'(tyArray {number(w)} (lenLit 3))'
+        types = [number(64), number(w), number(w), array, f'(tyRef erased imm {array})', f'(tyRef erased imm {number(w)})', number(w)]
+        for k, meaning in enumerate((lambda a, b, w: b, lambda a, b, w: a, lambda a, b, w: 7)):
+            body = [assign(3, f'(aggregate {chain([copy(2), copy(1), f"(int {w} 7)"])})'), assign(4, '(addrOf (place 3 lnil))'),
+                    assign(5, f'(op2 offset {copy(4)} (int 64 {k * w // 8}))'),
+                    assign(6, f'(rvOpd (copy (place 5 (lcons (deref {number(w)}) lnil))))'), widened(0, 6)]
+            yield f'element {k} of {w}', types, body, w, meaning
         constant = 2 ** (w - 1) + 1
         body = [assign(3, f'(op1 not (int {w} {constant}))'), assign(3, f'(op2 and {copy(3)} {copy(1)})'), widened(0, 3)]
         yield f'constant {w}', [number(64)] + [number(w)] * 3, body, w, lambda a, b, w: (2 ** w - 1 - (2 ** (w - 1) + 1)) & a
@@ -134,12 +141,13 @@ def refused():
            'an unknown value': [assign(3, f'(blend {copy(1)})')],
            'another signed comparison': [assign(3, f'(op2 (le signed) {copy(1)} {copy(2)})')],
            'a cast between signed numbers': [assign(3, f'(op1 (cast signed signed 64) {copy(1)})')],
+           'an array of another length': [assign(4, f'(aggregate {chain([copy(1)])})')],
            'a recursion': [f'(call (direct (fnRef "t::op_0")) (lcons {copy(1)} (lcons {copy(2)} lnil)) (place 3 lnil))'],
            'an unknown function': [f'(call (direct (fnRef "t::gone")) (lcons {copy(1)} lnil) (place 3 lnil))']}
     passed = 0
     for name, body in bad.items():
         try:
-            translated([function('op_0', [number(32)] * 4, 2, body + [assign(0, f'(rvOpd {copy(3)})')])])
+            translated([function('op_0', [number(32)] * 4 + [f'(tyArray {number(32)} (lenLit 2))'], 2, body + [assign(0, f'(rvOpd {copy(3)})')])])
             print(f'{name} is not refused')
         except Unknown:
             passed += 1

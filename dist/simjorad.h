@@ -48,6 +48,7 @@
  *   open_first, open_second, evaluate_first, evaluate_second   as open and evaluate
  *   turn             as a drive of each run by the evaluations that it takes; both runs are checked once, and no line is looked for
  *   followers        scans of the page until one finds no further follower, usually a few and at most C + 1
+ *   small_page       the bytes of the text are written twice, in memory of the call and then in the buffer; no list is kept
  *   season           two passes over the pairs
  *
  * simjorad_drive_indexed and simjorad_closed_indexed give the same answers and the same areas as simjorad_drive and
@@ -71,7 +72,7 @@ extern "C" {
  * measurements and do not count). SIMJORAD_LAYOUT is raised whenever the layout of a page area or a run area changes: an area that was
  * kept under another layout must be read or opened again.
  */
-#define SIMJORAD_VERSION 12
+#define SIMJORAD_VERSION 13
 #define SIMJORAD_LAYOUT 1
 
 /*
@@ -96,6 +97,8 @@ extern "C" {
 #define SIMJORAD_LINES_MAX 1024       /* lines after the first */
 #define SIMJORAD_LITERALS_MAX 8       /* literals of a rule */
 #define SIMJORAD_QUERIES_MAX 16       /* entries of a query list */
+#define SIMJORAD_SMALL_PAGES 242      /* small pages, numbers 0 to 241 */
+#define SIMJORAD_SMALL_TEXT_MAX 28    /* bytes of the longest text of a small page */
 #define SIMJORAD_SEASON_MAX 4096      /* pairs of a season */
 #define SIMJORAD_TEXT_MAX 65535       /* bytes of a page's text */
 #define SIMJORAD_PAGE_MAX 12292       /* numbers of the longest page area */
@@ -133,6 +136,7 @@ extern "C" {
 #define SIMJORAD_STACK_EVALUATE_SECOND 1664
 #define SIMJORAD_STACK_TURN 1856
 #define SIMJORAD_STACK_FOLLOWERS 384
+#define SIMJORAD_STACK_SMALL_PAGE 320
 #define SIMJORAD_STACK_SEASON 256
 
 /* Refusals, each with its cause. */
@@ -161,6 +165,8 @@ extern "C" {
 #define SIMJORAD_PICKS_NOT_AT_REST 51 /* the run is not at rest after the last pick */
 #define SIMJORAD_FIGURES_WRONG 52     /* the figures have another length, or are not the plain answers */
 #define SIMJORAD_SHARED_SHORT 60      /* the shared area is shorter than 6 * C */
+#define SIMJORAD_SMALL_NUMBER 70      /* a number over 241 */
+#define SIMJORAD_BUFFER_SHORT 71      /* the buffer is too short for the text */
 #define SIMJORAD_SEASON_LENGTH 80     /* an odd count of numbers, or not 1 to 4,096 pairs */
 #define SIMJORAD_SEASON_PAIR 81       /* a pair with low above high, or high over 200 */
 
@@ -307,6 +313,14 @@ int32_t simjorad_turn(const uint16_t *page, size_t page_length, uint16_t *area, 
  * chain of naming steps leads back to it. Returns the count, 0 to C, or minus 10 or 15. Nothing is written.
  */
 int32_t simjorad_followers(const uint16_t *page, size_t page_length, uint32_t condition);
+
+/*
+ * A small page, for a test of the arm: its text at the start of buffer. The small pages have top 1, one or two conditions, and none to two lines
+ * after the first, each a fact or an M rule of weight 1 with one literal; equal lines are allowed and their order counts. They have the numbers 0 to
+ * 241, by count of conditions, then of lines, then by the bytes of the text. Returns the text's length in bytes, or minus 70 or 71. Writes the text, and
+ * leaves the bytes after it. buffer_length counts bytes; SIMJORAD_SMALL_TEXT_MAX is enough for each. simjorad_read accepts each text.
+ */
+int32_t simjorad_small_page(uint32_t number, uint8_t *buffer, size_t buffer_length);
 
 /*
  * A season's figures, of 1 to 4,096 answers for one condition: low, high of each in turn (pairs_length counts numbers, two for each answer). Returns 0,

@@ -231,6 +231,19 @@ static void followed(void)
     CHECK(simjorad_followers(NULL, 0, 0) == -SIMJORAD_PAGE_UNSOUND);
 }
 
+static void small_pages(void)
+{
+    uint8_t buffer[SIMJORAD_SMALL_TEXT_MAX + 1];
+
+    memset(buffer, 255, sizeof buffer);
+    CHECK(simjorad_small_page(SIMJORAD_SMALL_PAGES, buffer, sizeof buffer) == -SIMJORAD_SMALL_NUMBER && buffer[0] == 255);
+    CHECK(simjorad_small_page(SIMJORAD_SMALL_PAGES, NULL, 0) == -SIMJORAD_SMALL_NUMBER);
+    CHECK(simjorad_small_page(0, buffer, 5) == -SIMJORAD_BUFFER_SHORT && buffer[0] == 255);
+    CHECK(simjorad_small_page(0, buffer, sizeof buffer) == 6 && memcmp(buffer, "G,1,1\n\377", 7) == 0);
+    CHECK(simjorad_small_page(24, buffer, sizeof buffer) == SIMJORAD_SMALL_TEXT_MAX && buffer[SIMJORAD_SMALL_TEXT_MAX] == 255);
+    CHECK(memcmp(buffer, "G,1,1\nR,0,1,M,!0\nR,0,1,M,!0\n", SIMJORAD_SMALL_TEXT_MAX) == 0);
+}
+
 static void season(void)
 {
     static const uint16_t pairs[] = {5, 9, 2, 2, 5, 6, 3, 2};
@@ -257,6 +270,7 @@ int main(void)
     picked();
     stalls();
     followed();
+    small_pages();
     season();
     printf("%d passed, %d failed\n", passed, failed);
     return failed != 0;

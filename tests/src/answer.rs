@@ -28,6 +28,8 @@ pub const PICK_NOT_WAITING: Refusal = 50;
 pub const PICKS_NOT_AT_REST: Refusal = 51;
 pub const FIGURES_WRONG: Refusal = 52;
 pub const SHARED_SHORT: Refusal = 60;
+pub const SMALL_NUMBER: Refusal = 70;
+pub const BUFFER_SHORT: Refusal = 71;
 pub const SEASON_LENGTH: Refusal = 80;
 pub const SEASON_PAIR: Refusal = 81;
 

@@ -303,6 +303,7 @@ impl Document {
             "layers," => layers_of_pages(rest, table),
             "picks," => picks_of_pages(rest, table),
             "followers," => followers_of_pages(rest, table),
+            "small" => small_pages(table),
             "seasons" => seasons(table),
             "limits" => limits(table),
             "refusals" => refusals(table),
@@ -584,6 +585,28 @@ fn followers_of_pages(how: &str, table: &Table) -> Check {
             );
         }
         figure(&text, table.cell(row, "counts")?, &counts.join(", "))?;
+    }
+    Ok(())
+}
+
+/// `small pages`: columns number, text and length; a refusal is its number. The text is shown line by line.
+fn small_pages(table: &Table) -> Check {
+    let mut trial = Trial::new();
+    for row in &table.rows {
+        let number = table.cell(row, "number")?;
+        let asked = number.parse().map_err(|_| format!("{number:?}"))?;
+        let mut buffer = vec![0; 28];
+        let (text, length) = match trial.small_page(asked, &mut buffer)? {
+            Ok(length) => (
+                String::from_utf8_lossy(&buffer[..length]).to_string(),
+                length.to_string(),
+            ),
+            Err(refusal) => (String::new(), format!("refused {refusal}")),
+        };
+        let lines = quoted(table.cell(row, "text")?);
+        let stated: String = lines.iter().map(|line| line.clone() + "\n").collect();
+        figure(number, stated, text)?;
+        figure(number, table.cell(row, "length")?, &length)?;
     }
     Ok(())
 }

@@ -767,6 +767,23 @@ impl Engine {
         }
     }
 
+    pub fn small_page(
+        &mut self,
+        number: u32,
+        buffer: &mut [u8],
+    ) -> Result<Result<usize, Refusal>, String> {
+        let loan = self.lend(0, buffer);
+        let slices = [Self::note(buffer, loan.ptr() as usize)];
+        let arguments = [number as usize, loan.ptr_mut() as usize, buffer.len()];
+        let code = self.call(Call::SmallPage, u64::from(number), &slices, &arguments)? as i32;
+        loan.end_mut("buffer", buffer)?;
+        match code {
+            1.. => Ok(Ok(code as usize)),
+            -70 | -71 => Ok(Err(-code)),
+            _ => Err(format!("returned {code}")),
+        }
+    }
+
     pub fn season(&mut self, pairs: &[u16]) -> Result<Result<Season, SeasonRefusal>, String> {
         let (loan, length) = self.lend_area(0, pairs);
         let mut outs: Vec<Out<u32>> = (0..9).map(|_| self.out(|number| number as u32)).collect();

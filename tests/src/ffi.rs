@@ -60,6 +60,7 @@ calls! {
     EvaluateSecond simjorad_evaluate_second,
     Turn simjorad_turn,
     Followers simjorad_followers,
+    SmallPage simjorad_small_page,
     Season simjorad_season,
 }
 

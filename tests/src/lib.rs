@@ -1,6 +1,6 @@
 //! Outside tests of the rule-page engine, through its C interface.
 //!
-//! The reference solver is `page`, `area`, `body`, `reach`, `plain`, `book`, `closed`, `layers`, `picks`, `stalls`, `followers`, `season` and `enumerate`; each
+//! The reference solver is `page`, `area`, `body`, `reach`, `plain`, `book`, `closed`, `layers`, `picks`, `stalls`, `followers`, `small`, `season` and `enumerate`; each
 //! names the section of document 01 (`docs/RULES.md`) that it implements. `fast` is a second one for large pages. `workspace` says what
 //! an indexed form leaves there. The callee is reached through `ffi`, `guard`, `stack` and `engine`: what it only reads lies in memory that
 //! cannot be written, beside what it is lent there is no memory, and it has no more stack than the header says. `trial` compares
@@ -43,6 +43,7 @@ pub mod rng;
 pub mod runner;
 pub mod season;
 pub mod slot;
+pub mod small;
 pub mod spoil;
 pub mod stack;
 pub mod stalls;

@@ -22,6 +22,7 @@ use crate::picks;
 use crate::plain::{self, check_queries};
 use crate::reach;
 use crate::season;
+use crate::small;
 use crate::stalls::{half, shared_length, Stall, STALLS};
 use crate::workspace;
 
@@ -978,6 +979,62 @@ pub const FAULTS: &[(&str, &str, &str)] = &[
         "condition_taken_at_16_bits",
         "quick only CASE",
         "followers_have_their_stated_figures",
+    ),
+    // All small pages.
+    (
+        "small_pages_exchanged",
+        "quick only CASE",
+        "small_pages_have_their_stated_texts",
+    ),
+    (
+        "facts_of_two_ends_left_out",
+        "quick only CASE",
+        "small_pages_have_their_stated_texts",
+    ),
+    (
+        "digits_before_negations",
+        "quick only CASE",
+        "small_pages_have_their_stated_texts",
+    ),
+    (
+        "equal_lines_left_out",
+        "quick only CASE",
+        "small_pages_have_their_stated_texts",
+    ),
+    (
+        "small_pages_by_lines_first",
+        "quick only CASE",
+        "small_pages_have_their_stated_texts",
+    ),
+    (
+        "small_pages_by_text_alone",
+        "quick only CASE",
+        "small_pages_have_their_stated_texts",
+    ),
+    (
+        "buffer_short_before_number",
+        "quick only CASE",
+        "small_pages_have_their_stated_texts",
+    ),
+    (
+        "byte_after_the_text",
+        "quick only CASE",
+        "small_pages_have_their_stated_texts",
+    ),
+    (
+        "refused_small_page_written",
+        "quick only CASE",
+        "small_pages_have_their_stated_texts",
+    ),
+    (
+        "small_page_242_taken",
+        "quick only CASE",
+        "small_pages_have_their_stated_texts",
+    ),
+    (
+        "buffer_of_the_texts_length_refused",
+        "quick only CASE",
+        "small_pages_have_their_stated_texts",
     ),
     // A season's figures.
     (
@@ -2846,6 +2903,77 @@ pub unsafe extern "C" fn simjorad_followers(
         return -CONDITION_RANGE;
     }
     followers_of(&page, cond as u16).len() as i32
+}
+
+/// The texts of the small pages, with the planted fault.
+fn small_texts() -> Vec<Vec<u8>> {
+    let mut pages = small::pages().to_vec();
+    let two_ends = |line: &Line| {
+        matches!(
+            line,
+            Line::Fact {
+                low: 0,
+                high: 1,
+                ..
+            }
+        )
+    };
+    if fault("facts_of_two_ends_left_out") {
+        pages.retain(|page| !page.lines.iter().any(two_ends));
+    }
+    if fault("equal_lines_left_out") {
+        pages.retain(|page| page.lines.len() < 2 || page.lines[0] != page.lines[1]);
+    }
+    if fault("small_pages_by_lines_first") {
+        pages.sort_by_key(|page| (page.lines.len(), page.count, page.text()));
+    }
+    if fault("small_pages_by_text_alone") {
+        pages.sort_by_key(Page::text);
+    }
+    if fault("digits_before_negations") {
+        let turned = |page: &Page| -> Vec<u8> {
+            let last = |byte: u8| if byte == b'!' { b'~' } else { byte };
+            page.text().into_iter().map(last).collect()
+        };
+        pages.sort_by_key(|page| (page.count, page.lines.len(), turned(page)));
+    }
+    if fault("small_pages_exchanged") {
+        pages.swap(4, 5);
+    }
+    pages.iter().map(Page::text).collect()
+}
+
+pub unsafe extern "C" fn simjorad_small_page(
+    number: u32,
+    buffer: *mut u8,
+    buffer_length: usize,
+) -> i32 {
+    let buffer = lent_mut(buffer, buffer_length);
+    let texts = small_texts();
+    let mut number = number as usize;
+    if fault("small_page_242_taken") && number == 242 {
+        number = 241;
+    }
+    if fault("buffer_short_before_number") && buffer_length < 6 {
+        return -BUFFER_SHORT;
+    }
+    let Some(text) = texts.get(number) else {
+        return -SMALL_NUMBER;
+    };
+    if fault("buffer_of_the_texts_length_refused") && buffer_length == text.len() {
+        return -BUFFER_SHORT;
+    }
+    if buffer_length < text.len() {
+        if fault("refused_small_page_written") {
+            buffer.copy_from_slice(&text[..buffer_length]);
+        }
+        return -BUFFER_SHORT;
+    }
+    buffer[..text.len()].copy_from_slice(text);
+    if fault("byte_after_the_text") && text.len() < buffer_length {
+        buffer[text.len()] = 0;
+    }
+    text.len() as i32
 }
 
 /// The figures or the refusal, with the planted fault.

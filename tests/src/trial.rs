@@ -18,6 +18,7 @@ use crate::picks;
 use crate::plain;
 use crate::rng::Rng;
 use crate::season;
+use crate::small;
 use crate::stalls::{self, Stall};
 use crate::workspace;
 
@@ -604,6 +605,26 @@ impl Trial {
         if wanted.is_ok() && decode(page).is_some_and(back) {
             self.saw("followers, itself among them", 0);
         }
+        Ok(got)
+    }
+
+    pub fn small_page(&mut self, number: u32, buffer: &mut [u8]) -> Check<Result<usize, Refusal>> {
+        let before = buffer.to_vec();
+        let mut expected = before.clone();
+        let wanted = small::small_page(number, &mut expected);
+        let got = self.engine.small_page(number, buffer);
+        let input = Input {
+            op: "small_page",
+            slices: vec![("buffer", Slice::Bytes(&before))],
+            numbers: vec![("number", u64::from(number))],
+        };
+        let got = got.map_err(|reason| breach(&input, reason))?;
+        same(&input, &got, &wanted)?;
+        if *buffer != *expected {
+            let reason = format!("the buffer is {buffer:?} and should be {expected:?}");
+            return Err(breach(&input, reason));
+        }
+        self.saw("small_page", wanted.err().unwrap_or(0));
         Ok(got)
     }
 

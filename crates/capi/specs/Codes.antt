@@ -11,6 +11,7 @@ use Rattle.semantics.specs.Operation.{Opening, refusedOpening, openedWith, Clos
 use Rattle.semantics.specs.Picks.{PicksAnswer, refusedQueries, notWaiting, notAtRest, wrongFigures, acceptedPicks, picksNumber, PicksOf}
 use Rattle.semantics.specs.ReadPage.{ReadAnswer, refusedPage, readPage}
 use Rattle.semantics.specs.Stalls.{Told, TurnAnswer, refusedTurn, turned}
+use Rattle.semantics.specs.SmallPages.{SmallAnswer, refusedSmall, wroteSmall}
 use Rattle.semantics.specs.Season.{SeasonAnswer, refusedSeason, season, Figures}
 use Rattle.semantics.specs.Worklist.{Status, rest, spent}
 
@@ -184,6 +185,11 @@ pub record FollowersCall (code : ℤ) (area : List ℕ) (condition : ℕ) : Type
   pub answer : FollowersAnswer
   pub is : FollowersOf answer area condition
   pub code-is : code ≡ followersCode answer
+
+-- small page: minus the refusal number, or the text's length
+abbrev pub smallCode : SmallAnswer → ℤ
+smallCode (refusedSmall k) = minus k
+smallCode (wroteSmall n) = pos n
 
 -- season: minus the refusal number, or 0
 abbrev pub seasonCode : SeasonAnswer → ℤ

@@ -6,11 +6,12 @@ ghost use Rattle.semantics.specs.ReadPage.{readOf, lineOf, startOf};
 ghost use Rattle.semantics.specs.Operation.{openOf, evaluateOf, driveOf, valueOf, lineHeldOf, driveWorkspace, closedWorkspace};
 ghost use Rattle.semantics.specs.Stalls.{first, second, openStall, evaluateStall, turnOf};
 ghost use Rattle.reach.specs.Opening.{openingOf};
+ghost use Rattle.semantics.specs.SmallPages.{smallOf};
 ghost use Rattle.semantics.specs.Season.{seasonOf};
 ghost use Rattle.run.specs.Answers.{statusIf, evaluateAnswerOf, driveAnswerOf};
 ghost use Rattle.stalls.specs.Answers.{turnAnswerOf};
 ghost use Rattle.closed.specs.Answer.{closingTold};
-ghost use Rattle.capi.specs.Codes.{minus as Codes·minus, statusCode, answerCode, takenOr, lineOr, intervalOr, openCode, countsOr, readCode, lineTold, placeTold, closedCode, roundsOr, ClosedCall, LayersCall, PicksCall, restTold, turnCode, stallTold, firstOr, secondOr, FollowersCall, seasonCode, pairTold, figuresOr};
+ghost use Rattle.capi.specs.Codes.{minus as Codes·minus, statusCode, answerCode, takenOr, lineOr, intervalOr, openCode, countsOr, readCode, lineTold, placeTold, closedCode, roundsOr, ClosedCall, LayersCall, PicksCall, restTold, turnCode, stallTold, firstOr, secondOr, FollowersCall, smallCode, seasonCode, pairTold, figuresOr};
 use closed::ClosedAnswer;
 use followers::CountAnswer;
 use layers::Verdict;
@@ -19,6 +20,7 @@ use reach::OpenAnswer;
 use run::DriveAnswer;
 use run::EvaluateAnswer;
 use season::SeasonAnswer;
+use small::SmallAnswer;
 use stalls::Stall;
 use stalls::TurnAnswer;
 
@@ -471,6 +473,19 @@ pub extern "C" fn simjorad_followers(page: &[u16], condition: u32) -> i32
     match answer {
         CountAnswer::Refused(k) => minus(k),
         CountAnswer::Counted(k) => k as i32,
+    }
+}
+
+// The text of a small page: its length, or minus 70 or 71.
+#[no_mangle]
+pub extern "C" fn simjorad_small_page(number: u32, buffer: &mut [u8]) -> i32
+    ensures code { λ r. ⌜ r ≡ smallCode (smallOf number (now (buffer .entry)) .answer) ⌝ }
+    ensures buffer { λ _. ⌜ now (buffer .exit) ≡ smallOf number (now (buffer .entry)) .buffer ⌝ }
+{
+    let answer = small::small_page(number, buffer);
+    match answer {
+        SmallAnswer::Refused(k) => minus(k),
+        SmallAnswer::Wrote(n) => n as i32,
     }
 }
 

@@ -16,7 +16,6 @@ pub mod Repeats
 pub mod ReadLines
 pub mod ReadProper
 -- what is read is what was written
-pub mod Written
 pub mod TextParts
 pub mod TextNumbers
 pub mod TextForms
@@ -96,6 +95,10 @@ pub mod StallsBench
 pub mod Followers
 pub mod FollowersRows
 pub mod FollowersBench
+-- ticket 13: the list of all small pages
+pub mod Listing
+pub mod SmallPages
+pub mod SmallRows
 -- ticket 14: a season's figures
 pub mod Season
 pub mod SeasonRows

@@ -7,7 +7,7 @@ use Rattle.fixpoint.specs.Interval.{Interval}
 use Rattle.semantics.specs.Page.{K, W, defaults}
 use Rattle.semantics.proofs.Proper.{Proper}
 use Rattle.semantics.specs.Fields.{numberWithin, numberText}
-use Rattle.semantics.proofs.Written.{textOf}
+use Rattle.semantics.specs.Written.{textOf}
 use Rattle.semantics.specs.Output.{queriesOf, topFields, answerFields, endFields, printed, pageOutput, AnswersPrinted, IsOutput}
 use Rattle.semantics.proofs.Rows.{rows, page1}
 use Rattle.semantics.proofs.Bench.{bench}

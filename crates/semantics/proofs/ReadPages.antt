@@ -11,7 +11,7 @@ use Rattle.semantics.specs.Page.{Line}
 use Rattle.semantics.specs.Text.{textLines, fieldsOf, lineIn, topIn, conditionsIn, linesIn, pageIn}
 use Rattle.semantics.specs.ReadPage.{badLine, textRefusal, pageRead, usedBy, refusalOf, readOf}
 use Rattle.semantics.specs.Fields.{joined, endedLines}
-use Rattle.semantics.proofs.Written.{lineTexts, textOf}
+use Rattle.semantics.specs.Written.{lineTexts, textOf}
 use Rattle.semantics.proofs.RoundTrip.{page-area}
 use Rattle.semantics.proofs.ExactAreas.{proper-sound}
 use Rattle.semantics.proofs.ReadLines.{good-line, good-head, good-text, good-read}

@@ -15,7 +15,7 @@ use Rattle.semantics.specs.Area.{every}
 use Rattle.semantics.specs.Text.{field, isNumber, numberIn, isNegated, isLiteral, literalIn, allLiterals, isLetter, isOp, opIn, isReading, readingIn, headForm, isHead, factForm, isFact, ruleForm, isRule, queryForm, isQuery, defaultForm, isDefault, hasForm, lineIn}
 use Rattle.semantics.specs.ReadPage.{literalRanges, lineRanges}
 use Rattle.semantics.specs.Fields.{numberText, readingLetter}
-use Rattle.semantics.proofs.Written.{literalText, opLetter, lineFields, headFields}
+use Rattle.semantics.specs.Written.{literalText, opLetter, lineFields, headFields}
 use Rattle.semantics.proofs.Soundness.{both-true, every-true}
 use Rattle.semantics.proofs.FieldRanges.{NoFault, Sized, fields-in}
 use Rattle.semantics.proofs.TextNumbers.{written-number, written-value, first-not, number-back}

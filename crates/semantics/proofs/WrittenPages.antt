@@ -15,7 +15,7 @@ use Rattle.semantics.specs.Text.{textLines, fieldsOf, isHead, lineIn, to
 use Rattle.semantics.specs.ReadPage.{headRanges, lineRanges, leftmost, headFault, lineFault, badLine, badLineOf, textRefusal, pageRead, refusalOf, readPage, readOf}
 use Rattle.semantics.proofs.Rows.{page1}
 use Rattle.semantics.specs.Fields.{numberWithin, numberText, readingLetter, afterCommas, joined, endedLines}
-use Rattle.semantics.proofs.Written.{literalText, opLetter, lineFields, headFields, lineTexts, textOf}
+use Rattle.semantics.specs.Written.{literalText, opLetter, lineFields, headFields, lineTexts, textOf}
 use Rattle.semantics.proofs.FieldRanges.{not-outside, range-passes}
 use Rattle.semantics.proofs.Repeats.{defaults-pass, no-repeat}
 use Rattle.semantics.proofs.TextParts.{without, AllWithout, lines-of-ended, fields-of-joined, joined-without, ended-last}

@@ -39,5 +39,8 @@ pub mod Stalls
 pub mod StallsDemand
 -- document 02, ticket 12: how many conditions follow one
 pub mod Followers
+-- document 02, ticket 13: all small pages, and the text that says a page
+pub mod Written
+pub mod SmallPages
 -- document 02, ticket 14: a season's figures
 pub mod Season

@@ -15,6 +15,7 @@ mod refusals;
 mod rows;
 mod runs;
 mod season;
+mod small;
 pub mod stack;
 mod stalls;
 mod thresholds;
@@ -42,6 +43,7 @@ pub fn calls() -> Vec<Case> {
     cases.extend(picks::cases());
     cases.extend(stalls::cases());
     cases.extend(followers::cases());
+    cases.extend(small::cases());
     cases.extend(season::cases());
     cases.extend(thresholds::cases());
     cases.extend(lists::cases());

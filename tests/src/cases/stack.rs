@@ -67,9 +67,10 @@ static EVALUATE_FIRST: Function = function("SIMJORAD_STACK_EVALUATE_FIRST", 2048
 static EVALUATE_SECOND: Function = function("SIMJORAD_STACK_EVALUATE_SECOND", 2048);
 static TURN: Function = function("SIMJORAD_STACK_TURN", 2048);
 static FOLLOWERS: Function = function("SIMJORAD_STACK_FOLLOWERS", 2048);
+static SMALL_PAGE: Function = function("SIMJORAD_STACK_SMALL_PAGE", 2048);
 static SEASON: Function = function("SIMJORAD_STACK_SEASON", 2048);
 
-static FUNCTIONS: [&Function; 19] = [
+static FUNCTIONS: [&Function; 20] = [
     &READ,
     &SHOW_LINE,
     &OPEN,
@@ -88,6 +89,7 @@ static FUNCTIONS: [&Function; 19] = [
     &EVALUATE_SECOND,
     &TURN,
     &FOLLOWERS,
+    &SMALL_PAGE,
     &SEASON,
 ];
 
@@ -319,6 +321,14 @@ impl Bench<'_> {
     fn followers(&mut self, lent: &Lent, cond: usize) -> Check<i32> {
         self.call(&FOLLOWERS, Call::Followers.function(), lent, |lent| {
             [lent.page(), vec![cond]].concat()
+        })
+    }
+
+    /// A small page, its buffer in `text`.
+    fn small_page(&mut self, lent: &Lent, number: usize) -> Check<i32> {
+        self.call(&SMALL_PAGE, Call::SmallPage.function(), lent, |lent| {
+            let buffer = lent.text.as_mut_ptr() as usize;
+            vec![number, buffer, lent.text.len()]
         })
     }
 
@@ -560,6 +570,20 @@ impl Bench<'_> {
         figure("followers", self.followers(&lent, 0)?, -PAGE_UNSOUND)
     }
 
+    /// Every small page, and one more; with room and with none.
+    fn small_pages(&mut self) -> Check {
+        let mut lent = Lent {
+            text: vec![7; 28],
+            ..Lent::default()
+        };
+        for number in 0..242 {
+            figure("small_page", self.small_page(&lent, number)? > 0, true)?;
+        }
+        figure("small_page", self.small_page(&lent, 242)?, -SMALL_NUMBER)?;
+        lent.text.truncate(27);
+        figure("small_page", self.small_page(&lent, 24)?, -BUFFER_SHORT)
+    }
+
     /// The longest season, with its greatest change at the end, and refused lists.
     fn seasons(&mut self, good: &Lent) -> Check {
         let mut lent = good.clone();
@@ -629,6 +653,7 @@ fn on_a_large_page(trial: &mut Trial, item: u64) -> Check {
     lent.area = vec![7; shared_length(512)];
     bench.stalled(&lent)?;
     bench.followed(&lent)?;
+    bench.small_pages()?;
     bench.seasons(&lent)?;
     bench.over
 }
