@@ -46,8 +46,9 @@ APART = '''#ifdef __GNUC__
 #endif
 '''
 
-# such a function that is called in one place only, by a visible function, is a part of that one, whose frame would not be smaller without it;
-# gcc alone would leave it out for its arrays
+# such a function with fewer bytes of arrays than this that is called in one place only, by a visible function, is a part of that one, whose frame
+# would not be smaller without it; gcc alone would leave it out for its arrays
+SMALL = 256
 ONCE = '''#ifdef __GNUC__
 #define ONCE inline __attribute__((always_inline)) /* a part of the one function that calls it */
 #else
@@ -502,10 +503,10 @@ def apart(bodies, functions):
 
 
 def once(bodies, functions, exports):
-    """The functions with arrays that a visible function without any calls once, and no other place calls: see ONCE."""
-    return {name for name, found in sites_of(bodies).items()
-            if array_bytes(functions[name]) >= LARGE and len(found) == 1 and not found[0][1]
-            and found[0][0] in exports and array_bytes(functions[found[0][0]]) < LARGE}
+    """The functions with arrays that a visible function calls once, and no other place calls, and those visible ones: see SMALL."""
+    found = {name: sites[0][0] for name, sites in sites_of(bodies).items()
+             if LARGE <= array_bytes(functions[name]) < SMALL and len(sites) == 1 and not sites[0][1] and sites[0][0] in exports}
+    return {*found, *found.values()}
 
 
 def shared(bodies):
