@@ -56,6 +56,12 @@ ONCE = '''#ifdef __GNUC__
 #endif
 '''
 
+# The count of rounds of the closed reading is the call that takes the most stack. What its loop calls with arrays is a part of it (their frames
+# would each keep the slices at hand once more), and what runs beside these calls keeps its frame to itself.
+PARTS = {'stages::support', 'stages::advance', 'stages::follow', 'stages::take_highs', 'settle::raise_head'}
+BESIDE = {'page::page_sound', 'reach::mark_closure', 'closed::write_answers', 'settle::settle', 'stages::begin', 'stages::lower_tops',
+          'stages::note_all', 'stages::take_all'}
+
 # a function of more statements than this, with those that only it calls, is not inlined by gcc -O2 if it is called in two places
 LONG = 64
 SHARED = '''#if defined(__GNUC__) && defined(__OPTIMIZE__) && !defined(__OPTIMIZE_SIZE__)
@@ -127,7 +133,8 @@ class Program:
         self.bodies = {name: fold.fold(function) if folded else function.body for name, function in functions.items()}
         self.shared = shared(self.bodies)
         self.once = once(self.bodies, functions, exports)
-        self.apart = apart(self.bodies, functions) - self.once
+        self.once |= PARTS & set(self.bodies)
+        self.apart = (apart(self.bodies, functions) | BESIDE & set(self.bodies)) - self.once
         self.defined, self.helpers = {}, {}
 
     def shape(self, t):

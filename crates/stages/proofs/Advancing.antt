@@ -29,10 +29,10 @@ use Rattle.rounds.specs.Round.{MarkedWait, past, Comparable, Fresh, LinesHave}
 use Rattle.rounds.proofs.AllWaiting.{nobody-waits}
 use Rattle.unknowns.specs.NextHighs.{sought, Places, HighTable, NextHighs}
 use Rattle.stages.specs.Steps.{Nobody, freeAt, FreeTold, ahead, seen, Notable, AllNoted, LowsRest, TakeReady, AllTaken, LookedAgain, HighsReady, HighsTaken}
-use Rattle.stages.specs.Stages.{stageAt, betweenAt, Tables, Tops, Older, AtSupport, Advanced}
+use Rattle.stages.specs.Stages.{stageAt, Tables, Tops, Older, AtSupport, Advanced}
 use Rattle.stages.proofs.Assignments.{low-eq, high-eq}
 use Rattle.stages.proofs.Notes.{no-later}
-use Rattle.stages.proofs.PageStages.{stage-rises, stage-falls, FloorOf, next-at}
+use Rattle.stages.proofs.PageStages.{stage-rises, stage-falls, next-at}
 use Rattle.stages.proofs.Supporting.{zeros, none-in}
 
 -- reached and free, or not

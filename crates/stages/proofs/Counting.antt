@@ -15,7 +15,7 @@ use Rattle.semantics.proofs.Soundness.{sound-proper}
 use Rattle.rounds.specs.Round.{MarkedWait}
 use Rattle.rounds.proofs.Rounding.{all-lows}
 use Rattle.stages.specs.Counted.{CountReady, Counted}
-use Rattle.stages.specs.Steps.{firstHigh, Begun, TopsCopied, firstTop}
+use Rattle.stages.specs.Steps.{firstHigh, Begun, TopsCopied}
 use Rattle.stages.specs.Stages.{Tables, Tops, AtStage, Supported, Advanced}
 use Rattle.stages.proofs.Assignments.{high-eq}
 use Rattle.stages.proofs.PageStages.{stage-first, closed-in, MovingAt, moving-on, rounds-few, counted-here, counted-after}

@@ -6,7 +6,7 @@ use mathlib.Core.List.{List}
 use Prim.Native.Nat.{ℕ, _+_, _*_, _-_, _≤_, _<_}
 use native.Mathlib.Decide.{ℕ-discrete}
 use native.Mathlib.Omega.{arith}
-use lib.ListN.{length, getD, set, drop, length-set}
+use lib.ListN.{length, getD, drop, length-set}
 use lib.Seq.{getD-set-same, getD-set-other, drop-set-lt}
 use Rattle.fixpoint.proofs.Cond.{by-bool}
 use Rattle.semantics.specs.Area.{pageOf, topOf, conditionsOf}
@@ -19,7 +19,7 @@ use Rattle.settle.proofs.Members.{joined, joins, joined-else}
 use Rattle.rounds.specs.Round.{LowsBegun, Woke}
 use Rattle.rounds.proofs.AllWaiting.{nobody-waits}
 use Rattle.rounds.proofs.Starting.{upto}
-use Rattle.stages.specs.Steps.{Nobody, freeAt, FreeTold, FellTop, KeptTop, LoweredTop, LowerReady, FallsAt, StaysAt, FollowReady, NotFree, LoweredFree, FreeLowered, HighsReady, HighStays, HighFalls, WokenByFall, HighsTaken}
+use Rattle.stages.specs.Steps.{Nobody, freeAt, FreeTold, FellTop, LowerReady, FallsAt, StaysAt, FollowReady, LoweredFree, FreeLowered, HighsReady, HighStays, HighFalls, HighsTaken}
 use Rattle.stages.proofs.Assignments.{low-eq, high-eq}
 use Rattle.stages.proofs.Supporting.{zeros}
 

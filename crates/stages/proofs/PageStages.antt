@@ -1,5 +1,5 @@
 -- The assignments of a page, on what is marked. Assumes nothing.
-use mathlib.Core.Path.{_≡_, sym, _∙_}
+use mathlib.Core.Path.{_≡_}
 use mathlib.Core.Logic.{_⊎_, inl, inr, ⊎-elim}
 use mathlib.Core.Bool.{Bool, true, false}
 use mathlib.Core.List.{List}
@@ -11,7 +11,7 @@ use Rattle.fixpoint.specs.KnowledgeOrder.{Alike}
 use Rattle.fixpoint.specs.ChaoticIteration.{DependencyClosed}
 use Rattle.fixpoint.specs.Sum.{bit, count}
 use Rattle.fixpoint.proofs.ClosedRounds.{stage-bound}
-use Rattle.fixpoint.proofs.Cond.{cond-true, cond-eq, cond-most}
+use Rattle.fixpoint.proofs.Cond.{cond-eq, cond-most}
 use Rattle.fixpoint.proofs.KnowledgeOrder.{pair-eq}
 use Rattle.fixpoint.proofs.PlainReading.{operator}
 use Rattle.fixpoint.proofs.Sum.{sum-le, sum-const}

@@ -1,5 +1,5 @@
 -- The support of an assignment: its high ends fall where they may be others, and are settled from there. Assumes nothing.
-use mathlib.Core.Path.{_≡_, refl, sym, _∙_, ap, subst}
+use mathlib.Core.Path.{_≡_, sym, _∙_, ap, subst}
 use mathlib.Core.Logic.{_⊎_, inl, inr, ⊎-elim}
 use mathlib.Core.Bool.{Bool, true, false, true≢false, false≢true}
 use mathlib.Core.List.{List, [], _∷_}
@@ -18,7 +18,7 @@ use Rattle.page.proofs.Head.{head-of}
 use Rattle.bits.specs.Words.{has}
 use Rattle.index.specs.Parts.{MaybeUsers}
 use Rattle.settle.specs.Ends.{reads}
-use Rattle.settle.specs.Scratch.{held, settledAt, Half, RestsAt, Settled}
+use Rattle.settle.specs.Scratch.{held, Half, RestsAt, Settled}
 use Rattle.settle.specs.Waiting.{MaybeIndex, MaybeIndexed}
 use Rattle.settle.proofs.Raising.{S, E, T-below}
 use Rattle.rounds.specs.Round.{LowsBegun, Woke, past, closedAt}
@@ -26,7 +26,7 @@ use Rattle.rounds.proofs.AllWaiting.{nobody-waits}
 use Rattle.stages.specs.Steps.{Nobody, freeAt, LowerReady, Unlooked, Lowered, FollowReady}
 use Rattle.stages.specs.Stages.{stageAt, betweenAt, Tables, Older, AtStage, Supported}
 use Rattle.stages.proofs.Assignments.{low-eq, high-eq}
-use Rattle.stages.proofs.PageStages.{stage-falls, stage-over, between-falls, FloorOf, support-at, capped-at, KeepsTop, restart-at}
+use Rattle.stages.proofs.PageStages.{stage-over, between-falls, FloorOf, support-at, capped-at, KeepsTop, restart-at}
 
 -- an empty set
 abbrev pub zeros : List ℕ

@@ -206,7 +206,7 @@ abbrev pub LookedAgain : (a : List ℕ) (m : List Bool) (s look look′ : List �
 LookedAgain a m s look look′ fell =
     MarkedWait (conditionsOf a) m look′ ⊎ ((look′ ≡ look) × (fell ≡ false) × ((c : ℕ) → LinesHave (pageOf a .lines) (2 * c + 1) → Fresh a s c))
 
--- c is free and `LoweredTop` holds of it, or nothing is done
+-- c is not free, and nothing is done
 pub record NotFree (a : List ℕ) (c : ℕ) (s s′ look look′ lowered lowered′ : List ℕ) (fell : Bool) : Type 0 where
   pub told : fell ≡ false
   pub same : s′ ≡ s
@@ -214,6 +214,7 @@ pub record NotFree (a : List ℕ) (c : ℕ) (s s′ look look′ lowered lowered
   pub lowered-same : lowered′ ≡ lowered
   pub bound : freeAt a c ≡ false
 
+-- .. or c is free, and its high end falls or stays
 abbrev pub LoweredFree : (a users : List ℕ) (m : List Bool) (tops : List ℕ) (c : ℕ) (s s′ look look′ lowered lowered′ : List ℕ) (fell : Bool) → Type 0
 LoweredFree a users m tops c s s′ look look′ lowered lowered′ fell =
     NotFree a c s s′ look look′ lowered lowered′ fell ⊎ ((freeAt a c ≡ true) × LoweredTop a users m tops c s s′ look look′ lowered lowered′ fell)

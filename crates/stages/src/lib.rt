@@ -470,7 +470,17 @@ fn advance(
     ensures { λ r. ⌜ ((k : ℕ) → AtSupport (now (a .entry)) (now (marks .entry)) (now (users .entry)) (now (tops .entry)) k (now (scratch .entry)) (now (lows .entry)) → Advanced (now (a .entry)) (now (marks .entry)) (now (users .entry)) (now (tops .entry)) (now (tops .exit)) k (now (scratch .entry)) (now (scratch .exit)) (now (look .exit)) (now (lows .exit)) r) ⌝ }
 {
     let mut moved = [0u64; 8];
-    next_floor(a, lines, users, marks, scratch, tops, lows, &mut moved, free);
+    next_floor(
+        a,
+        lines,
+        users,
+        marks,
+        scratch,
+        tops,
+        lows,
+        &mut moved,
+        free,
+    );
     let fallen = take_highs(a, users, marks, scratch, tops, look, lows, free);
     let c = bits::any_in(&moved, 0);
     if !fallen {
@@ -509,7 +519,17 @@ pub fn count_rounds(
     let mut k: u32 = 0;
     loop {
         let fell = support(a, lines, users, marks, scratch, tops, &mut look, &mut lows);
-        if advance(a, lines, users, marks, scratch, tops, &mut look, &mut lows, free) {
+        if advance(
+            a,
+            lines,
+            users,
+            marks,
+            scratch,
+            tops,
+            &mut look,
+            &mut lows,
+            free,
+        ) {
             k += 1;
         } else if fell {
             return k + 1;
