@@ -49,10 +49,10 @@ module _ (a : List ℕ) (at : ℕ) where
     no-query n =
         elim (decLe 1 (getD a (at + 1) 0)) [
           | yes h ↦
-            elim (ℕ-discrete (getD a (at + 1) 0) 7) [
-              | yes d ↦ rw (line-at a at, default-kind (getD a (at + 1) 0) d)
-              | no d ↦ rw (line-at a at, rule-kind (getD a (at + 1) 0) h (omega (arith, kind-most)) .1)
-            ]
+              elim (ℕ-discrete (getD a (at + 1) 0) 7) [
+                | yes d ↦ rw (line-at a at, default-kind (getD a (at + 1) 0) d)
+                | no d ↦ rw (line-at a at, rule-kind (getD a (at + 1) 0) h (omega (arith, kind-most)) .1)
+              ]
           | no h ↦ rw (line-at a at, fact-kind (getD a (at + 1) 0) (omega arith))
         ]
 

@@ -102,13 +102,13 @@ module _ (a : List ℕ) where
       split-on {seen′} t r c h =
           elim (ℕ-discrete (getD a (at + 1) 0) 7) [
             | yes e ↦
-              let d = getD a at 0 in
-              let q = t .taken e r in
-              let w : eqb c d ≡ eqb d c =
-                  iff-eq (eqb c d) (eqb d c) (λ e. eq-eqb d c (sym (eqb-true c d e))) (λ e. eq-eqb c d (sym (eqb-true d c e))) in
-              let o : bit (has seen′ c) ≡ bit (has seen c) + bit (eqb d c) =
-                  ap bit (q .1 .1 c h) ∙ bit-or (has seen c) (eqb c d) (λ x y. false≢true (sym (q .0) ∙ ap (has seen) (sym (eqb-true c d y)) ∙ x)) ∙ ap (λ (t : Bool). bit (has seen c) + bit t) w in
-              omega (arith, moved c, defaults-on a at c left e, o)
+                let d = getD a at 0 in
+                let q = t .taken e r in
+                let w : eqb c d ≡ eqb d c =
+                iff-eq (eqb c d) (eqb d c) (λ e. eq-eqb d c (sym (eqb-true c d e))) (λ e. eq-eqb c d (sym (eqb-true d c e))) in
+                let o : bit (has seen′ c) ≡ bit (has seen c) + bit (eqb d c) =
+                ap bit (q .1 .1 c h) ∙ bit-or (has seen c) (eqb c d) (λ x y. false≢true (sym (q .0) ∙ ap (has seen) (sym (eqb-true c d y)) ∙ x)) ∙ ap (λ (t : Bool). bit (has seen c) + bit t) w in
+                omega (arith, moved c, defaults-on a at c left e, o)
             | no e ↦ omega (arith, moved c, defaults-past a at c left e, ap (λ (x : List ℕ). bit (has x c)) (t .past e .1))
           ]
 
@@ -190,10 +190,11 @@ module _ (a : List ℕ) where
     numbers-decide =
         iff-eq (allBelow (conditionsOf a) (numberTells a seen)) (defaultsOk a)
         (λ e. all-true (conditionsOf a) (λ c. every (defaultTests a c)) (λ c l.
-          let h = eqb-true (defaultOf a c) (bit (has seen c)) (all-at (conditionsOf a) (numberTells a seen) e c l) in
-          every-of (defaultTests a c)
-          (le-leb (defaultOf a c) 1 (omega (arith, h, bit-most (has seen c))),
-          (eq-eqb (defaultOf a c) (defaults (pageOf a .lines) c) (h ∙ sym (s .all refl c (omega (arith, few)))), tt))))
+        let h = eqb-true (defaultOf a c) (bit (has seen c)) (all-at (conditionsOf a) (numberTells a seen) e c l) in
+        every-of (defaultTests a c) (
+          le-leb (defaultOf a c) 1 (omega (arith, h, bit-most (has seen c))),
+          (eq-eqb (defaultOf a c) (defaults (pageOf a .lines) c) (h ∙ sym (s .all refl c (omega (arith, few)))), tt),
+        )))
         (λ e. all-true (conditionsOf a) (numberTells a seen) (λ c l. eq-eqb (defaultOf a c) (bit (has seen c)) (told e c l .1 ∙ s .all refl c (omega (arith, few)))))
 
 -- the D number of a condition tells whether it is unknown by default

@@ -88,28 +88,46 @@ module _ (page : Page) (z : List ℕ) (w : Proper page) where
   head-passes : Every (headTests whole)
   unfolding areaOf
   head-passes =
-      let u : ℕ = headLength (page .conditions) + length (lineCodes (page .lines)) in
-      (le-leb 4 (length whole) (omega (arith, size)),
-      (le-leb (headLength (page .conditions)) u (omega arith),
-      (le-leb u (length whole) (omega (arith, size)),
-      (le-leb 1 (page .top) (w .top-least),
-      (le-leb (page .top) 200 (w .top-most),
-      (le-leb 1 (page .conditions) (w .conditions-least),
-      (le-leb (page .conditions) 512 (w .conditions-most),
-      (le-leb (length (page .lines)) 1024 (w .few-lines),
-      tt))))))))
+      let u : ℕ = headLength (page .conditions) + length (lineCodes (page .lines)) in (
+        le-leb 4 (length whole) (omega (arith, size)),
+        (
+          le-leb (headLength (page .conditions)) u (omega arith),
+          (
+            le-leb u (length whole) (omega (arith, size)),
+            (
+              le-leb 1 (page .top) (w .top-least),
+              (
+                le-leb (page .top) 200 (w .top-most),
+                (
+                  le-leb 1 (page .conditions) (w .conditions-least),
+                  (
+                    le-leb (page .conditions) 512 (w .conditions-most),
+                    (
+                      le-leb (length (page .lines)) 1024 (w .few-lines),
+                      tt,
+                    ),
+                  ),
+                ),
+              ),
+            ),
+          ),
+        ),
+      )
 
   numbers-pass : defaultsOk whole ≡ true
   unfolding defaultsOk unknownByDefault
   numbers-pass =
       all-true (conditionsOf whole) (λ c. every (defaultTests whole c))
       (λ c l.
-        let d = default-area page z c (subst (λ (k : ℕ). c < k) (ap (λ (p : Page). p .conditions) (page-area page z)) (unfold pageOf in l)) in
-        let e : defaults (pageOf whole .lines) c ≡ defaults (page .lines) c = ap (λ (p : Page). defaults (p .lines) c) (page-area page z) in
-        every-of (defaultTests whole c)
-        (le-leb (defaultOf whole c) 1 (omega (arith, d, bit-most (unknownByDefault page c))),
-        (eq-eqb (defaultOf whole c) (defaults (pageOf whole .lines) c) (d ∙ bit-few (defaults (page .lines) c) (w .single c) ∙ sym e),
-        tt)))
+      let d = default-area page z c (subst (λ (k : ℕ). c < k) (ap (λ (p : Page). p .conditions) (page-area page z)) (unfold pageOf in l)) in
+      let e : defaults (pageOf whole .lines) c ≡ defaults (page .lines) c = ap (λ (p : Page). defaults (p .lines) c) (page-area page z) in
+      every-of (defaultTests whole c) (
+        le-leb (defaultOf whole c) 1 (omega (arith, d, bit-most (unknownByDefault page c))),
+        (
+          eq-eqb (defaultOf whole c) (defaults (pageOf whole .lines) c) (d ∙ bit-few (defaults (page .lines) c) (w .single c) ∙ sym e),
+          tt,
+        ),
+      ))
 
   lines-whole : linesOk (topOf whole) (conditionsOf whole) (countOf whole) (usedOf whole - firstLine whole) (drop (firstLine whole) whole) ≡ true
   unfolding areaOf
@@ -240,13 +258,13 @@ sound-exact a e =
     let g : usedOf a ≤ length a = leb-true (usedOf a) (length a) (h .1 .1 .0) in
     let ls = linesOf (countOf a) (drop (firstLine a) a) in
     let cs : take (usedOf a - firstLine a) (drop (firstLine a) a) ≡ lineCodes ls =
-        lines-back (topOf a) n (countOf a) (usedOf a - firstLine a) (drop (firstLine a) a) (simp length-drop (omega arith)) (s .lines) in
+    lines-back (topOf a) n (countOf a) (usedOf a - firstLine a) (drop (firstLine a) a) (simp length-drop (omega arith)) (s .lines) in
     let m : length (lineCodes ls) ≡ usedOf a - firstLine a =
-        ap length (sym cs) ∙ simp (length-take, length-drop) (omega arith) in
+    ap length (sym cs) ∙ simp (length-take, length-drop) (omega arith) in
     let both : take (n + length (lineCodes ls)) (drop 4 a) ≡ defaultNumbers (pageOf a) ++ lineCodes ls =
-        take-add n (length (lineCodes ls)) (drop 4 a)
-        ∙ ap₂ {C = List ℕ} (λ x y. x ++ y) (defaults-back a s)
-        (ap (λ (p : List ℕ). take (length (lineCodes ls)) p) (drop-drop n 4 a) ∙ ap (λ (k : ℕ). take k (drop (firstLine a) a)) m ∙ cs) in
+    take-add n (length (lineCodes ls)) (drop 4 a)
+    ∙ ap₂ {C = List ℕ} (λ x y. x ++ y) (defaults-back a s)
+    (ap (λ (p : List ℕ). take (length (lineCodes ls)) p) (drop-drop n 4 a) ∙ ap (λ (k : ℕ). take k (drop (firstLine a) a)) m ∙ cs) in
     let u : usedOf a ≡ headLength n + length (lineCodes ls) = omega (arith, m) in
     head-back a (defaultNumbers (pageOf a)) (lineCodes ls) (leb-true 4 (length a) (h .0)) refl both u
     ∙ ap₂ {C = List ℕ} (λ x y. topOf a ∷ n ∷ x ∷ y ∷ (defaultNumbers (pageOf a) ++ lineCodes ls)) (sym (length-lines (countOf a) (drop (firstLine a) a))) u

@@ -138,10 +138,10 @@ defaultsOk a = allBelow (conditionsOf a) (λ c. every (defaultTests a c))
 unfoldable pub sound : List ℕ → Bool
 sound a =
     every (
-      every (headTests a)
-      ∷ linesOk (topOf a) (conditionsOf a) (countOf a) (usedOf a - firstLine a) (drop (firstLine a) a)
-      ∷ defaultsOk a
-      ∷ []
+    every (headTests a)
+    ∷ linesOk (topOf a) (conditionsOf a) (countOf a) (usedOf a - firstLine a) (drop (firstLine a) a)
+    ∷ defaultsOk a
+    ∷ []
     )
 
 -- The area of a page: what the reader writes. Sound areas are exactly these, for proper pages, with anything behind them

@@ -42,10 +42,10 @@ loop-again c =
     let i = c .before .before .before .loop in (
       omega arith,
       λ d l.
-      elim (ℕ-discrete d (i .c)) [
-        | yes e ↦ subst (λ (k : ℕ). numberTells (z .a .now) (z .seen .now) k ≡ true) (sym e) (sym (c .before .number-tells .ensures) ∙ not-false _ (c .if1 .left))
-        | no e ↦ i .inv .1 d (omega arith)
-      ],
+          elim (ℕ-discrete d (i .c)) [
+            | yes e ↦ subst (λ (k : ℕ). numberTells (z .a .now) (z .seen .now) k ≡ true) (sym e) (sym (c .before .number-tells .ensures) ∙ not-false _ (c .if1 .left))
+            | no e ↦ i .inv .1 d (omega arith)
+          ],
     )
 
 returns-2 : tie.Need-returns-2 Inv-loop μ-loop

@@ -17,15 +17,28 @@ use Rattle.page.proofs.page_sound.Tie as tie
 head-holds : (z : List ℕ) → 4 ≤ length z → 4 + getD z 1 0 ≤ getD z 3 0 → getD z 3 0 ≤ length z → 1 ≤ getD z 0 0 → getD z 0 0 ≤ 200 → 1 ≤ getD z 1 0 → getD z 1 0 ≤ 512 → getD z 2 0 ≤ 1024
     → every (headTests z) ≡ true
 head-holds z a b c d e f g h =
-    every-of (headTests z)
-    (le-leb 4 (length z) a,
-    (le-leb (4 + getD z 1 0) (getD z 3 0) b,
-    (le-leb (getD z 3 0) (length z) c,
-    (le-leb 1 (getD z 0 0) d,
-    (le-leb (getD z 0 0) 200 e,
-    (le-leb 1 (getD z 1 0) f,
-    (le-leb (getD z 1 0) 512 g,
-    (le-leb (getD z 2 0) 1024 h, tt))))))))
+    every-of (headTests z) (
+      le-leb 4 (length z) a,
+      (
+        le-leb (4 + getD z 1 0) (getD z 3 0) b,
+        (
+          le-leb (getD z 3 0) (length z) c,
+          (
+            le-leb 1 (getD z 0 0) d,
+            (
+              le-leb (getD z 0 0) 200 e,
+              (
+                le-leb 1 (getD z 1 0) f,
+                (
+                  le-leb (getD z 1 0) 512 g,
+                  (le-leb (getD z 2 0) 1024 h, tt),
+                ),
+              ),
+            ),
+          ),
+        ),
+      ),
+    )
 
 returns : tie.Need-returns
 returns c = let z = c .before .before .args .a .now in sym (head-fails-at z 0 (lt-leb 4 (length z) (omega arith)))
