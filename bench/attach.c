@@ -72,7 +72,7 @@ int main(void)
         return 0;
     }
     put(line, digits(line + 4, page[0]));
-    for (p = page + HEAD, k = 0; k < page[2]; k++, p = next_line(p)) {
+    for (p = first_line(page), k = 0; k < page[2]; k++, p = next_line(p)) {
         if (p[1] != QUERY)
             continue;
         answer(p[2], p[0], ends);

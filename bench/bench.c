@@ -67,7 +67,7 @@ static void load(const char *name)
     given.page_length = used;
     given.count = given.page[1];
     given.queries_length = 0;
-    for (p = given.page + 4; p < given.page + used; p += 4 + (p[1] >= 1 && p[1] <= 5 ? p[3] : 0))
+    for (p = given.page + 4 + given.page[1]; p < given.page + used; p += 4 + (p[1] >= 1 && p[1] <= 5 ? p[3] : 0))
         if (p[1] == 6 && given.queries_length < SIMJORAD_QUERIES_MAX)
             given.queries[given.queries_length++] = p[0];
     given.spread[0] = given.queries[0];

@@ -4,6 +4,7 @@
 
 #include <stddef.h>
 #include <stdint.h>
+#include <string.h>
 
 enum {
     TOP_MAX = 200,
@@ -12,13 +13,35 @@ enum {
     LITERALS_MAX = 8,
     QUERIES_MAX = 16,
     TEXT_MAX = 65535,
-    HEAD = 4,                                           /* top, C, lines, used length */
-    PAGE_MAX = HEAD + LINES_MAX * (4 + LITERALS_MAX),
+    HEAD = 4,                                           /* top, C, lines, used length; then C numbers, 1 for a condition unknown by default */
+    PAGE_MAX = HEAD + CONDITIONS_MAX + LINES_MAX * (4 + LITERALS_MAX),
     WORDS_MAX = CONDITIONS_MAX / 64
 };
 
-/* The kind of a line, its second number. */
-enum { FACT, RULE_M, RULE_X, RULE_L, RULE_B, RULE_P, QUERY };
+/* The kind of a line, its second number: F and R lines come before QUERY. */
+enum { FACT, RULE_M, RULE_X, RULE_L, RULE_B, RULE_P, QUERY, DEFAULT };
+
+typedef uint64_t set[WORDS_MAX];                    /* a set of conditions */
+
+static inline void set_add(set s, unsigned c)
+{
+    s[c / 64] |= (uint64_t)1 << c % 64;
+}
+
+static inline int set_has(const set s, unsigned c)
+{
+    return s[c / 64] >> c % 64 & 1;
+}
+
+static inline const uint16_t *first_line(const uint16_t *page)
+{
+    return page + HEAD + page[1];
+}
+
+static inline int unknown_by_default(const uint16_t *page, unsigned c)
+{
+    return page[HEAD + c];
+}
 
 static inline int is_rule(const uint16_t *line)
 {
@@ -35,16 +58,17 @@ static inline int page_sound(const uint16_t *page, size_t length)
 {
     unsigned top, count, lines, used, i, n;
     const uint16_t *p, *end;
+    set unknown = { 0 };                                /* the conditions with a D line */
 
     if (length < HEAD)
         return 0;
     top = page[0], count = page[1], lines = page[2], used = page[3];
-    if (top - 1 >= TOP_MAX || count - 1 >= CONDITIONS_MAX || lines > LINES_MAX || used < HEAD || used > length)
+    if (top - 1 >= TOP_MAX || count - 1 >= CONDITIONS_MAX || lines > LINES_MAX || used < HEAD + count || used > length)
         return 0;
-    p = page + HEAD;
+    p = first_line(page);
     end = page + used;
     for (; lines > 0; lines--) {
-        if (end - p < 4 || p[0] >= count || p[1] > QUERY)
+        if (end - p < 4 || p[0] >= count || p[1] > DEFAULT)
             return 0;
         if (is_rule(p)) {
             n = p[3];
@@ -55,13 +79,23 @@ static inline int page_sound(const uint16_t *page, size_t length)
                 if (p[i] >= 2 * count)
                     return 0;
             p += n;
+        } else if (p[1] == DEFAULT) {
+            if (p[2] != 0 || p[3] != 0 || set_has(unknown, p[0]))
+                return 0;
+            set_add(unknown, p[0]);
+            p += 4;
         } else {
             if (p[1] == FACT ? p[2] > p[3] || p[3] > top : p[2] > 1 || p[3] != 0)
                 return 0;
             p += 4;
         }
     }
-    return p == end;
+    if (p != end)
+        return 0;
+    for (i = 0; i < count; i++)
+        if (page[HEAD + i] != set_has(unknown, i))
+            return 0;
+    return 1;
 }
 
 static inline int run_sound(const uint16_t *run, size_t length, unsigned top, unsigned count)
@@ -155,6 +189,28 @@ static inline unsigned rule_end(const uint16_t *rule, const uint16_t *value, uns
             v = (v * value[*p] + add) / top;
     }
     return (v * rule[2] + add) / top;
+}
+
+/* 1 more than the high end that the lines give each of these conditions over the high ends by literal; 0 where it has no lines. */
+static inline void next_highs(const uint16_t *page, const set sought, const uint16_t *high, uint8_t *next)
+{
+    const uint16_t *p, *end = page + page[3];
+    unsigned top = page[0], v;
+
+    memset(next, 0, page[1]);
+    for (p = first_line(page); p < end; p = next_line(p)) {
+        if (p[1] >= QUERY || !set_has(sought, p[0]))
+            continue;
+        v = 1 + (p[1] == FACT ? p[3] : rule_end(p, high, top, top - 1));
+        if (v > next[p[0]])
+            next[p[0]] = v;
+    }
+}
+
+/* Whether that high end is below the one held. */
+static inline int falls(const uint8_t *next, const uint16_t *high, unsigned c)
+{
+    return next[c] != 0 && next[c] <= high[2 * c];
 }
 
 #endif

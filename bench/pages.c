@@ -173,6 +173,20 @@ static void ring_weak(struct sheet *s)
     put(s, "Q,W,0\n");
 }
 
+/* A ring of 511 that are unknown by default; each turn takes away 1, since the fact is 1 under top. */
+static void ring_unknown(struct sheet *s)
+{
+    unsigned i;
+
+    put(s, "G,200,512\nR,0,200,L,1,511\n");
+    for (i = 1; i < 511; i++)
+        put(s, "R,%u,200,M,%u\n", i, i < 510 ? i + 1 : 0);
+    put(s, "F,511,199,199\n");
+    for (i = 0; i < 511; i++)
+        put(s, "D,%u,U\n", i);
+    put(s, "Q,W,0\n");
+}
+
 /* Counter k is condition 2k. It adds 1 for ever; from the second on, only when the one before is at top (gate 2k - 1). */
 static void counters(struct sheet *s)
 {
@@ -197,20 +211,21 @@ static void negations(struct sheet *s)
     put(s, "F,511,40,90\nQ,W,0\n");
 }
 
-const char *const page_names[] = { "small", "typical", "largest", "falling", "ring", "ring-reversed", "ring-weak", "counters",
-                                   "negations", "random", "random-slow", NULL };
+const char *const page_names[] = { "small", "typical", "largest", "falling", "ring", "ring-reversed", "ring-weak", "ring-unknown",
+                                   "counters", "negations", "random", "random-slow", NULL };
 
 const char *const page_notes[] = { "20 conditions, 40 lines after the first", "150 conditions, 300 lines after the first",
                                    "512 conditions, 1,023 rules of 8 literals",
                                    "self loop at 510, each condition below it names the eight above",
                                    "(a) ring of 511, each turn adds 1", "(a) with the numbers reversed",
                                    "a ring of 255 as (a), each with a weak line on a negation",
+                                   "a ring of 511 unknown by default, each turn takes away 1",
                                    "(b) 256 counters, each waits for the one before", "(c) chain of negations",
                                    "(d) 512 conditions, 1,023 random rules of 8 literals",
                                    "as (d), only M and X, weights 198 to 200", NULL };
 
-static void (*const makers[])(struct sheet *) = { small, typical, largest, falling, ring, ring_reversed, ring_weak, counters,
-                                                  negations, closed_random, closed_slow };
+static void (*const makers[])(struct sheet *) = { small, typical, largest, falling, ring, ring_reversed, ring_weak, ring_unknown,
+                                                  counters, negations, closed_random, closed_slow };
 
 size_t page_text(const char *name, char *text)
 {

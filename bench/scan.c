@@ -148,12 +148,33 @@ static inline int check_query(const uint8_t **text, unsigned count, uint32_t *pl
     return 4;
 }
 
-static inline int check_line(const uint8_t **text, unsigned top, unsigned count, unsigned *literals, uint32_t *place)
+/* Checks a D line; returns 0, 3, 24, or 4 with the place of its condition, which joins the set. */
+static inline int check_default(const uint8_t **text, unsigned count, set unknown, uint32_t *place)
+{
+    const uint8_t *s = *text;
+    unsigned condition;
+
+    if (!(s = field(s + 1, &condition)) || s[0] != ',' || s[1] != 'U' || s[2] != '\n')
+        return 3;
+    *text = s + 3;
+    if (condition >= count) {
+        *place = 2;
+        return 4;
+    }
+    if (set_has(unknown, condition))
+        return 24;
+    set_add(unknown, condition);
+    return 0;
+}
+
+static inline int check_line(const uint8_t **text, unsigned top, unsigned count, set unknown, unsigned *literals,
+                             uint32_t *place)
 {
     switch (**text) {
     case 'F': return check_fact(text, top, count, place);
     case 'R': return check_rule(text, top, count, literals, place);
     case 'Q': return check_query(text, count, place);
+    case 'D': return check_default(text, count, unknown, place);
     default: return 3;
     }
 }
@@ -173,8 +194,8 @@ static inline const uint8_t *write_literals(const uint8_t *s, uint16_t **out)
     return s + 1;
 }
 
-/* Writes a checked line; returns the place after its byte 10. */
-static inline const uint8_t *write_line(const uint8_t *s, uint16_t **out)
+/* Writes a checked line, and the D number of a D line; returns the place after its byte 10. */
+static inline const uint8_t *write_line(const uint8_t *s, uint16_t *defaults, uint16_t **out)
 {
     uint16_t *p = *out;
 
@@ -192,6 +213,12 @@ static inline const uint8_t *write_line(const uint8_t *s, uint16_t **out)
         s = write_literals(s + 2, out);
         p[3] = *out - (p + 4);
         return s;
+    case 'D':
+        p[1] = DEFAULT;
+        p[2] = p[3] = 0;
+        s = checked_number(s + 2, &p[0]);
+        defaults[p[0]] = 1;
+        return s + 3;
     default:
         p[1] = QUERY;
         p[2] = s[2] == 'W';
@@ -205,6 +232,8 @@ int32_t scan_read(const uint8_t *text, size_t text_length, uint16_t *area, size_
 {
     const uint8_t *s = text, *end = text + text_length, *second;
     unsigned top = 0, count = 0, number = 1, literals = 0, used;
+    set unknown = { 0 };
+    uint16_t *defaults;
     int fault;
 
     *line = *place = 0;
@@ -216,22 +245,24 @@ int32_t scan_read(const uint8_t *text, size_t text_length, uint16_t *area, size_
     second = s;
     while (!fault && s < end) {
         number++;
-        fault = number > LINES_MAX + 1 ? 5 : check_line(&s, top, count, &literals, place);
+        fault = number > LINES_MAX + 1 ? 5 : check_line(&s, top, count, unknown, &literals, place);
     }
     if (fault) {
         *line = number;
         return -fault;
     }
-    used = HEAD + 4 * (number - 1) + literals;
+    used = HEAD + count + 4 * (number - 1) + literals;
     if (area_length < used)
         return -6;
     area[0] = top;
     area[1] = count;
     area[2] = number - 1;
     area[3] = used;
-    area += HEAD;
+    defaults = area + HEAD;
+    memset(defaults, 0, count * sizeof *defaults);
+    area = defaults + count;
     for (s = second; s < end;)
-        s = write_line(s, &area);
+        s = write_line(s, defaults, &area);
     return used;
 }
 
@@ -285,7 +316,7 @@ int32_t scan_open(const uint16_t *page, size_t page_length, const uint16_t *quer
         for (stop = length; next < stop; next++) {
             c = stack[next];
             memset(named, 0, sizeof named);
-            for (p = page + HEAD; p < end; p = next_line(p)) {
+            for (p = first_line(page); p < end; p = next_line(p)) {
                 if (p[0] != c || !is_rule(p))
                     continue;
                 for (i = 0; i < p[3]; i++) {
@@ -379,10 +410,10 @@ static int step(const uint16_t *page, uint16_t *run, unsigned condition)
 {
     const uint16_t *p, *end = page + page[3];
     uint16_t *own = run + 3 * condition;
-    unsigned top = page[0], low = 0, high = 0, a, b, i;
+    unsigned top = page[0], low = 0, high = 0, lines = 0, a, b, i;
 
-    for (p = page + HEAD; p < end; p = next_line(p)) {
-        if (p[0] != condition || p[1] == QUERY)
+    for (p = first_line(page); p < end; p = next_line(p)) {
+        if (p[0] != condition || p[1] >= QUERY)
             continue;
         if (p[1] == FACT)
             a = p[2], b = p[3];
@@ -390,13 +421,16 @@ static int step(const uint16_t *page, uint16_t *run, unsigned condition)
             rule_ends(p, run, top, &a, &b);
         low = a > low ? a : low;
         high = b > high ? b : high;
+        lines++;
     }
+    if (lines == 0 && unknown_by_default(page, condition))
+        high = top;
     own[2] = 1;
     if (own[0] == low && own[1] == high)
         return 0;
     own[0] = low;
     own[1] = high;
-    for (p = page + HEAD; p < end; p = next_line(p)) {
+    for (p = first_line(page); p < end; p = next_line(p)) {
         if (!is_rule(p) || run[3 * p[0] + 2] != 1)
             continue;
         for (i = 0; i < p[3]; i++)
@@ -414,8 +448,8 @@ static uint32_t line_with(const uint16_t *page, const uint16_t *run, unsigned co
     const uint16_t *p, *end = page + page[3];
     unsigned top = page[0], number = 2, a, b;
 
-    for (p = page + HEAD; p < end; p = next_line(p), number++) {
-        if (p[0] != condition || p[1] == QUERY)
+    for (p = first_line(page); p < end; p = next_line(p), number++) {
+        if (p[0] != condition || p[1] >= QUERY)
             continue;
         if (p[1] == FACT)
             a = p[2];
@@ -511,8 +545,8 @@ int32_t scan_line(const uint16_t *page, size_t page_length, const uint16_t *run,
     if (run[3 * condition + 2] == 0)
         return -17;
     end = page + page[3];
-    for (p = page + HEAD; p < end; p = next_line(p)) {
-        if (p[0] != condition || p[1] == QUERY)
+    for (p = first_line(page); p < end; p = next_line(p)) {
+        if (p[0] != condition || p[1] >= QUERY)
             continue;
         if (p[1] == FACT)
             a = p[2];
@@ -528,7 +562,7 @@ int32_t scan_line(const uint16_t *page, size_t page_length, const uint16_t *run,
 /*
  * Raises one end of the reached conditions, value[2 * c], to the least fixed point at or above what it holds;
  * value[2 * c + 1], the same end of the negations, stays. `side` is 2 for low ends and 3 for high ends: the place
- * in a fact. Returns 1 if any rose.
+ * in a fact. Returns 1 if any rose. The high end of a condition unknown by default is never below what its lines give, so it stays.
  */
 static int rise(const uint16_t *page, const uint8_t *seen, uint16_t *value, unsigned side)
 {
@@ -538,8 +572,8 @@ static int rise(const uint16_t *page, const uint8_t *seen, uint16_t *value, unsi
 
     do {
         rose = 0;
-        for (p = page + HEAD; p < end; p = next_line(p)) {
-            if (!seen[p[0]] || p[1] == QUERY)
+        for (p = first_line(page); p < end; p = next_line(p)) {
+            if (!seen[p[0]] || p[1] >= QUERY)
                 continue;
             v = p[1] == FACT ? p[side] : rule_end(p, value, top, add);
             if (v > value[2 * p[0]]) {
@@ -561,7 +595,7 @@ static int stale(const uint16_t *page, const uint16_t *low, const uint16_t *high
     const uint16_t *p, *end = page + page[3];
     unsigned top = page[0], i;
 
-    for (p = page + HEAD; p < end; p = next_line(p)) {
+    for (p = first_line(page); p < end; p = next_line(p)) {
         if (!is_rule(p))
             continue;
         for (i = 0; i < p[3]; i++)
@@ -581,8 +615,8 @@ static int next_lows(const uint16_t *page, const uint8_t *seen, const uint16_t *
     unsigned top = page[0], v;
     int moved = 0;
 
-    for (p = page + HEAD; p < end; p = next_line(p)) {
-        if (!seen[p[0]] || p[1] == QUERY)
+    for (p = first_line(page); p < end; p = next_line(p)) {
+        if (!seen[p[0]] || p[1] >= QUERY)
             continue;
         v = top - (p[1] == FACT ? p[2] : rule_end(p, low, top, 0));
         if (v < high[2 * p[0] + 1]) {
@@ -593,32 +627,101 @@ static int next_lows(const uint16_t *page, const uint8_t *seen, const uint16_t *
     return moved;
 }
 
+/* The reached conditions that are unknown by default; returns 1 if there is one. */
+static int find_unknown(const uint16_t *page, const uint8_t *seen, set unknown)
+{
+    unsigned c;
+    int any = 0;
+
+    memset(unknown, 0, sizeof(set));
+    for (c = 0; c < page[1]; c++)
+        if (seen[c] && unknown_by_default(page, c)) {
+            set_add(unknown, c);
+            any = 1;
+        }
+    return any;
+}
+
+/* The high ends that `next` tells are put where they are below the ones held. Returns 1 if any fell. */
+static int put_highs(const uint16_t *page, const uint8_t *next, uint16_t *low, uint16_t *high)
+{
+    unsigned c;
+    int fell = 0;
+
+    for (c = 0; c < page[1]; c++)
+        if (falls(next, high, c)) {
+            high[2 * c] = next[c] - 1;
+            low[2 * c + 1] = page[0] - high[2 * c];
+            fell = 1;
+        }
+    return fell;
+}
+
+/* The negations' high ends follow the low ends. */
+static void refresh(const uint16_t *page, const uint16_t *low, uint16_t *high)
+{
+    unsigned c;
+
+    for (c = 0; c < page[1]; c++)
+        high[2 * c + 1] = page[0] - low[2 * c];
+}
+
+/*
+ * The low ends rise and the high ends of what is unknown by default fall until they stay, the other high ends being as they are. Returns 1 if any
+ * moved.
+ */
+static int settle_floor(const uint16_t *page, const uint8_t *seen, const set unknown, uint16_t *low, uint16_t *high)
+{
+    uint8_t next[CONDITIONS_MAX];
+    int moved = rise(page, seen, low, 2);
+
+    for (;;) {
+        refresh(page, low, high);
+        next_highs(page, unknown, high, next);
+        if (!put_highs(page, next, low, high))
+            return moved;
+        moved = 1;
+        rise(page, seen, low, 2);
+    }
+}
+
 /*
  * The count of rounds, over tables that hold the closed reading. The support's high ends are settled again from those of the closed reading,
- * where the low end of a negated condition rose.
+ * where the low end of a negated condition rose or the high end of one unknown by default fell.
  */
-static uint32_t count_rounds(const uint16_t *page, const uint8_t *seen, uint16_t *low, uint16_t *high)
+static uint32_t count_rounds(const uint16_t *page, const uint8_t *seen, uint16_t *low, uint16_t *high, const set unknown, int any)
 {
-    uint8_t least[CONDITIONS_MAX];
+    uint8_t least[CONDITIONS_MAX], next[CONDITIONS_MAX];
     unsigned top = page[0], count = page[1], c;
     uint32_t rounds = 0;
-    int fell = 0;
+    int fell = 0, moved, dropped = 0;
 
     for (c = 0; c < count; c++) {
         least[c] = high[2 * c];
         low[2 * c] = 0;
         high[2 * c + 1] = top;
+        if (unknown_by_default(page, c))
+            high[2 * c] = top;
     }
     rise(page, seen, high, 3);
     for (c = 0; c < count; c++) {
         low[2 * c + 1] = top - high[2 * c];
         fell |= seen[c] && high[2 * c] != top;
     }
-    while (next_lows(page, seen, low, high)) {
+    for (;;) {
+        if (any)
+            next_highs(page, unknown, high, next);
+        moved = next_lows(page, seen, low, high);
+        if (any)
+            dropped = put_highs(page, next, low, high);
+        if (!moved && !dropped)
+            return rounds + fell;
         fell = 0;
-        if (stale(page, low, high)) {
+        if (dropped || stale(page, low, high)) {
             for (c = 0; c < count; c++) {
                 low[2 * c] = top - high[2 * c + 1];
+                if (unknown_by_default(page, c))
+                    continue;
                 fell |= high[2 * c] != least[c];
                 high[2 * c] = least[c];
             }
@@ -631,7 +734,6 @@ static uint32_t count_rounds(const uint16_t *page, const uint8_t *seen, uint16_t
         }
         rounds++;
     }
-    return rounds + fell;
 }
 
 int32_t scan_closed(const uint16_t *page, size_t page_length, const uint16_t *queries, size_t queries_length,
@@ -641,7 +743,8 @@ int32_t scan_closed(const uint16_t *page, size_t page_length, const uint16_t *qu
     uint8_t seen[CONDITIONS_MAX];
     const uint16_t *p, *end;
     unsigned top, count, c, i;
-    int fault, more;
+    set unknown;
+    int fault, more, any;
 
     if ((fault = closed_fault(page, page_length, queries, queries_length, scratch_length, answers_length)) != 0)
         return -fault;
@@ -656,7 +759,7 @@ int32_t scan_closed(const uint16_t *page, size_t page_length, const uint16_t *qu
     end = page + page[3];
     do {
         more = 0;
-        for (p = page + HEAD; p < end; p = next_line(p)) {
+        for (p = first_line(page); p < end; p = next_line(p)) {
             if (!is_rule(p) || !seen[p[0]])
                 continue;
             for (i = 0; i < p[3]; i++)
@@ -667,19 +770,22 @@ int32_t scan_closed(const uint16_t *page, size_t page_length, const uint16_t *qu
         }
     } while (more);
 
+    any = find_unknown(page, seen, unknown);
+    for (c = 0; c < count; c++)
+        high[2 * c] = unknown_by_default(page, c) ? top : 0;
     do {
-        for (c = 0; c < count; c++) {
-            high[2 * c] = 0;
-            high[2 * c + 1] = top - low[2 * c];
-        }
+        for (c = 0; c < count; c++)
+            if (!unknown_by_default(page, c))
+                high[2 * c] = 0;
+        refresh(page, low, high);
         rise(page, seen, high, 3);
         for (c = 0; c < count; c++)
             low[2 * c + 1] = top - high[2 * c];
-    } while (rise(page, seen, low, 2) && stale(page, low, high));
+    } while (any ? settle_floor(page, seen, unknown, low, high) : rise(page, seen, low, 2) && stale(page, low, high));
 
     put_answers(low, high, queries, queries_length, answers);
     if (rounds)
-        *rounds = count_rounds(page, seen, low, high);
+        *rounds = count_rounds(page, seen, low, high, unknown, any);
     memset(scratch, 0, 4 * count * sizeof *scratch);
     return 0;
 }

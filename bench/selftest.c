@@ -59,7 +59,7 @@ static int bad_field(int k, int fault, uint32_t *place)
     return fault;
 }
 
-/* One line without its byte 10, cut at its commas: form first, then ranges. Appends to area; returns 0, 3, or 4, 21, 22 or 23 with the place. */
+/* One line without its byte 10, cut at its commas: form first, then ranges, then 24. Appends to area; returns 0, 3, 24, or 4, 21, 22 or 23 with the place. */
 static int ref_line(const char *line, size_t length, int first, uint16_t *area, unsigned *used, uint32_t *place)
 {
     const char *token[16];
@@ -87,6 +87,8 @@ static int ref_line(const char *line, size_t length, int first, uint16_t *area, 
             return bad_field(2, 4, place);
         area[0] = number[1];
         area[1] = number[2];
+        for (k = 0; k < number[2]; k++)
+            area[(*used)++] = 0;
         return 0;
     }
     if (*token[0] == 'F') {
@@ -113,6 +115,20 @@ static int ref_line(const char *line, size_t length, int first, uint16_t *area, 
         area[(*used)++] = number[2];
         area[(*used)++] = 6;
         area[(*used)++] = *token[1] == 'W';
+        area[(*used)++] = 0;
+        return 0;
+    }
+    if (*token[0] == 'D') {
+        if (n != 3 || number[1] < 0 || size[2] != 1 || *token[2] != 'U')
+            return 3;
+        if (number[1] >= count)
+            return bad_field(1, 4, place);
+        if (area[4 + number[1]] == 1)
+            return 24;
+        area[4 + number[1]] = 1;
+        area[(*used)++] = number[1];
+        area[(*used)++] = 7;
+        area[(*used)++] = 0;
         area[(*used)++] = 0;
         return 0;
     }
@@ -180,13 +196,13 @@ static int ref_read(const char *text, size_t length, uint16_t *area, size_t area
 
 static int ref_page_sound(const uint16_t *page, size_t length)
 {
-    unsigned i, k, line;
+    unsigned i, k, line, entries[512] = { 0 };
 
-    if (length < 4 || page[3] > length || page[3] < 4)
+    if (length < 4 || page[3] > length || page[3] < 4u + page[1])
         return 0;
     if (page[0] == 0 || page[0] > 200 || page[1] == 0 || page[1] > 512 || page[2] > 1024)
         return 0;
-    for (line = 0, i = 4; line < page[2]; line++) {
+    for (line = 0, i = 4 + page[1]; line < page[2]; line++) {
         if (i + 4 > page[3] || page[i] >= page[1])
             return 0;
         switch (page[i + 1]) {
@@ -209,10 +225,19 @@ static int ref_page_sound(const uint16_t *page, size_t length)
                 return 0;
             i += 4;
             break;
+        case 7:
+            if (page[i + 2] != 0 || page[i + 3] != 0)
+                return 0;
+            entries[page[i]]++;
+            i += 4;
+            break;
         default:
             return 0;
         }
     }
+    for (k = 0; k < page[1]; k++)
+        if (page[4 + k] > 1 || page[4 + k] != entries[k])
+            return 0;
     return i == page[3];
 }
 
@@ -265,16 +290,17 @@ static struct pair literal(const struct pair *held, int literal, int top)
 static struct pair body(const uint16_t *page, const struct pair *held, int condition)
 {
     struct pair t = { 0, 0 }, v, w;
-    unsigned line, i = 4, k;
-    int top = page[0];
+    unsigned line, i = 4 + page[1], k;
+    int top = page[0], lines = 0;
 
     for (line = 0; line < page[2]; line++) {
         const uint16_t *p = page + i;
         int rule = p[1] >= 1 && p[1] <= 5;
 
         i += rule ? 4 + p[3] : 4;
-        if (p[0] != condition || p[1] == 6)
+        if (p[0] != condition || p[1] >= 6)
             continue;
+        lines++;
         if (rule) {
             v = literal(held, p[4], top);
             for (k = 1; k < p[3]; k++) {
@@ -293,6 +319,8 @@ static struct pair body(const uint16_t *page, const struct pair *held, int condi
         if (v.high > t.high)
             t.high = v.high;
     }
+    if (lines == 0 && page[4 + condition] == 1)
+        t.high = top;
     return t;
 }
 
@@ -316,7 +344,8 @@ static void ref_plain(const uint16_t *page, struct pair *held)
 }
 
 /*
- * I := T(I joined with the support of I) from [0;top]; the support has lows 0 and its highs iterated from 0. `changed` has for each condition the
+ * I := T(I joined with the support of I) from [0;top]; the support has lows 0 and its highs iterated from 0, but for what is unknown by default,
+ * where it has [0;top]. `changed` has for each condition the
  * number of the last assignment that is not like the one before it there: the greatest over the reached conditions is the count of rounds.
  */
 static void ref_closed(const uint16_t *page, struct pair *held, uint32_t *changed)
@@ -330,7 +359,7 @@ static void ref_closed(const uint16_t *page, struct pair *held, uint32_t *change
     do {
         number++;
         for (c = 0; c < count; c++)
-            support[c] = 0;
+            support[c] = page[4 + c] == 1 ? page[0] : 0;
         do {
             for (c = 0; c < count; c++) {
                 joined[c].low = held[c].low;
@@ -338,10 +367,11 @@ static void ref_closed(const uint16_t *page, struct pair *held, uint32_t *change
             }
             for (c = 0; c < count; c++)
                 next[c] = body(page, joined, c);
-            for (c = 0, rose = 0; c < count; c++) {
-                rose |= next[c].high != support[c];
-                support[c] = next[c].high;
-            }
+            for (c = 0, rose = 0; c < count; c++)
+                if (page[4 + c] == 0) {
+                    rose |= next[c].high != support[c];
+                    support[c] = next[c].high;
+                }
         } while (rose);
         for (c = 0, moved = 0; c < count; c++) {
             if (next[c].low != held[c].low || next[c].high != held[c].high)
@@ -354,7 +384,7 @@ static void ref_closed(const uint16_t *page, struct pair *held, uint32_t *change
 /* Some rule with head a names b. */
 static int names(const uint16_t *page, int a, int b)
 {
-    unsigned line, i = 4, k;
+    unsigned line, i = 4 + page[1], k;
 
     for (line = 0; line < page[2]; line++) {
         const uint16_t *p = page + i;
@@ -435,7 +465,7 @@ static uint32_t ref_holder(const uint16_t *page, const uint16_t *run, int condit
 {
     static uint16_t one[AREA];
     struct pair held[512], t;
-    int c, count = page[1], i = 4, k;
+    int c, count = page[1], i = 4 + count, k;
     unsigned line, length;
 
     for (c = 0; c < count; c++)
@@ -445,11 +475,12 @@ static uint32_t ref_holder(const uint16_t *page, const uint16_t *run, int condit
         const uint16_t *p = page + i;
 
         length = p[1] >= 1 && p[1] <= 5 ? 4 + p[3] : 4;
-        if (p[0] != condition || p[1] == 6)
+        if (p[0] != condition || p[1] >= 6)
             continue;
-        one[0] = page[0], one[1] = page[1], one[2] = 1, one[3] = 4 + length;    /* a page of this line alone */
+        one[0] = page[0], one[1] = page[1], one[2] = 1, one[3] = 4 + count + length;    /* a page of this line alone */
+        memset(one + 4, 0, count * sizeof *one);
         for (k = 0; k < (int)length; k++)
-            one[4 + k] = p[k];
+            one[4 + count + k] = p[k];
         if (body(one, held, condition).low == t.low)
             return line + 2;
     }
@@ -538,7 +569,7 @@ static void attach(const char *text, char *out)
         return;
     }
     out += sprintf(out, "top,%u\n", page[0]);
-    for (p = page + 4; p < page + used; p += 4 + (p[1] >= 1 && p[1] <= 5 ? p[3] : 0)) {
+    for (p = page + 4 + page[1]; p < page + used; p += 4 + (p[1] >= 1 && p[1] <= 5 ? p[3] : 0)) {
         if (p[1] != 6)
             continue;
         queries++;
@@ -625,6 +656,23 @@ static void figures(void)
         closed_one(used, 2, row8[i].low, row8[i].high);
     }
 
+    /* a camera that is not fitted: alone, beside a fact, and where it supports itself */
+    used = take("G,10,2\nD,1,U\nR,0,10,M,!1\n");
+    open_one(used, 0, 2, 1, 12, 2);
+    driven(used, 12, 1, 2);
+    held(used, 0, 1, 0, 10);
+    held(used, 1, 1, 0, 10);
+    closed_one(used, 0, 0, 10);
+    closed_one(used, 1, 0, 10);
+    used = take("G,10,1\nD,0,U\nF,0,2,3\n");
+    closed_one(used, 0, 2, 3);
+    used = take("G,10,1\nR,0,9,M,0\nD,0,U\n");
+    closed_one(used, 0, 0, 9);
+    used = take("G,10,2\nR,0,10,M,1\nR,1,10,M,0\nD,1,U\n");
+    closed_one(used, 0, 0, 10);
+    used = take("G,10,2\nD,0,U\nR,0,10,M,1\nR,1,10,M,1\n");
+    closed_one(used, 0, 0, 0);
+
     attach(example, out);
     same("attach", strcmp(out, "top,10\nK,0,2,7\nW,1,3,8\nend,2\n"), 0);
     attach("G,10,2\nF,0,2,2\nF,2,3,3\n", out);
@@ -669,6 +717,11 @@ static void reading(void)
         { "G,201,513\n", 4, 1, 2 }, { "G,10,2\nF,0,11,12\n", 22, 2, 3 }, { "G,10,2\nF,0,11,3\n", 22, 2, 3 },
         { "G,10,2\nF,2,4,3\n", 4, 2, 2 }, { "G,10,2\nR,2,0,M,2\n", 4, 2, 2 }, { "G,10,2\nR,0,0,M,2\n", 21, 2, 3 },
         { "G,10,2\nR,0,1,M,1,!2,1,2\n", 4, 2, 6 }, { "G,10,2\nR,0,1,M,1,1,1,1,1,1,1,2\n", 4, 2, 12 },
+        { "G,10,2\nD,0\n", 3, 2, 0 }, { "G,10,2\nD,0,V\n", 3, 2, 0 }, { "G,10,2\nd,0,U\n", 3, 2, 0 },
+        { "G,10,2\nD,0,U,\n", 3, 2, 0 }, { "G,10,2\nD,0,UU\n", 3, 2, 0 }, { "G,10,2\nD,!0,U\n", 3, 2, 0 },
+        { "G,10,2\nD,00,U\n", 3, 2, 0 }, { "D,0,U\n", 3, 1, 0 }, { "G,10,2\nD,2,U\n", 4, 2, 2 },
+        { "G,10,2\nD,0,U\nD,0,U\n", 24, 3, 0 }, { "G,10,2\nD,0,U\nQ,K,0\nD,1,U\nD,0,U\nx\n", 24, 5, 0 },
+        { "G,10,2\nD,0,U\nD,2,U\n", 4, 3, 2 }, { "G,10,2\nD,0,U\nD,512,U\n", 4, 3, 2 }, { "G,10,2\nD,0,U\nD,0,U,\n", 3, 3, 0 },
     };
     static char text[70000];
     static uint16_t want[AREA];
@@ -679,7 +732,8 @@ static void reading(void)
     for (i = 0; i < sizeof bad / sizeof *bad; i++)
         refused(bad[i].text, strlen(bad[i].text), bad[i].fault, bad[i].line, bad[i].place);
     refused("G,1,1\nF,0\0,0,0\n", 15, 3, 2, 0);
-    same("511 is read", take("G,200,512\nQ,K,511\nR,0,200,M,1,2,3,!4,5,6,7,!511\n"), 20);
+    same("511 is read", take("G,200,512\nQ,K,511\nR,0,200,M,1,2,3,!4,5,6,7,!511\n"), 532);
+    same("two D lines", take("G,10,2\nD,1,U\nD,0,U\n"), 14);
     same("no bytes", at->read(NULL, 0, NULL, 0, &line, &place), -2);
 
     /* 1,025 lines are read, the longest page too; line 1,026 is refused 5 */
@@ -687,10 +741,10 @@ static void reading(void)
     for (i = 0; i < 1024; i++)
         length += sprintf(text + length, "R,%d,200,P,1,2,3,4,5,6,!7,!%d\n", (int)(i % 512), (int)(i / 2));
     used = at->read((uint8_t *)text, length, page, SIMJORAD_PAGE_MAX, &line, &place);
-    same("longest page", used, 12292);
-    same("longest page, reference", ref_read(text, length, want, SIMJORAD_PAGE_MAX, &line, &place), 12292);
-    same("longest page, area", memcmp(page, want, 12292 * sizeof *page), 0);
-    same("area short by 1", at->read((uint8_t *)text, length, page, 12291, &line, &place), -6);
+    same("longest page", used, 12804);
+    same("longest page, reference", ref_read(text, length, want, SIMJORAD_PAGE_MAX, &line, &place), 12804);
+    same("longest page, area", memcmp(page, want, 12804 * sizeof *page), 0);
+    same("area short by 1", at->read((uint8_t *)text, length, page, 12803, &line, &place), -6);
     same("area short by 1, line", line, 0);
     text[length] = '?';
     text[length + 1] = '\n';
@@ -731,16 +785,37 @@ static void falling(void)
     held(used, 0, 1, 0, 0);
 }
 
+/* The ring of conditions unknown by default falls by 1 a turn. */
+static void falling_ring(void)
+{
+    static char text[PAGE_TEXT_MAX];
+    size_t length = page_text("ring-unknown", text);
+    uint32_t line, place, rounds = 0;
+    uint16_t query = 0;
+    int used = at->read((const uint8_t *)text, length, page, SIMJORAD_PAGE_MAX, &line, &place);
+
+    same("unknown ring", at->closed(page, used, &query, 1, scratch, SCRATCH, answers, 2, &rounds), 0);
+    same("unknown ring, rounds", rounds, 102200);
+    same("unknown ring, low", answers[0], 0);
+    same("unknown ring, high", answers[1], 0);
+}
+
 /* ---- Random pages ---- */
 
 static size_t random_text(char *text)
 {
     static const int tops[] = { 1, 2, 3, 5, 10, 17, 100, 200 };
-    int top = tops[draw(8)], count = 1 + draw(8), lines = draw(18), low, n;
+    int top = tops[draw(8)], count = 1 + draw(8), lines = draw(18), low, n, unknown = 0, often = draw(2) ? 10 : 13;
     size_t length = sprintf(text, "G,%d,%d\n", top, count);
 
     while (lines-- > 0)
-        switch (draw(10)) {
+        switch (draw(often)) {
+        case 10: case 11: case 12:
+            n = draw(count);
+            if (!(unknown >> n & 1))
+                length += sprintf(text + length, "D,%d,U\n", n);
+            unknown |= 1 << n;
+            break;
         case 0: case 1:
             low = draw(top + 1);
             n = draw(count);
@@ -816,7 +891,7 @@ static void random_page(void)
 
         /* reading, also with a byte changed, and with a short area */
         memcpy(broken, text, length);
-        broken[draw(length)] = draw(3) ? "0123456789,,,!\n\n MXLBPKWGFRQ"[draw(28)] : (char)draw(256);
+        broken[draw(length)] = draw(3) ? "0123456789,,,!\n\n MXLBPKWGFRQDU"[draw(30)] : (char)draw(256);
         compare_read(broken, length, SIMJORAD_PAGE_MAX);
         compare_read(broken, draw(length + 1), SIMJORAD_PAGE_MAX);
         compare_read(text, length, used - 1 - draw(used));
@@ -953,7 +1028,8 @@ int main(int argc, char **argv)
         figures();
         reading();
         falling();
-        printf("%s: figures, reading and falling chain done\n", at->name);
+        falling_ring();
+        printf("%s: figures, reading, falling chain and unknown ring done\n", at->name);
     }
     for (i = 0; i < pages; i++)
         random_page();

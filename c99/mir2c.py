@@ -46,6 +46,22 @@ APART = '''#ifdef __GNUC__
 #endif
 '''
 
+# such a function with fewer bytes of arrays than this that is called in one place only, by a visible function, is a part of that one, whose frame
+# would not be smaller without it; gcc alone would leave it out for its arrays
+SMALL = 256
+ONCE = '''#ifdef __GNUC__
+#define ONCE inline __attribute__((always_inline)) /* a part of the one function that calls it */
+#else
+#define ONCE inline
+#endif
+'''
+
+# The count of rounds of the closed reading is the call that takes the most stack. What its loop calls with arrays is a part of it (their frames
+# would each keep the slices at hand once more), and what runs beside these calls keeps its frame to itself.
+PARTS = {'stages::support', 'stages::advance', 'stages::follow', 'stages::take_highs', 'settle::raise_head'}
+BESIDE = {'page::page_sound', 'reach::mark_closure', 'closed::write_answers', 'settle::settle', 'stages::begin', 'stages::lower_tops',
+          'stages::note_all', 'stages::take_all'}
+
 # a function of more statements than this, with those that only it calls, is not inlined by gcc -O2 if it is called in two places
 LONG = 64
 SHARED = '''#if defined(__GNUC__) && defined(__OPTIMIZE__) && !defined(__OPTIMIZE_SIZE__)
@@ -112,11 +128,13 @@ def comment(text):
 class Program:
     """The types, in the order in which C needs them, and what is known of the functions."""
 
-    def __init__(self, functions, types, names, folded):
+    def __init__(self, functions, types, names, folded, exports):
         self.functions, self.types, self.names = functions, types, names
         self.bodies = {name: fold.fold(function) if folded else function.body for name, function in functions.items()}
         self.shared = shared(self.bodies)
-        self.apart = apart(self.bodies, functions)
+        self.once = once(self.bodies, functions, exports)
+        self.once |= PARTS & set(self.bodies)
+        self.apart = (apart(self.bodies, functions) | BESIDE & set(self.bodies)) - self.once
         self.defined, self.helpers = {}, {}
 
     def shape(self, t):
@@ -377,7 +395,8 @@ class Writer:
         unread = [self.name(str(i)) for i in range(1, 1 + count) if self.name(str(i)) not in used]
         unread = [f'    (void){name}; /* only the contract speaks of it */' for name in unread]
         mine = [i for i in range(len(self.types)) if (i == 0 or i > count) and f'x{i}' in used]
-        kind = 'APART' if self.function.name in self.program.apart else 'SHARED' if self.function.name in self.program.shared else 'inline'
+        of = self.function.name
+        kind = 'APART' if of in self.program.apart else 'ONCE' if of in self.program.once else 'SHARED' if of in self.program.shared else 'inline'
         head = f'static {kind} {self.program.result(self.function.name)} {c_name(self.function.name)}({parameters})'
         return comment(self.comment) + wrapped(head) + ['{'] + self.declarations(mine) + unread + self.lines + ['}', '']
 
@@ -490,6 +509,13 @@ def apart(bodies, functions):
     return {name for name in bodies if bytes_of[name] >= LARGE and not in_loop(name)}
 
 
+def once(bodies, functions, exports):
+    """The functions with arrays that a visible function calls once, and no other place calls, and those visible ones: see SMALL."""
+    found = {name: sites[0][0] for name, sites in sites_of(bodies).items()
+             if LARGE <= array_bytes(functions[name]) < SMALL and len(sites) == 1 and not sites[0][1] and sites[0][0] in exports}
+    return {*found, *found.values()}
+
+
 def shared(bodies):
     """The functions that two loops share as a part of their body, and no other place calls: those that are LONG."""
     sites = sites_of(bodies)
@@ -506,7 +532,7 @@ def translate(text, prefix, sources, include, folded):
     functions, types = mir.load(text)
     exports = [name for name in functions if name.split('::')[-1].startswith(prefix)]
     order = needed(functions, exports)
-    program = Program({name: functions[name] for name in order}, types, source.Source(sources), folded)
+    program = Program({name: functions[name] for name in order}, types, source.Source(sources), folded, exports)
     bodies, visible = [], []
     for name in order:
         writer = Writer(program, functions[name])
@@ -515,7 +541,7 @@ def translate(text, prefix, sources, include, folded):
             visible += Export(program, functions[name], writer).text()
     defined = [line for lines in program.defined.values() for line in lines + ([''] if len(lines) > 1 else [])]
     head = HEAD + (f'#include "{include}"\n' if include else '')
-    return '\n'.join([head, CHECKS, APART, SHARED, *defined, '', *program.helpers.values(), *bodies, *visible]).rstrip() + '\n'
+    return '\n'.join([head, CHECKS, APART, ONCE, SHARED, *defined, '', *program.helpers.values(), *bodies, *visible]).rstrip() + '\n'
 
 
 def main():

@@ -25,6 +25,10 @@
  * Rounding. In the value of a rule each division, that of P and that of the weight, rounds the low end down and the high end up: weight 5
  * over grade 5 at top 10 is 2 to 3. So the exact figures of a page, worked with fractions, lie within its plain intervals.
  *
+ * Unknown by default. A D line of the page makes its condition unknown by default, as for a sensor that is not fitted. Without F and R lines such a
+ * condition holds 0 and top in both readings, where any other is false, 0 and 0. With such lines they decide; in a support of the closed reading it
+ * holds 0 and top either way.
+ *
  * Allowance. No run takes more evaluations than the bound that its opening returned. Pass that bound, or less, as the allowance of a
  * drive, not the largest number: on a run area that was damaged or belongs to another page, and is sound by chance, a drive may
  * never come to rest.
@@ -39,8 +43,10 @@
  *   value            no more than the check
  *   line             a scan of the page for the lines of the condition, and one up to the line
  *   closed           scans of the page until nothing changes, which can be many; then for each round counted a scan, and some more where a
- *                    negated low end rose
- *   closed_indexed   an index, then only the lines of what waits, and for each round counted those of what moved
+ *                    negated low end rose; where a reached condition is unknown by default, one more in each round and for each fall of
+ *                    such high ends
+ *   closed_indexed   an index, then only the lines of what waits, and for each round counted those of what moved; the scans for conditions
+ *                    unknown by default as in closed
  *   layers           scans of the page until nothing changes, usually a few and at most C; if the page is refused 30, a search with at most
  *                    2 * C scans more
  *   check_picks      a scan of the page for each reached condition, then for each pick a scan for the lines of the condition, and one
@@ -72,18 +78,21 @@ extern "C" {
  * measurements and do not count). SIMJORAD_LAYOUT is raised whenever the layout of a page area or a run area changes: an area that was
  * kept under another layout must be read or opened again.
  */
-#define SIMJORAD_VERSION 13
-#define SIMJORAD_LAYOUT 1
+#define SIMJORAD_VERSION 14
+#define SIMJORAD_LAYOUT 2
 
 /*
- * Layout 1.
+ * Layout 2.
  *
- * Page area: top, C, count of lines after the first, used length (these four counted in it); then the lines in page order:
+ * Page area: top, C, count of lines after the first, used length; then C numbers, one for each condition: 0 false by default, 1 unknown by
+ * default; then the lines in page order (the four and the C numbers are counted in the used length):
  *   fact     condition, 0, low, high
  *   rule     condition, kind, weight, n, then n literals; kinds 1 to 5 are M, X, L, B, P; a literal is 2 * condition, plus 1 if negated
  *   query    condition, 6, 0 for K or 1 for W, 0
+ *   D line   condition, 7, 0, 0
  * It is sound if it is at least as long as its four head numbers and its used length, every field is in range, no fact has low
- * above high, it has at most SIMJORAD_LINES_MAX lines and they fill exactly the used length.
+ * above high, it has at most SIMJORAD_LINES_MAX lines and they fill exactly the used length, and each of the C numbers is 0 where its
+ * condition has no D line, and 1 where it has exactly one. No other number is sound there.
  *
  * Run area: low, high, mark for each condition in turn. Mark 0 is not reached, 1 reached, 2 reached and waiting. It is sound if
  * low <= high <= top, marks are 0 to 2, and a condition with mark 0 holds 0 and top.
@@ -101,14 +110,14 @@ extern "C" {
 #define SIMJORAD_SMALL_TEXT_MAX 28    /* bytes of the longest text of a small page */
 #define SIMJORAD_SEASON_MAX 4096      /* pairs of a season */
 #define SIMJORAD_TEXT_MAX 65535       /* bytes of a page's text */
-#define SIMJORAD_PAGE_MAX 12292       /* numbers of the longest page area */
+#define SIMJORAD_PAGE_MAX 12804       /* numbers of the longest page area */
 #define SIMJORAD_RUN_LENGTH(c) (3 * (c))     /* numbers of a run area for c conditions */
 #define SIMJORAD_SCRATCH_LENGTH(c) (4 * (c)) /* numbers of scratch for the closed reading of c conditions */
 #define SIMJORAD_SHARED_LENGTH(c) (6 * (c))  /* numbers of an area for the runs of two stalls of c conditions */
 
 /*
  * Numbers of a workspace with room for a page's index, and the most that any page needs. The page area holds the counts: conditions is
- * its second number, lines its third, and literals is its fourth (the used length) - 4 - 4 * lines.
+ * its second number, lines its third, and literals is its fourth (the used length) - 4 - conditions - 4 * lines.
  */
 #define SIMJORAD_WORKSPACE_LENGTH(conditions, lines, literals) (3 * (conditions) + 2 + (lines) + (literals))
 #define SIMJORAD_WORKSPACE_MAX 10754
@@ -120,15 +129,15 @@ extern "C" {
  */
 #define SIMJORAD_STACK_READ 448
 #define SIMJORAD_STACK_SHOW_LINE 64
-#define SIMJORAD_STACK_OPEN 1280
+#define SIMJORAD_STACK_OPEN 1344
 #define SIMJORAD_STACK_EVALUATE 1664
 #define SIMJORAD_STACK_DRIVE 1920
 #define SIMJORAD_STACK_DRIVE_INDEXED 1984
-#define SIMJORAD_STACK_VALUE 192
+#define SIMJORAD_STACK_VALUE 256
 #define SIMJORAD_STACK_LINE 1408
 #define SIMJORAD_STACK_CLOSED 2048
 #define SIMJORAD_STACK_CLOSED_INDEXED 2112
-#define SIMJORAD_STACK_LAYERS 1280
+#define SIMJORAD_STACK_LAYERS 1408
 #define SIMJORAD_STACK_CHECK_PICKS 1920
 #define SIMJORAD_STACK_OPEN_FIRST 1344
 #define SIMJORAD_STACK_OPEN_SECOND 1344
@@ -159,6 +168,7 @@ extern "C" {
 #define SIMJORAD_WEIGHT_RANGE 21      /* a weight outside 1 to top */
 #define SIMJORAD_GRADE_RANGE 22       /* a low or high over top */
 #define SIMJORAD_LOW_ABOVE_HIGH 23    /* low above high, both at most top */
+#define SIMJORAD_SECOND_DEFAULT 24    /* a second D line for one condition */
 #define SIMJORAD_NEGATED_LOOP 30      /* a chain through a negation leads back */
 #define SIMJORAD_LAYERS_SHORT 31      /* the slice for the layers is shorter than C */
 #define SIMJORAD_PICK_NOT_WAITING 50  /* a pick is not waiting, or not a condition */
@@ -171,10 +181,11 @@ extern "C" {
 #define SIMJORAD_SEASON_PAIR 81       /* a pair with low above high, or high over 200 */
 
 /*
- * Read a page: the text becomes a page area. Returns the used length (4 or more), or minus 1, 2, 5, 3, 4, 21, 22, 23 or 6.
- * Sets *line, also on refusal: to the line's number for 3, 5, 4, 21, 22 and 23 (lines count from 1, and the G line is 1), and to 0 for 1, 2 and 6
+ * Read a page: the text becomes a page area. Returns the used length (5 or more), or minus 1, 2, 5, 3, 4, 21, 22, 23, 24 or 6.
+ * Sets *line, also on refusal: to the line's number for 3, 5, 4, 21, 22, 23 and 24 (lines count from 1, and the G line is 1), and to 0 for 1, 2 and 6
  * and for a page that is read. Sets *place likewise: for 4, 21, 22 and 23 to the place of the leftmost bad field in its line (fields count from 1,
- * and the letter is 1, so the first literal of a rule is 5), and to 0 else. Low above high is told at the high field.
+ * and the letter is 1, so the first literal of a rule is 5), and to 0 else, 24 included. Low above high is told at the high field; 24 comes after
+ * every field out of range in its line, and its line is the second D line.
  * Writes the used length of area, and nothing of it on refusal.
  */
 int32_t simjorad_read(const uint8_t *text, size_t text_length, uint16_t *area, size_t area_length, uint32_t *line, uint32_t *place);
@@ -206,8 +217,8 @@ int32_t simjorad_evaluate(const uint16_t *page, size_t page_length, uint16_t *ru
  * Drive: evaluates the lowest waiting condition until none waits or the allowance is used.
  * Returns 1 for rest, 0 for spent, or minus 10 or 14. Sets *taken to the evaluations taken, and *line to the line that its last evaluation
  * tells: the number of the first F or R line of that condition whose low end, on the intervals held before that evaluation, is the
- * condition's new low end (lines count from 1, and the G line is 1). *line is 0 if the condition has no F or R lines, or if no evaluation
- * was taken. Writes among the first 3 * C numbers of run.
+ * condition's new low end (lines count from 1, and the G line is 1). It is never a D line, though D lines count. *line is 0 if the condition
+ * has no F or R lines, or if no evaluation was taken. Writes among the first 3 * C numbers of run.
  */
 int32_t simjorad_drive(const uint16_t *page, size_t page_length, uint16_t *run, size_t run_length, uint32_t allowance,
                        uint32_t *taken, uint32_t *line);
@@ -241,7 +252,7 @@ int32_t simjorad_line(const uint16_t *page, size_t page_length, const uint16_t *
 /*
  * Closed reading. Returns 0, or minus 10, 11, 12, 18 or 19. Writes low, high per query in list order to answers;
  * the first 4 * C numbers of scratch end as zero, and no other number of scratch is read or written. Each closed interval lies inside
- * the plain one of its condition.
+ * the plain one of its condition. A condition unknown by default holds 0 and top in every support.
  * Sets *rounds to the count of rounds: from [0;top] on every condition that the queries reach, each next assignment is the body value of the
  * last joined with its support; the count is the number of the first assignment that the next one equals. It is at most R * top, which needs 32 bits.
  */

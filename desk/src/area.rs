@@ -1,11 +1,11 @@
 //! The layout of a page area and of a run area (docs/RULES.md, "Areas"): what the desk reads of an accepted page, in this file and nowhere else.
-//! A new layout changes `first_line` (where the lines begin) and `body` (the kinds of lines).
+//! A change of layout changes `first_line` (where the lines begin) and `body` (the kinds of lines).
 
 use std::fmt;
 
 use crate::header;
 
-const _: () = assert!(header::LAYOUT <= 2, "this file knows the layouts 1 and 2");
+const _: () = assert!(header::LAYOUT == 2, "this file knows layout 2");
 
 /// An interval [low;high] of grades.
 #[derive(Clone, Copy, Debug, PartialEq, Eq)]
@@ -60,14 +60,9 @@ pub fn conditions(area: &[u16]) -> usize {
     usize::from(area[1])
 }
 
-/// Where the lines begin: behind the four head numbers, and from layout 2 on behind one number more for each condition.
+/// Where the lines begin: behind the four head numbers and one number for each condition, which says whether it is unknown by default.
 fn first_line(area: &[u16]) -> usize {
-    let defaults = if header::LAYOUT == 1 {
-        0
-    } else {
-        conditions(area)
-    };
-    4 + defaults
+    4 + conditions(area)
 }
 
 /// The lines after the first, in page order.

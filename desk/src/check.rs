@@ -28,7 +28,7 @@ pub fn run(page: &Page) -> Report {
     .into_iter()
     .flatten()
     .collect();
-    let mut out = head(page);
+    let mut out = head(page) + &unknown_by_default(page);
     for warning in &warnings {
         out.push_str(&format!("\nwarning: {}\n", warning.text));
         for line in &warning.more {
@@ -58,6 +58,18 @@ fn head(page: &Page) -> String {
     )
 }
 
+/// The conditions that are unknown by default, each with its D line. That is no warning.
+fn unknown_by_default(page: &Page) -> String {
+    let mut out = String::new();
+    for condition in 0..page.conditions {
+        if let Some(line) = page.default_line(condition) {
+            let (label, line) = (page.label(condition), page.shown_line(line));
+            out.push_str(&format!("{label} is unknown by default: {line}\n"));
+        }
+    }
+    out
+}
+
 fn bad_names(page: &Page) -> Vec<Warning> {
     let warning = |fault: &String| Warning {
         text: fault.clone(),
@@ -85,7 +97,7 @@ fn loop_through_absence(page: &Page) -> Vec<Warning> {
     }]
 }
 
-/// Conditions that are named but have no line.
+/// Conditions that are named but have no line, not even one that makes them unknown by default.
 fn without_lines(page: &Page, readings: &Readings) -> Vec<Warning> {
     let named = |condition: &usize| {
         page.own_lines(*condition).is_empty() && !page.naming_lines(*condition).is_empty()
@@ -94,10 +106,7 @@ fn without_lines(page: &Page, readings: &Readings) -> Vec<Warning> {
         let label = page.label(condition);
         let mut more = named_lines(page, readings, condition);
         more.extend(opened_or_shut(page, readings, condition));
-        more.push(format!(
-            "if {label} is not measured, write F,{condition},0,{}",
-            page.top
-        ));
+        more.push(format!("if {label} is not measured, write D,{condition},U"));
         Warning {
             text: format!(
                 "{label} has no F or R line: {}, not unknown",

@@ -98,7 +98,7 @@ impl Side<'_> {
             .line(self.page, query.reading, query.condition);
         let held = match line {
             Some(line) => format!("low end by {}", self.page.shown_line(line)),
-            None => "no F or R line".to_string(),
+            None => self.page.bodyless(query.condition),
         };
         format!("  {} {interval:9}  {held}\n", self.word)
     }

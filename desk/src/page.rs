@@ -116,6 +116,23 @@ impl Page {
         rule.map_or(&[], |(_, _, literals)| literals)
     }
 
+    /// The D line of a condition that is unknown by default.
+    pub fn default_line(&self, condition: usize) -> Option<usize> {
+        let own = |line: &&Line| line.condition == condition && matches!(line.body, Body::Unknown);
+        self.lines.iter().find(own).map(|line| line.number)
+    }
+
+    /// What a condition without F and R lines has instead, in words: its D line, or none.
+    pub fn bodyless(&self, condition: usize) -> String {
+        match self.default_line(condition) {
+            Some(line) => format!(
+                "no F or R line, unknown by default by {}",
+                self.shown_line(line)
+            ),
+            None => "no F or R line".to_string(),
+        }
+    }
+
     /// The F and R lines of a condition, and its D line.
     pub fn own_lines(&self, condition: usize) -> Vec<usize> {
         let own = |line: &&Line| line.condition == condition && !is_query(line);

@@ -40,8 +40,8 @@ pub fn literal_value(top: u16, literal: Literal, held: Interval) -> Interval {
     value(top, &top.to_string(), "M", &[(literal, held)])
 }
 
-/// The answers to queries if a condition had one more line, a fact that it is unknown. Q lines add nothing and are left out, so there is
-/// room for that line.
+/// The answers to queries if a condition without lines were unknown by default. Q lines add nothing and are left out, so there is room for
+/// its D line.
 pub fn answers_if_unknown(page: &Page, condition: usize, queries: &[Query]) -> Vec<Interval> {
     let asked: Vec<usize> = page.queries().iter().map(|query| query.line).collect();
     let mut text = String::new();
@@ -49,7 +49,7 @@ pub fn answers_if_unknown(page: &Page, condition: usize, queries: &[Query]) -> V
         text.push_str(&page.line_text(number));
         text.push('\n');
     }
-    text.push_str(&format!("F,{condition},0,{}\n", page.top));
+    text.push_str(&format!("D,{condition},U\n"));
     let area = area_of(&text);
     let wanted: Vec<usize> = queries.iter().map(|query| query.condition).collect();
     let readings = readings::Readings {

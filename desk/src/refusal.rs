@@ -19,6 +19,9 @@ pub fn report(path: &str, text: &[u8], refusal: &Refusal) -> String {
         _ if refusal.line > 0 => out.push_str(&shown(text, refusal)),
         _ => {}
     }
+    if refusal.number == header::SECOND_DEFAULT {
+        out.push_str(&first_default(text, refusal));
+    }
     if let Some(range) = range(text, refusal) {
         out.push_str(&format!("asked for: {range}\n"));
     }
@@ -58,6 +61,16 @@ fn last_line(text: &[u8]) -> String {
         [] => String::new(),
         line => format!("  line {number}: {}\n", printable(line)),
     }
+}
+
+/// The line before a second D line that it repeats: lines of one form and one condition are the same bytes.
+fn first_default(text: &[u8], refusal: &Refusal) -> String {
+    let second = ffi::show_line(text, refusal.line);
+    let same = |number: &usize| ffi::show_line(text, *number) == second;
+    let first = (2..refusal.line).find(same);
+    first.map_or(String::new(), |number| {
+        format!("the first is line {number}: {}\n", printable(second))
+    })
 }
 
 /// Where a field of a line begins and ends. Fields count from 1.
@@ -133,21 +146,17 @@ fn advice(text: &[u8], refusal: &Refusal) -> String {
         header::WEIGHT_RANGE => "correct the weight".to_string(),
         header::GRADE_RANGE => "correct the grade".to_string(),
         header::LOW_ABOVE_HIGH => "exchange the two ends, or correct one".to_string(),
+        header::SECOND_DEFAULT => "delete one of the two lines: one says it all".to_string(),
         _ => "see docs/PAGES.md".to_string(),
     }
 }
 
-/// The forms that a line may have. Layout 2 has one more.
+/// The forms that a line may have.
 fn forms(number: usize) -> String {
     let literals = header::LITERALS_MAX;
-    let unknown = if header::LAYOUT == 1 {
-        ""
-    } else {
-        " or D,cond,U"
-    };
     let forms = match number {
         1 => "G,top,C".to_string(),
-        _ => format!("F,cond,low,high or R,cond,weight,op,literal,... with 1 to {literals} literals or Q,reading,cond{unknown}"),
+        _ => format!("F,cond,low,high or R,cond,weight,op,literal,... with 1 to {literals} literals or Q,reading,cond or D,cond,U"),
     };
     format!("{forms}; a number has 1 to 3 digits and no leading zero")
 }

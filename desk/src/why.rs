@@ -79,15 +79,15 @@ impl Telling<'_> {
     /// Tells the line that holds the low end of a condition, and its literals.
     fn tell_line(&mut self, depth: usize, condition: usize) {
         let Some(line) = ffi::line(&self.page.area, &self.run, condition) else {
-            let own = self.page.own_lines(condition);
-            let own: Vec<String> = own
-                .into_iter()
-                .map(|line| self.page.shown_line(line))
-                .collect();
-            let text = ["no F or R line".to_string()].into_iter().chain(own);
-            let text: Vec<String> = text.collect();
-            return self.say(depth, &text.join(", "));
+            return self.say(depth, &self.page.bodyless(condition));
         };
+        if let Some(default) = self.page.default_line(condition) {
+            let shown = self.page.shown_line(default);
+            self.say(
+                depth,
+                &format!("unknown by default by {shown}; its F and R lines decide"),
+            );
+        }
         self.say(depth, &self.page.shown_line(line));
         let mut seen: Vec<Literal> = Vec::new();
         for literal in self.page.literals(line).to_vec() {

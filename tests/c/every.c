@@ -12,10 +12,11 @@ static int passed, failed;
 
 /* 0 and 1 deny each other, each with a fact (docs/RULES.md, row 1). */
 static const char text[] = "G,10,2\nF,0,2,2\nF,1,3,3\nR,0,10,M,!1\nR,1,10,M,!0\nQ,K,0\nQ,W,1\n";
-enum { TEXT = sizeof text - 1, USED = 30, INDEX = SIMJORAD_WORKSPACE_LENGTH(2, 6, 2) };
+enum { TEXT = sizeof text - 1, USED = 32, INDEX = SIMJORAD_WORKSPACE_LENGTH(2, 6, 2) };
 
 /* The page area of the text, in memory that is only read. */
-static const uint16_t area[USED] = {10, 2,  6, 30,                               /* top, C, lines, used length */
+static const uint16_t area[USED] = {10, 2,  6, 32,                               /* top, C, lines, used length */
+                                    0,  0,                                       /* nobody is unknown by default */
                                     0,  0,  2, 2,  1, 0, 3, 3,                   /* two facts */
                                     0,  1,  10, 1, 3, 1, 1, 10, 1, 1,            /* two rules of one literal: 2 * condition + 1 */
                                     0,  6,  0, 0,  1, 6, 1, 0};                  /* a K and a W query */
@@ -69,7 +70,7 @@ static void long_texts(void)
         at += (size_t)sprintf((char *)bytes + at, "R,511,200,P,0,1,2,3,4,5,6,!511\n");
     CHECK(simjorad_read(bytes, at, page, SIMJORAD_PAGE_MAX, &line, &place) == SIMJORAD_PAGE_MAX && line == 0 && place == 0);
     CHECK(page[3] == SIMJORAD_PAGE_MAX && page[2] == SIMJORAD_LINES_MAX);
-    CHECK(SIMJORAD_WORKSPACE_LENGTH(page[1], page[2], page[3] - 4 - 4 * page[2]) == SIMJORAD_WORKSPACE_MAX);
+    CHECK(SIMJORAD_WORKSPACE_LENGTH(page[1], page[2], page[3] - 4 - page[1] - 4 * page[2]) == SIMJORAD_WORKSPACE_MAX);
     CHECK(simjorad_read(bytes, at, page, SIMJORAD_PAGE_MAX - 1, &line, &place) == -SIMJORAD_AREA_SHORT && line == 0 && place == 0);
     bytes[at] = 'x';
     bytes[at + 1] = 10;
@@ -121,22 +122,40 @@ static void runs(void)
 /* A sound run area that no opening left need not come to rest: 0 denies itself and goes to and fro. */
 static void no_rest(void)
 {
-    static const uint16_t page[] = {1, 1, 1, 9, 0, 1, 1, 1, 1};
+    static const uint16_t page[] = {1, 1, 1, 10, 0, 0, 1, 1, 1, 1};
     uint16_t run[] = {0, 0, 2};
     uint32_t taken = 0, line = 0;
 
-    CHECK(simjorad_drive(page, 9, run, 3, 1000, &taken, &line) == 0 && taken == 1000 && line == 2 && run[2] == 2);
+    CHECK(simjorad_drive(page, 10, run, 3, 1000, &taken, &line) == 0 && taken == 1000 && line == 2 && run[2] == 2);
+}
+
+/* `D,1,U` and `R,0,10,M,!1`: a camera that is not fitted is unknown in both readings, and so is what denies it. */
+static void unknown(void)
+{
+    static const char lines[] = "G,10,2\nD,1,U\nR,0,10,M,!1\n", twice[] = "G,10,2\nD,1,U\nD,1,U\n";
+    static const uint16_t wanted[] = {10, 2, 2, 15, 0, 1, 1, 7, 0, 0, 0, 1, 10, 1, 3}, queries[] = {0, 1}, answer[] = {0, 10, 0, 10};
+    uint16_t page[15], run[6], scratch[8], answers[4] = {77, 77, 77, 77};
+    uint32_t reached, edges, bound, passes, taken, line, place, rounds = 77;
+
+    CHECK(simjorad_read((const uint8_t *)lines, sizeof lines - 1, page, 15, &line, &place) == 15 && same(page, wanted, 15));
+    CHECK(simjorad_open(page, 15, queries, 1, run, 6, &reached, &edges, &bound, &passes) == 0 && reached == 2 && edges == 1);
+    CHECK(simjorad_drive(page, 15, run, 6, bound, &taken, &line) == 1 && taken == 2 && line == 0);
+    CHECK(run[0] == 0 && run[1] == 10 && run[3] == 0 && run[4] == 10);
+    CHECK(simjorad_closed(page, 15, queries, 2, scratch, 8, answers, 4, &rounds) == 0 && rounds == 0 && same(answers, answer, 4));
+    page[5] = 0;
+    CHECK(simjorad_closed(page, 15, queries, 2, scratch, 8, answers, 4, &rounds) == -SIMJORAD_PAGE_UNSOUND);
+    CHECK(simjorad_read((const uint8_t *)twice, sizeof twice - 1, page, 15, &line, &place) == -SIMJORAD_SECOND_DEFAULT && line == 3 && place == 0);
 }
 
 /* The line that an evaluation tells, and the one of the intervals then held: F,0,5,5 and then R,0,10,B,0,0. */
 static void held_lines(void)
 {
-    static const uint16_t page[] = {10, 1, 2, 14, 0, 0, 5, 5, 0, 4, 10, 2, 0, 0};
+    static const uint16_t page[] = {10, 1, 2, 15, 0, 0, 0, 5, 5, 0, 4, 10, 2, 0, 0};
     uint16_t run[] = {0, 10, 2};
     uint32_t taken = 0, line = 0;
 
-    CHECK(simjorad_drive(page, 14, run, 3, 1, &taken, &line) == 0 && taken == 1 && line == 2 && run[0] == 5);
-    CHECK(simjorad_line(page, 14, run, 3, 0) == 3);
+    CHECK(simjorad_drive(page, 15, run, 3, 1, &taken, &line) == 0 && taken == 1 && line == 2 && run[0] == 5);
+    CHECK(simjorad_line(page, 15, run, 3, 0) == 3);
 }
 
 static void closed(void)
@@ -161,17 +180,17 @@ static void closed(void)
 
 static void layered(void)
 {
-    static const uint16_t page[] = {1, 4, 3, 20, 0, 1, 1, 1, 3, 1, 1, 1, 1, 5, 3, 1, 1, 2, 2, 6}, wanted[] = {2, 1, 0, 1};
+    static const uint16_t page[] = {1, 4, 3, 24, 0, 0, 0, 0, 0, 1, 1, 1, 3, 1, 1, 1, 1, 5, 3, 1, 1, 2, 2, 6}, wanted[] = {2, 1, 0, 1};
     uint16_t layers[5] = {77, 77, 77, 77, 77};
     uint32_t condition = 77;
 
     CHECK(simjorad_layers(area, USED, layers, 2, &condition) == -SIMJORAD_NEGATED_LOOP && condition == 0 && layers[0] == 77);
     condition = 77;
-    CHECK(simjorad_layers(page, 20, layers, 3, &condition) == -SIMJORAD_LAYERS_SHORT && condition == 0 && layers[0] == 77);
+    CHECK(simjorad_layers(page, 24, layers, 3, &condition) == -SIMJORAD_LAYERS_SHORT && condition == 0 && layers[0] == 77);
     condition = 77;
-    CHECK(simjorad_layers(page, 19, NULL, 0, &condition) == -SIMJORAD_PAGE_UNSOUND && condition == 0);
+    CHECK(simjorad_layers(page, 23, NULL, 0, &condition) == -SIMJORAD_PAGE_UNSOUND && condition == 0);
     condition = 77;
-    CHECK(simjorad_layers(page, 20, layers, 5, &condition) == 0 && condition == 0 && same(layers, wanted, 4) && layers[4] == 77);
+    CHECK(simjorad_layers(page, 24, layers, 5, &condition) == 0 && condition == 0 && same(layers, wanted, 4) && layers[4] == 77);
 }
 
 static void picked(void)
@@ -222,12 +241,12 @@ static void stalls(void)
 
 static void followed(void)
 {
-    static const uint16_t page[] = {1, 4, 3, 20, 0, 1, 1, 1, 3, 1, 1, 1, 1, 5, 3, 1, 1, 2, 2, 6};
+    static const uint16_t page[] = {1, 4, 3, 24, 0, 0, 0, 0, 0, 1, 1, 1, 3, 1, 1, 1, 1, 5, 3, 1, 1, 2, 2, 6};
 
-    CHECK(simjorad_followers(page, 20, 0) == 0 && simjorad_followers(page, 20, 1) == 2);
-    CHECK(simjorad_followers(page, 20, 2) == 3 && simjorad_followers(page, 20, 3) == 1);
-    CHECK(simjorad_followers(page, 20, 4) == -SIMJORAD_CONDITION_RANGE);
-    CHECK(simjorad_followers(page, 19, 4) == -SIMJORAD_PAGE_UNSOUND);
+    CHECK(simjorad_followers(page, 24, 0) == 0 && simjorad_followers(page, 24, 1) == 2);
+    CHECK(simjorad_followers(page, 24, 2) == 3 && simjorad_followers(page, 24, 3) == 1);
+    CHECK(simjorad_followers(page, 24, 4) == -SIMJORAD_CONDITION_RANGE);
+    CHECK(simjorad_followers(page, 23, 4) == -SIMJORAD_PAGE_UNSOUND);
     CHECK(simjorad_followers(NULL, 0, 0) == -SIMJORAD_PAGE_UNSOUND);
 }
 
@@ -264,6 +283,7 @@ int main(void)
     long_texts();
     runs();
     no_rest();
+    unknown();
     held_lines();
     closed();
     layered();

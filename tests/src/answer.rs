@@ -22,6 +22,7 @@ pub const ANSWERS_SHORT: Refusal = 19;
 pub const WEIGHT_RANGE: Refusal = 21;
 pub const GRADE_RANGE: Refusal = 22;
 pub const LOW_ABOVE_HIGH: Refusal = 23;
+pub const SECOND_DEFAULT: Refusal = 24;
 pub const NEGATED_LOOP: Refusal = 30;
 pub const LAYERS_SHORT: Refusal = 31;
 pub const PICK_NOT_WAITING: Refusal = 50;

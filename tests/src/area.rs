@@ -4,8 +4,11 @@ use crate::answer::*;
 use crate::body::Pair;
 use crate::page::*;
 
+/// The numbers before the C numbers that say who is unknown by default.
+pub const HEAD: usize = 4;
+
 /// The greatest used length of a page area.
-pub const PAGE_MAX: usize = 12_292;
+pub const PAGE_MAX: usize = 12_804;
 
 pub const NOT_REACHED_MARK: u16 = 0;
 pub const REACHED_MARK: u16 = 1;
@@ -39,34 +42,49 @@ pub fn encode_line(line: &Line) -> Vec<u16> {
             out
         }
         Line::Query { closed, cond } => vec![*cond, 6, u16::from(*closed), 0],
+        Line::Default { cond } => vec![*cond, 7, 0, 0],
     }
+}
+
+/// The area of so many lines with these numbers, whatever they are; the D numbers stand before them.
+pub fn assembled(top: u16, defaults: &[u16], lines: u16, numbers: &[u16]) -> Vec<u16> {
+    let used = HEAD + defaults.len() + numbers.len();
+    let head = [top, defaults.len() as u16, lines, used as u16];
+    [&head[..], defaults, numbers].concat()
+}
+
+/// The area of a page on which nobody is unknown by default.
+pub fn without_defaults(top: u16, count: u16, lines: u16, numbers: &[u16]) -> Vec<u16> {
+    assembled(top, &vec![0; usize::from(count)], lines, numbers)
 }
 
 /// A page as its area, of exactly the used length.
 pub fn encode(page: &Page) -> Vec<u16> {
-    let mut out = vec![page.top, page.count, page.lines.len() as u16, 0];
-    for line in &page.lines {
-        out.extend(encode_line(line));
-    }
-    out[3] = out.len() as u16;
-    out
+    let defaults: Vec<u16> = page.unknown().iter().map(|one| u16::from(*one)).collect();
+    let numbers: Vec<u16> = page.lines.iter().flat_map(encode_line).collect();
+    assembled(page.top, &defaults, page.lines.len() as u16, &numbers)
+}
+
+/// Where the lines of an area with a good head begin.
+pub fn first_line(area: &[u16]) -> usize {
+    HEAD + usize::from(area[1])
 }
 
 /// The page of a sound area; none if the area is not sound.
 pub fn decode(area: &[u16]) -> Option<Page> {
-    if area.len() < 4 {
+    if area.len() < HEAD {
         return None;
     }
     let (top, count, lines, used) = (area[0], area[1], area[2], usize::from(area[3]));
     let head_is_good = (1..=TOP_MAX).contains(&top)
         && (1..=CONDITIONS_MAX).contains(&count)
         && usize::from(lines) <= LINES_MAX
-        && used >= 4
+        && used >= HEAD + usize::from(count)
         && used <= area.len();
     if !head_is_good {
         return None;
     }
-    let mut rest = &area[4..used];
+    let mut rest = &area[first_line(area)..used];
     let mut page = Page {
         top,
         count,
@@ -77,7 +95,17 @@ pub fn decode(area: &[u16]) -> Option<Page> {
         page.lines.push(line);
         rest = &rest[length..];
     }
-    rest.is_empty().then_some(page)
+    let defaults = &area[HEAD..first_line(area)];
+    (rest.is_empty() && defaults_are_good(defaults, &page)).then_some(page)
+}
+
+/// Whether a D number of 1 has exactly one D line, and each other D number is 0 and has none.
+fn defaults_are_good(defaults: &[u16], page: &Page) -> bool {
+    (0..).zip(defaults).all(|(cond, number)| {
+        let is_its = |line: &&Line| **line == Line::Default { cond };
+        let lines = page.lines.iter().filter(is_its).count();
+        matches!((*number, lines), (0, 0) | (1, 1))
+    })
 }
 
 /// The line at the start of `rest` and its length, if it is good.
@@ -137,6 +165,7 @@ fn decode_line(rest: &[u16], top: u16, count: u16) -> Option<(Line, usize)> {
                 4,
             ))
         }
+        7 => (third == 0 && fourth == 0).then_some((Line::Default { cond }, 4)),
         _ => None,
     }
 }

@@ -158,10 +158,14 @@ fn example_pages(trial: &mut Trial, _: u64) -> Check {
 }
 
 /// The example pages and what `attach` prints for each.
-const STATED: [(&str, &str); 6] = [
+const STATED: [(&str, &str); 7] = [
     (
         "attach-cup",
         "top,100\nK,0,0,90\nK,1,90,100\nK,4,0,95\nK,5,0,100\nW,0,70,90\nW,4,95,95\nW,5,0,0\nend,7\n",
+    ),
+    (
+        "camera",
+        "top,100\nK,0,0,100\nK,2,70,100\nK,3,0,100\nW,0,0,100\nend,4\n",
     ),
     (
         "divert-milk",

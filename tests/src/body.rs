@@ -28,6 +28,11 @@ impl Pair {
         Pair::new(self.low.max(other.low), self.high.min(other.high))
     }
 
+    /// [larger low; larger high].
+    pub fn largest(self, other: Pair) -> Pair {
+        Pair::new(self.low.max(other.low), self.high.max(other.high))
+    }
+
     /// Whether this pair is at or under the other in knowledge order.
     pub fn at_or_under(self, other: Pair) -> bool {
         self.low <= other.low && other.high <= self.high
@@ -78,7 +83,7 @@ fn literal_value(literal: Literal, top: u16, held: &[Pair]) -> Pair {
     }
 }
 
-/// The condition that a line gives a value, and the value; none for a query.
+/// The condition that a line gives a value, and the value; none for a query or a D line.
 pub fn line_value(line: &Line, top: u16, held: &[Pair]) -> Option<(u16, Pair)> {
     match line {
         Line::Fact { cond, low, high } => Some((*cond, Pair::new(*low, *high))),
@@ -100,7 +105,16 @@ pub fn line_value(line: &Line, top: u16, held: &[Pair]) -> Option<(u16, Pair)> {
                 ),
             ))
         }
-        Line::Query { .. } => None,
+        Line::Query { .. } | Line::Default { .. } => None,
+    }
+}
+
+/// The body value of a condition without F and R lines: [0;0], or [0;top] where it is unknown by default.
+pub fn bodyless(page: &Page, cond: u16) -> Pair {
+    if page.unknown_by_default(cond) {
+        Pair::unknown(page.top)
+    } else {
+        Pair::new(0, 0)
     }
 }
 
@@ -120,30 +134,31 @@ pub fn holding_line(page: &Page, held: &[Pair], cond: u16) -> u32 {
 
 /// T of every condition at the pairs held.
 pub fn body_values(page: &Page, held: &[Pair]) -> Vec<Pair> {
-    let mut values = vec![Pair::new(0, 0); usize::from(page.count)];
+    let mut values: Vec<Option<Pair>> = vec![None; usize::from(page.count)];
     for line in &page.lines {
         if let Some((cond, value)) = line_value(line, page.top, held) {
             let so_far = &mut values[usize::from(cond)];
-            so_far.low = so_far.low.max(value.low);
-            so_far.high = so_far.high.max(value.high);
+            *so_far = Some(so_far.map_or(value, |pair| pair.largest(value)));
         }
     }
-    values
+    let pairs = (0..page.count).zip(values);
+    pairs
+        .map(|(cond, value)| value.unwrap_or_else(|| bodyless(page, cond)))
+        .collect()
 }
 
 /// T of one condition at the pairs held.
 pub fn body_value(page: &Page, held: &[Pair], cond: u16) -> Pair {
-    let mut total = Pair::new(0, 0);
+    let mut total: Option<Pair> = None;
     for line in &page.lines {
         let is_for_cond = match line {
             Line::Fact { cond: head, .. } | Line::Rule { head, .. } => *head == cond,
-            Line::Query { .. } => false,
+            Line::Query { .. } | Line::Default { .. } => false,
         };
         if is_for_cond {
             let (_, value) = line_value(line, page.top, held).expect("the line has a value");
-            total.low = total.low.max(value.low);
-            total.high = total.high.max(value.high);
+            total = Some(total.map_or(value, |pair| pair.largest(value)));
         }
     }
-    total
+    total.unwrap_or_else(|| bodyless(page, cond))
 }

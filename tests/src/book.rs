@@ -12,6 +12,8 @@ use crate::reach;
 #[derive(Clone, Debug)]
 pub struct Book {
     top: u16,
+    /// Who is unknown by default.
+    unknown: Vec<bool>,
     /// The F and R lines of each condition, with their numbers.
     lines: Vec<Vec<(u32, Line)>>,
     /// For each condition, those with an R line naming it.
@@ -31,7 +33,7 @@ impl Book {
                 Line::Fact { cond: head, .. } | Line::Rule { head, .. } => {
                     lines[usize::from(*head)].push((number, line.clone()))
                 }
-                Line::Query { .. } => {}
+                Line::Query { .. } | Line::Default { .. } => {}
             }
         }
         let mut followers = vec![BTreeSet::new(); count];
@@ -41,6 +43,7 @@ impl Book {
         let reached = reach::reached(page, queries);
         Book {
             top: page.top,
+            unknown: page.unknown(),
             lines,
             followers,
             waiting: reached.clone(),
@@ -67,9 +70,13 @@ impl Book {
 
     /// T of a condition, and the first of its lines that has the low end of T; 0 if it has no lines.
     fn body(&self, cond: u16) -> (Pair, u32) {
+        let own = &self.lines[usize::from(cond)];
+        if own.is_empty() && self.unknown[usize::from(cond)] {
+            return (Pair::unknown(self.top), 0);
+        }
         let mut total = Pair::new(0, 0);
         let mut holder = 0;
-        for (number, line) in &self.lines[usize::from(cond)] {
+        for (number, line) in own {
             let (_, value) = line_value(line, self.top, &self.pairs).expect("the line has a value");
             if holder == 0 || value.low > total.low {
                 holder = *number;

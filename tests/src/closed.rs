@@ -13,15 +13,19 @@ fn join_all(left: &[Pair], right: &[Pair]) -> Vec<Pair> {
 
 /// The support of an assignment.
 ///
-/// A safe J has every low end 0 and every high end at or above that of T at (I joined with J). The greatest
-/// in knowledge order has the least high ends: the least fixed point, found from 0 upwards.
+/// A safe J holds [0;top] where a condition is unknown by default. Elsewhere it has every low end 0 and every high end at or above
+/// that of T at (I joined with J). The greatest in knowledge order has the least high ends: the least fixed point, found from there upwards.
 pub fn support(page: &Page, assignment: &[Pair]) -> Vec<Pair> {
-    let mut safe = vec![Pair::new(0, 0); usize::from(page.count)];
+    let unknown = page.unknown();
+    let safe_pair = |(value, unknown): (Pair, &bool)| match unknown {
+        true => Pair::unknown(page.top),
+        false => Pair::new(0, value.high),
+    };
+    let least = vec![Pair::new(0, 0); usize::from(page.count)];
+    let mut safe: Vec<Pair> = least.into_iter().zip(&unknown).map(safe_pair).collect();
     loop {
-        let next: Vec<Pair> = body_values(page, &join_all(assignment, &safe))
-            .iter()
-            .map(|value| Pair::new(0, value.high))
-            .collect();
+        let values = body_values(page, &join_all(assignment, &safe));
+        let next: Vec<Pair> = values.into_iter().zip(&unknown).map(safe_pair).collect();
         if next == safe {
             return safe;
         }

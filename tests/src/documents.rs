@@ -231,7 +231,7 @@ fn page_lines(lines: &[String], top: &str, asked: &str) -> Check<Vec<String>> {
     for line in lines {
         let fields: Vec<&str> = line.split(',').collect();
         let named = match fields[0] {
-            "F" => &fields[1..2],
+            "F" | "D" => &fields[1..2],
             "R" => &fields[4..],
             _ => return Err(format!("{line:?} in a checked table")),
         };
@@ -321,6 +321,8 @@ impl Document {
         }
         limits.insert(header_figure("SIMJORAD_WORKSPACE_MAX")?);
         limits.insert(header_figure("SIMJORAD_SEASON_MAX")?);
+        // the bytes of the longest page area
+        limits.insert(2 * header_figure("SIMJORAD_PAGE_MAX")?);
         for (number, line) in &self.prose {
             for interval in intervals(line) {
                 if !self.shown.contains(&interval) {

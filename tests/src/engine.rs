@@ -215,7 +215,7 @@ impl Engine {
         area_loan.end_mut("area", area)?;
         let (line, place) = (line.set("line")?, place.set("place")?);
         match code {
-            -6..=-1 | -23..=-21 => Ok(Err(ReadRefusal::new(-code, line, place))),
+            -6..=-1 | -24..=-21 => Ok(Err(ReadRefusal::new(-code, line, place))),
             4.. if line == 0 && place == 0 => Ok(Ok(code as usize)),
             4.. => Err(format!(
                 "a page that is read leaves {line} in `*line` and {place} in `*place`"

@@ -64,12 +64,19 @@ pub fn plain(page: &Page) -> Option<Vec<Pair>> {
 /// The least assignment I equal to T at (I joined with the support of I).
 pub fn closed(page: &Page) -> Option<Vec<Pair>> {
     let all = assignments(page);
-    let zero = vec![Pair::new(0, 0); usize::from(page.count)];
+    let assumption: Vec<Pair> = (0..page.count)
+        .map(|cond| match page.unknown_by_default(cond) {
+            true => Pair::unknown(page.top),
+            false => Pair::new(0, 0),
+        })
+        .collect();
     let mut fixed = Vec::new();
     for one in &all {
         let safe: Vec<_> = all
             .iter()
-            .filter(|j| at_or_under(j, &zero) && at_or_under(j, &body_values(page, &join(one, j))))
+            .filter(|j| {
+                at_or_under(j, &assumption) && at_or_under(j, &body_values(page, &join(one, j)))
+            })
             .cloned()
             .collect();
         let support = greatest(&safe)?;

@@ -139,7 +139,7 @@ fn every_function(_: &mut Trial, _: u64) -> Check {
     figure(
         "tests/c/every.c",
         lines(&ended),
-        vec!["105 passed, 0 failed".to_string()],
+        vec!["112 passed, 0 failed".to_string()],
     )?;
     figure("the exit status", ended.status, Some(0))?;
     let test = file("tests/c/every.c")?;
@@ -189,7 +189,7 @@ fn exported_functions(_: &mut Trial, _: u64) -> Check {
 }
 
 /// The version of the header and a fingerprint of what it declares. A change of either asks for the other.
-const VERSION: (usize, u64) = (13, 13_688_786_725_590_711_816);
+const VERSION: (usize, u64) = (14, 16_053_202_817_485_957_579);
 
 /// What a program may depend on: the figures but those of stack, and the declarations.
 fn version(_: &mut Trial, _: u64) -> Check {

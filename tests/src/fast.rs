@@ -32,8 +32,11 @@ fn of(end: End, pair: Pair) -> u16 {
 /// A page by its heads.
 pub struct Index {
     top: u16,
-    /// The facts of a condition put together: [largest low; largest high], [0;0] if it has none.
+    /// The facts of a condition put together: [largest low; largest high], [0;0] if it has none; [0;top] if it is unknown by default
+    /// and has no F and R lines.
     facts: Vec<Pair>,
+    /// Who is unknown by default.
+    unknown: Vec<bool>,
     rules: Vec<Vec<Rule>>,
     /// The numbers of a condition's F and R lines in page order, each with the low end of a fact or the place of a rule in `rules`.
     numbers: Vec<Vec<(u32, Source)>>,
@@ -52,6 +55,7 @@ impl Index {
         let mut index = Index {
             top: page.top,
             facts: vec![Pair::new(0, 0); count],
+            unknown: vec![false; count],
             rules: (0..count).map(|_| Vec::new()).collect(),
             numbers: vec![Vec::new(); count],
             namers: lists(),
@@ -93,6 +97,12 @@ impl Index {
                     });
                 }
                 Line::Query { .. } => {}
+                Line::Default { cond } => index.unknown[usize::from(*cond)] = true,
+            }
+        }
+        for cond in 0..count {
+            if index.unknown[cond] && index.numbers[cond].is_empty() {
+                index.facts[cond] = Pair::unknown(page.top);
             }
         }
         for lists in [&mut index.namers, &mut index.plain_namers] {
@@ -157,12 +167,15 @@ impl Index {
     }
 
     /// Raises low or high ends from where they are to the least ones that no line raises further. `given` holds the other ends,
-    /// which decide the negations.
+    /// which decide the negations. The high ends of what is unknown by default stay.
     fn raise(&self, end: End, ends: &mut [u16], given: &[u16]) {
         let mut waits = vec![true; self.count()];
         let mut stack: Vec<usize> = (0..self.count()).rev().collect();
         while let Some(cond) = stack.pop() {
             waits[cond] = false;
+            if end == End::High && self.unknown[cond] {
+                continue;
+            }
             let value = self.end(end, cond, |literal| match literal % 2 {
                 0 => ends[literal / 2],
                 _ => self.top - given[literal / 2],
@@ -199,8 +212,63 @@ impl Index {
         furthest + 1
     }
 
-    /// The closed reading. The least high ends over the low ends held are the support's; the least low ends over those high
-    /// ends are the next low ends; they rise from 0 until they stay.
+    /// Lowers the high ends of what is unknown by default to the greatest ones that stay, the others being as they are; whether any fell.
+    fn lower(&self, highs: &mut [u16], lows: &[u16]) -> bool {
+        let mut waits = self.unknown.clone();
+        let mut stack: Vec<usize> = (0..self.count()).filter(|cond| waits[*cond]).collect();
+        let mut fell = false;
+        while let Some(cond) = stack.pop() {
+            waits[cond] = false;
+            let value = self.high(cond, lows, highs);
+            if value >= highs[cond] {
+                continue;
+            }
+            highs[cond] = value;
+            fell = true;
+            for namer in &self.plain_namers[cond] {
+                if self.unknown[*namer] && !waits[*namer] {
+                    waits[*namer] = true;
+                    stack.push(*namer);
+                }
+            }
+        }
+        fell
+    }
+
+    /// The high end of T over these ends.
+    fn high(&self, cond: usize, lows: &[u16], highs: &[u16]) -> u16 {
+        self.end(End::High, cond, |literal| match literal % 2 {
+            0 => highs[literal / 2],
+            _ => self.top - lows[literal / 2],
+        })
+    }
+
+    /// The high ends from which the support's rise: those of `free` where a condition is unknown by default, else those of `least`.
+    fn rise_from(&self, free: &[u16], least: &[u16]) -> Vec<u16> {
+        (0..self.count())
+            .map(|cond| match self.unknown[cond] {
+                true => free[cond],
+                false => least[cond],
+            })
+            .collect()
+    }
+
+    /// The high ends that stay over these low ends: greatest where a condition is unknown by default, and there at most those of `free`,
+    /// least elsewhere.
+    fn highs_over(&self, lows: &[u16], free: &[u16]) -> Vec<u16> {
+        let none = vec![0; self.count()];
+        let mut highs = self.rise_from(free, &none);
+        loop {
+            self.raise(End::High, &mut highs, lows);
+            if !self.lower(&mut highs, lows) {
+                return highs;
+            }
+            highs = self.rise_from(&highs, &none);
+        }
+    }
+
+    /// The closed reading. The high ends over the low ends held fall as these rise: the support's, and those of what is unknown by
+    /// default. The least low ends over those high ends are the next low ends; they rise from 0 until they stay.
     pub fn closed(&self) -> Vec<Pair> {
         self.alternated().0
     }
@@ -212,9 +280,9 @@ impl Index {
 
     fn alternated(&self) -> (Vec<Pair>, u32) {
         let mut lows = vec![0; self.count()];
+        let mut highs = vec![self.top; self.count()];
         for number in 1.. {
-            let mut highs = vec![0; self.count()];
-            self.raise(End::High, &mut highs, &lows);
+            highs = self.highs_over(&lows, &highs);
             let before = lows.clone();
             self.raise(End::Low, &mut lows, &highs);
             if lows == before {
@@ -228,21 +296,24 @@ impl Index {
 }
 
 impl Index {
-    /// The count of rounds. The low ends of the next assignment are T's over the low ends held and the support's high ends; the
-    /// support's high ends are settled again, from those of the closed reading upwards, where a low end rose that a rule negates.
+    /// The count of rounds. The low ends of the next assignment are T's over the low ends held and the support's high ends, and so are
+    /// the high ends of what is unknown by default; the support's high ends are settled again, from those of the closed reading upwards,
+    /// where a low end rose that a rule negates or such a high end fell.
     pub fn rounds(&self, queries: &[u16]) -> u32 {
         let reached = Run::open(self, queries).reached;
         let final_highs: Vec<u16> = self.closed().iter().map(|pair| pair.high).collect();
         let mut lows = vec![0; self.count()];
-        let mut highs = final_highs.clone();
+        let mut highs = self.rise_from(&vec![self.top; self.count()], &final_highs);
         self.raise(End::High, &mut highs, &lows);
         let mut before = vec![self.top; self.count()];
         let mut looked_at: Vec<usize> = (0..self.count()).filter(|cond| reached[*cond]).collect();
         for number in 0.. {
             let moved = self.rising(&looked_at, &lows, &highs);
-            if moved.is_empty() {
-                let fell =
-                    (0..self.count()).any(|cond| reached[cond] && before[cond] != highs[cond]);
+            let fallen = self.falling(&looked_at, &lows, &highs);
+            if moved.is_empty() && fallen.is_empty() {
+                let fell = (0..self.count()).any(|cond| {
+                    reached[cond] && !self.unknown[cond] && before[cond] != highs[cond]
+                });
                 return number + u32::from(fell);
             }
             before.clone_from(&highs);
@@ -250,8 +321,11 @@ impl Index {
             for (cond, low) in moved {
                 lows[cond] = low;
             }
-            if touched.iter().any(|cond| self.negated[*cond]) {
-                highs.clone_from(&final_highs);
+            if touched.iter().any(|cond| self.negated[*cond]) || !fallen.is_empty() {
+                for (cond, high) in fallen {
+                    highs[cond] = high;
+                }
+                highs = self.rise_from(&highs, &final_highs);
                 self.raise(End::High, &mut highs, &lows);
                 touched.extend((0..self.count()).filter(|cond| before[*cond] != highs[*cond]));
             }
@@ -264,6 +338,15 @@ impl Index {
             looked_at.retain(|cond| reached[*cond]);
         }
         unreachable!("the low ends rise")
+    }
+
+    /// The conditions among these that are unknown by default and whose high end falls, each with its new one.
+    fn falling(&self, conditions: &[usize], lows: &[u16], highs: &[u16]) -> Vec<(usize, u16)> {
+        let unknown = conditions.iter().filter(|cond| self.unknown[**cond]);
+        unknown
+            .map(|cond| (*cond, self.high(*cond, lows, highs)))
+            .filter(|(cond, high)| *high < highs[*cond])
+            .collect()
     }
 
     /// The conditions among these whose low end rises, each with its new one.

@@ -152,11 +152,87 @@ fn query_line(rng: &mut Rng, count: u16) -> Line {
 
 pub fn page(rng: &mut Rng, size: Size) -> Page {
     let plan = plan(rng, size);
-    Page {
+    let mut page = Page {
         top: plan.top,
         count: plan.count,
         lines: (0..plan.lines).map(|_| line(rng, &plan)).collect(),
+    };
+    if size != Size::Limit {
+        add_defaults(rng, &mut page);
     }
+    page
+}
+
+/// Some or all conditions, or none: half of the time none.
+fn some_conditions(rng: &mut Rng, count: u16) -> Vec<u16> {
+    let share = rng.pick(&[0, 0, 0, 15, 50, 100]);
+    (0..count).filter(|_| rng.percent(share)).collect()
+}
+
+/// Makes some conditions unknown by default, by D lines at random places, within the limit of lines.
+pub fn add_defaults(rng: &mut Rng, page: &mut Page) {
+    for cond in some_conditions(rng, page.count) {
+        if page.lines.len() < LINES_MAX {
+            let at = rng.index(page.lines.len() + 1);
+            page.lines.insert(at, Line::Default { cond });
+        }
+    }
+}
+
+/// The same, by D lines in place of others.
+fn set_defaults(rng: &mut Rng, page: &mut Page) {
+    if page.lines.is_empty() {
+        return;
+    }
+    for cond in some_conditions(rng, page.count) {
+        let at = rng.index(page.lines.len());
+        page.lines[at] = Line::Default { cond };
+    }
+}
+
+/// A ring whose conditions are unknown by default: each names the next, and all fade together.
+pub fn unknown_ring(count: u16, top: u16, weight: u16) -> Page {
+    let mut lines: Vec<Line> = (0..count)
+        .map(|cond| rule(cond, weight, Op::M, &[((cond + 1) % count, false)]))
+        .collect();
+    lines.extend((0..count).map(|cond| Line::Default { cond }));
+    Page { top, count, lines }
+}
+
+/// A ring in which every turn takes 1 away: from a fact of top - 1 at the last condition. All but that one are unknown by default.
+pub fn falling_ring(count: u16, top: u16) -> Page {
+    let last = count - 1;
+    let mut lines = vec![rule(0, top, Op::L, &[(1 % last, false), (last, false)])];
+    for cond in 1..last {
+        let next = if cond + 1 < last { cond + 1 } else { 0 };
+        lines.push(rule(cond, top, Op::M, &[(next, false)]));
+    }
+    lines.push(Line::Fact {
+        cond: last,
+        low: top - 1,
+        high: top - 1,
+    });
+    lines.extend((0..last).map(|cond| Line::Default { cond }));
+    Page { top, count, lines }
+}
+
+/// A ring in which every other condition is unknown by default, and each also denies one across the ring.
+pub fn mixed_ring(rng: &mut Rng, count: u16, top: u16) -> Page {
+    let mut lines = Vec::new();
+    for cond in 0..count {
+        let weight = top - u16::from(top > 1 && rng.percent(30));
+        let across = (cond + count / 2) % count;
+        let op = rng.pick(&OPS);
+        lines.push(rule(cond, weight, op, &[((cond + 1) % count, false)]));
+        if rng.percent(50) {
+            lines.push(rule(cond, weight, op, &[(across, true), (cond, false)]));
+        }
+        if cond % 2 == 0 {
+            lines.push(Line::Default { cond });
+        }
+    }
+    shuffle(rng, &mut lines);
+    Page { top, count, lines }
 }
 
 /// A page of exactly this many conditions and lines, mostly rules.
@@ -167,11 +243,13 @@ pub fn exact(rng: &mut Rng, count: u16, lines: usize) -> Page {
     plan.facts = 15;
     plan.queries = 3;
     plan.literals = rng.pick(&[(1, 2), (1, 3), (1, 8)]);
-    Page {
+    let mut page = Page {
         top: plan.top,
         count,
         lines: (0..lines).map(|_| line(rng, &plan)).collect(),
-    }
+    };
+    set_defaults(rng, &mut page);
+    page
 }
 
 /// The page with its conditions numbered from the other end.
@@ -180,7 +258,9 @@ pub fn reversed(page: &Page) -> Page {
     let mut out = page.clone();
     for line in &mut out.lines {
         match line {
-            Line::Fact { cond, .. } | Line::Query { cond, .. } => *cond = other(*cond),
+            Line::Fact { cond, .. } | Line::Query { cond, .. } | Line::Default { cond } => {
+                *cond = other(*cond)
+            }
             Line::Rule { head, body, .. } => {
                 *head = other(*head);
                 for literal in body {
@@ -305,11 +385,13 @@ pub fn tiny_page(rng: &mut Rng) -> Page {
     plan.heads = count;
     plan.lines = rng.index(7);
     plan.literals = rng.pick(&[(1, 1), (1, 2), (1, 3)]);
-    Page {
+    let mut page = Page {
         top,
         count,
         lines: (0..plan.lines).map(|_| line(rng, &plan)).collect(),
-    }
+    };
+    add_defaults(rng, &mut page);
+    page
 }
 
 /// Adds Q lines at random places, within the limit of lines.
@@ -495,7 +577,7 @@ pub fn structured(rng: &mut Rng, most: u16) -> Page {
     } else {
         (top - 1).max(1)
     };
-    match rng.below(8) {
+    let mut page = match rng.below(10) {
         0 => ring(rng, count, top, weight, 0),
         1 => {
             let negated = rng.pick(&[5, 30, 100]);
@@ -505,11 +587,15 @@ pub fn structured(rng: &mut Rng, most: u16) -> Page {
         3 => game(rng, count, top),
         4 => counters(rng, count, top),
         5 | 6 => knots(rng, count, top),
+        7 => return unknown_ring(count, top, weight),
+        8 => return mixed_ring(rng, count, top),
         _ => rivals(rng, (count / 2).max(1), top),
-    }
+    };
+    add_defaults(rng, &mut page);
+    page
 }
 
-/// A page of 512 conditions, 1,024 lines and top 200; 0 to 3 name special ones, the others are random.
+/// A page of 512 conditions, 1,024 lines and top 200; 0 to 4 name special ones, the others are random.
 pub fn limit_page(rng: &mut Rng, item: u64) -> Page {
     let literal = |cond: u16, negated: bool| Literal { cond, negated };
     let count = CONDITIONS_MAX;
@@ -563,6 +649,20 @@ pub fn limit_page(rng: &mut Rng, item: u64) -> Page {
                     closed: number % 2 == 0,
                     cond: number % count,
                 },
+            })
+            .collect(),
+        // A ring that fades by single steps, all of it unknown by default; each rule has a negation too.
+        4 => (0..LINES_MAX as u16)
+            .map(|number| match (number % 2, number / 2) {
+                (0, head) => Line::Rule {
+                    head,
+                    weight: 198,
+                    op: Op::M,
+                    body: (1..=8)
+                        .map(|step| literal((head + step) % count, step == 8))
+                        .collect(),
+                },
+                (_, cond) => Line::Default { cond },
             })
             .collect(),
         _ => return page(rng, Size::Limit),

@@ -57,6 +57,10 @@ pub enum Line {
         closed: bool,
         cond: u16,
     },
+    /// The condition is unknown by default.
+    Default {
+        cond: u16,
+    },
 }
 
 #[derive(Clone, Debug, PartialEq, Eq)]
@@ -67,6 +71,22 @@ pub struct Page {
 }
 
 impl Page {
+    /// Whether a D line makes the condition unknown by default.
+    pub fn unknown_by_default(&self, cond: u16) -> bool {
+        self.lines.contains(&Line::Default { cond })
+    }
+
+    /// The conditions that are unknown by default.
+    pub fn unknown(&self) -> Vec<bool> {
+        let mut unknown = vec![false; usize::from(self.count)];
+        for line in &self.lines {
+            if let Line::Default { cond } = line {
+                unknown[usize::from(*cond)] = true;
+            }
+        }
+        unknown
+    }
+
     /// The page as text.
     pub fn text(&self) -> Vec<u8> {
         let mut out = format!("G,{},{}\n", self.top, self.count);
@@ -102,6 +122,7 @@ impl Line {
             Line::Query { closed, cond } => {
                 format!("Q,{},{cond}", if *closed { 'W' } else { 'K' })
             }
+            Line::Default { cond } => format!("D,{cond},U"),
         }
     }
 }
@@ -157,6 +178,9 @@ fn later_form(line: &[u8]) -> Option<Line> {
         }),
         [b"Q", b"W", cond] => Some(Line::Query {
             closed: true,
+            cond: number(cond)?,
+        }),
+        [b"D", cond, b"U"] => Some(Line::Default {
             cond: number(cond)?,
         }),
         [b"R", head, weight, letter, body @ ..] if (1..=LITERALS_MAX).contains(&body.len()) => {
@@ -220,6 +244,7 @@ fn later_bad(line: &Line, top: u16, count: u16) -> Vec<BadField> {
             }
         }
         Line::Query { cond, .. } => condition(3, *cond),
+        Line::Default { cond } => condition(2, *cond),
     }
     bad
 }
@@ -259,6 +284,9 @@ pub fn read(text: &[u8]) -> Result<Page, ReadRefusal> {
                 return refuse(LINE_FORM, number);
             };
             leftmost(later_bad(&line, page.top, page.count), number)?;
+            if matches!(line, Line::Default { .. }) && page.lines.contains(&line) {
+                return refuse(SECOND_DEFAULT, number);
+            }
             page.lines.push(line);
         }
     }

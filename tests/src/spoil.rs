@@ -1,11 +1,11 @@
 //! Damage to page texts, page areas and run areas.
 
-use crate::area::{encode_line, NOT_REACHED_MARK};
+use crate::area::{encode_line, first_line, without_defaults, HEAD, NOT_REACHED_MARK};
 use crate::gen;
 use crate::page::*;
 use crate::rng::Rng;
 
-const TELLING: &[u8] = b",,!0123456789GFRQKWMXLBP\n\r \tgfrqkwmxlbp+-.\"\0\xff";
+const TELLING: &[u8] = b",,!0123456789GFRQKWMXLBPDU\n\r \tgfrqkwmxlbpdu+-.\"\0\xff";
 
 /// The number fields of a text: start and length.
 fn number_fields(text: &[u8]) -> Vec<(usize, usize)> {
@@ -180,7 +180,8 @@ fn extreme_line(rng: &mut Rng, lines: &[Vec<u8>], at: usize) -> Vec<u8> {
         .collect();
     let near = |rng: &mut Rng, number: i32| (number - 1 + rng.below(3) as i32).max(0);
     let (top, count) = (numbers[0], numbers[1]);
-    let line = match rng.below(3) {
+    let line = match rng.below(4) {
+        3 => format!("D,{},U", near(rng, count)),
         0 => format!(
             "F,{},{},{}",
             near(rng, count),
@@ -231,7 +232,7 @@ pub struct BadArea {
 /// Where each line of a good area starts.
 fn line_starts(area: &[u16]) -> Vec<usize> {
     let mut starts = Vec::new();
-    let mut at = 4;
+    let mut at = first_line(area);
     for _ in 0..area[2] {
         starts.push(at);
         at += match area[at + 1] {
@@ -255,6 +256,15 @@ fn bad_lines(rng: &mut Rng, page: &Page) -> Vec<(String, Vec<u16>)> {
         add("fact condition", vec![wrong, 0, 0, top]);
         add("rule condition", vec![wrong, kind, weight, 1, literal]);
         add("query condition", vec![wrong, 6, 1, 0]);
+        add("D condition", vec![wrong, 7, 0, 0]);
+    }
+    add(
+        "D line without its number, or a second one",
+        vec![cond, 7, 0, 0],
+    );
+    for wrong in [1, 2, 256, u16::MAX] {
+        add("D tail", vec![cond, 7, 0, wrong]);
+        add("D third number", vec![cond, 7, wrong, 0]);
     }
     add("fact low above high", vec![cond, 0, top, top - 1]);
     add("fact low 1 high 0", vec![cond, 0, 1, 0]);
@@ -341,7 +351,27 @@ pub fn areas(rng: &mut Rng, page: &Page, good: &[u16]) -> Vec<BadArea> {
         add(format!("{lines} lines"), with(2, lines, 0));
         add(format!("{lines} lines, longer slice"), with(2, lines, 12));
     }
-    for length in [used - 1, used + 1, used + 4, 0, 3, 12_293, 32_768, 65_535] {
+    // Another D number, and one that is none.
+    let cond = rng.range(0, page.count - 1);
+    for cond in [0, cond, page.count - 1] {
+        let at = HEAD + usize::from(cond);
+        for number in [1 - good[at], 2, 3, 256, 257, 65_535] {
+            add(format!("D number {number} of {cond}"), with(at, number, 0));
+        }
+    }
+    // Two entries, whatever the number says.
+    if page.lines.len() + 2 <= LINES_MAX && !page.unknown_by_default(cond) {
+        for number in [0, 1, 2] {
+            let mut area = with(HEAD + usize::from(cond), number, 0);
+            area.extend([cond, 7, 0, 0, cond, 7, 0, 0]);
+            area[2] += 2;
+            area[3] += 8;
+            add(format!("two D lines of {cond}, number {number}"), area);
+        }
+    }
+    let head = HEAD as u16 + page.count;
+    let lengths = [used - 1, used + 1, used + 4, 0, 3, 4, head - 1];
+    for length in lengths.into_iter().chain([12_805, 32_768, 65_535]) {
         add(format!("used {length}"), with(3, length, 0));
         add(format!("used {length}, longer slice"), with(3, length, 12));
     }
@@ -386,12 +416,7 @@ pub fn areas(rng: &mut Rng, page: &Page, good: &[u16]) -> Vec<BadArea> {
 /// 1,025 good lines that fill their used length exactly.
 pub fn too_many_lines(page: &Page, line: &Line) -> Vec<u16> {
     let numbers = encode_line(line);
-    let mut area = vec![page.top, page.count, 1025, 0];
-    for _ in 0..1025 {
-        area.extend_from_slice(&numbers);
-    }
-    area[3] = area.len() as u16;
-    area
+    without_defaults(page.top, page.count, 1025, &numbers.repeat(1025))
 }
 
 /// One number of an area replaced by another; the result may still be sound.
@@ -399,6 +424,8 @@ pub fn one_number(rng: &mut Rng, page: &Page, good: &[u16]) -> Vec<u16> {
     let mut area = good.to_vec();
     let at = if rng.percent(20) {
         rng.index(4)
+    } else if rng.percent(10) {
+        HEAD + rng.index(usize::from(page.count))
     } else {
         rng.index(area.len())
     };

@@ -1102,6 +1102,82 @@ pub const FAULTS: &[(&str, &str, &str)] = &[
         "quick only CASE",
         "seasons_have_their_stated_figures",
     ),
+    // Conditions that are unknown by default.
+    (
+        "default_read_as_false",
+        "quick only CASE",
+        "unknown_by_default_has_its_stated_readings",
+    ),
+    (
+        "default_as_a_fact",
+        "quick only CASE",
+        "unknown_by_default_has_its_stated_readings",
+    ),
+    (
+        "default_hides_rules",
+        "quick only CASE",
+        "unknown_by_default_has_its_stated_readings",
+    ),
+    (
+        "default_with_rules_supported",
+        "quick only CASE",
+        "unknown_by_default_has_its_stated_readings",
+    ),
+    (
+        "rounds_with_a_supported_default",
+        "quick only CASE",
+        "unknown_by_default_has_its_stated_rounds",
+    ),
+    (
+        "two_default_entries_accepted",
+        "quick only CASE",
+        "d_numbers_and_d_lines_are_sound_as_stated",
+    ),
+    (
+        "default_number_without_entry_accepted",
+        "quick only CASE",
+        "d_numbers_and_d_lines_are_sound_as_stated",
+    ),
+    (
+        "default_entry_without_number_accepted",
+        "quick only CASE",
+        "d_numbers_and_d_lines_are_sound_as_stated",
+    ),
+    (
+        "default_number_of_2_accepted",
+        "quick only CASE",
+        "d_numbers_and_d_lines_are_sound_as_stated",
+    ),
+    (
+        "default_tail_unchecked",
+        "quick only CASE",
+        "d_numbers_and_d_lines_are_sound_as_stated",
+    ),
+    (
+        "used_length_without_the_d_numbers",
+        "quick only CASE",
+        "texts_have_their_stated_outcome",
+    ),
+    (
+        "second_default_accepted",
+        "quick only CASE",
+        "texts_have_their_stated_outcome",
+    ),
+    (
+        "second_default_before_a_range",
+        "quick only CASE",
+        "texts_have_their_stated_outcome",
+    ),
+    (
+        "second_default_at_its_condition",
+        "quick only CASE",
+        "texts_have_their_stated_outcome",
+    ),
+    (
+        "default_raises_a_layer",
+        "quick only CASE",
+        "d_lines_change_no_layers_followers_or_openings",
+    ),
 ];
 
 fn planted() -> &'static str {
@@ -1157,8 +1233,9 @@ unsafe fn lent_mut<'a, T>(start: *mut T, length: usize) -> &'a mut [T] {
 /// The numbers of a page area with what a fault overlooks put right.
 fn overlooked(area: &[u16]) -> Vec<u16> {
     let mut copy = area[..area.len().min(usize::from(area[3]))].to_vec();
-    let mut at = 4;
-    for _ in 0..area[2] {
+    let mut at = area::first_line(area);
+    overlook_defaults(&mut copy);
+    for _ in 0..copy[2] {
         if at + 4 > copy.len() {
             return copy;
         }
@@ -1182,6 +1259,10 @@ fn overlooked(area: &[u16]) -> Vec<u16> {
                 if kind == 6 && fault("query_tail_unchecked") {
                     copy[at + 3] = 0;
                 }
+                if kind == 7 && fault("default_tail_unchecked") {
+                    copy[at + 2] = 0;
+                    copy[at + 3] = 0;
+                }
                 at += 4;
             }
         }
@@ -1191,6 +1272,46 @@ fn overlooked(area: &[u16]) -> Vec<u16> {
         copy.truncate(at);
     }
     copy
+}
+
+/// Puts right what a fault overlooks of the D numbers and the D lines.
+fn overlook_defaults(area: &mut Vec<u16>) {
+    let (count, first) = (area[1], area::first_line(area));
+    if area.len() < first {
+        return;
+    }
+    let (defaults, lines) = area.split_at(first);
+    // The entries are looked at four numbers at a time, which is right on pages without R lines.
+    let entries = |cond: u16| {
+        lines
+            .chunks_exact(4)
+            .filter(move |entry| entry[..2] == [cond, 7])
+    };
+    let mut out = area.clone();
+    for cond in 0..count {
+        let at = area::HEAD + usize::from(cond);
+        let number = defaults[at];
+        let found = entries(cond).count();
+        if fault("default_number_without_entry_accepted") && number == 1 && found == 0 {
+            out[at] = 0;
+        }
+        if fault("default_entry_without_number_accepted") && number == 0 && found == 1 {
+            out[at] = 1;
+        }
+        if fault("default_number_of_2_accepted") && number == 2 && found == 1 {
+            out[at] = 1;
+        }
+        if fault("two_default_entries_accepted") && number == 1 && found == 2 {
+            let last = lines
+                .chunks_exact(4)
+                .rposition(|entry| entry[..2] == [cond, 7]);
+            let start = first + 4 * last.unwrap_or(0);
+            out.drain(start..start + 4);
+            out[2] -= 1;
+            out[3] -= 4;
+        }
+    }
+    *area = out;
 }
 
 /// The page of a sound area, with the planted fault.
@@ -1241,6 +1362,11 @@ fn sound_page(area: &[u16]) -> Option<Page> {
         "query_tail_unchecked",
         "kind_cut_to_a_byte",
         "lines_may_fall_short_of_used_length",
+        "default_tail_unchecked",
+        "default_number_without_entry_accepted",
+        "default_entry_without_number_accepted",
+        "default_number_of_2_accepted",
+        "two_default_entries_accepted",
     ];
     if overlooks.contains(&planted()) && area.len() >= 4 && area[3] >= 4 {
         return area::decode(&overlooked(area));
@@ -1382,7 +1508,15 @@ fn body_value(page: &Page, held: &[Pair], cond: u16) -> Pair {
             Some(so_far) => Pair::new(so_far.low.max(value.low), so_far.high.max(value.high)),
         });
     }
-    total.unwrap_or(if fault("no_lines_unknown") {
+    if fault("default_as_a_fact") && page.unknown_by_default(cond) {
+        let whole = Pair::unknown(page.top);
+        return total.map_or(whole, |pair| pair.largest(whole));
+    }
+    if fault("default_hides_rules") && page.unknown_by_default(cond) {
+        return Pair::unknown(page.top);
+    }
+    let unknown = page.unknown_by_default(cond) && !fault("default_read_as_false");
+    total.unwrap_or(if unknown || fault("no_lines_unknown") {
         Pair::unknown(page.top)
     } else {
         Pair::new(0, 0)
@@ -1421,7 +1555,7 @@ fn step(page: &Page, run: &mut [u16], cond: u16) -> bool {
                     (*head, body.iter().any(|literal| literal.cond == cond))
                 }
                 Line::Query { cond: head, .. } => (*head, fault("queries_wake_too")),
-                Line::Fact { .. } => continue,
+                Line::Fact { .. } | Line::Default { .. } => continue,
             };
             if head == 448 && fault("wake_misses_condition_448") {
                 continue;
@@ -1477,6 +1611,10 @@ const STEPWISE: &[&str] = &[
     "product_wrong_under_one_weight",
     "fold_right_to_left",
     "no_lines_unknown",
+    "default_as_a_fact",
+    "default_hides_rules",
+    "default_read_as_false",
+    "default_with_rules_supported",
     "smallest_over_lines",
     "facts_hide_rules",
     "drive_highest_first",
@@ -1591,10 +1729,15 @@ fn closed_reading(page: &Page) -> Vec<Pair> {
         };
         let mut safe = vec![Pair::new(0, start); count];
         for _ in 0..1000 {
-            let next: Vec<Pair> = body_values(page, &join(&assignment, &safe))
+            let mut next: Vec<Pair> = body_values(page, &join(&assignment, &safe))
                 .iter()
                 .map(|pair| Pair::new(0, pair.high))
                 .collect();
+            for (pair, unknown) in next.iter_mut().zip(page.unknown()) {
+                if unknown && !fault("default_with_rules_supported") {
+                    *pair = Pair::unknown(page.top);
+                }
+            }
             if next == safe {
                 break;
             }
@@ -1627,6 +1770,16 @@ fn overlooked_text(text: &[u8]) -> Vec<u8> {
             .replace(",02", ",2")
             .replace(",03", ",3")
             .into_bytes();
+    }
+    if fault("second_default_accepted") {
+        let all = String::from_utf8_lossy(&out).into_owned();
+        let mut kept: Vec<&str> = Vec::new();
+        for line in all.split('\n') {
+            if !(line.starts_with("D,") && kept.contains(&line)) {
+                kept.push(line);
+            }
+        }
+        out = kept.join("\n").into_bytes();
     }
     if fault("second_head_line_accepted") {
         let all = String::from_utf8_lossy(&out).into_owned();
@@ -1678,6 +1831,22 @@ fn misplaced(text: &[u8], mut refusal: ReadRefusal) -> ReadRefusal {
     refusal
 }
 
+/// Whether the refused line is a D line out of range whose condition, taken modulo 512, has a D line before it.
+fn repeats_modulo_512(text: &[u8], refusal: ReadRefusal) -> bool {
+    let all = String::from_utf8_lossy(text).into_owned();
+    let condition = |line: &str| {
+        let number = line.strip_prefix("D,")?.strip_suffix(",U")?.parse::<u16>();
+        number.ok().map(|cond| cond % 512)
+    };
+    let lines: Vec<&str> = all.split('\n').collect();
+    let at = refusal.line as usize;
+    if refusal.number != LINE_RANGE || at < 2 {
+        return false;
+    }
+    let own = condition(lines[at - 1]);
+    own.is_some() && lines[1..at - 1].iter().any(|line| condition(line) == own)
+}
+
 fn read_text(text: &[u8], area: &mut [u16]) -> Result<usize, ReadRefusal> {
     if fault("text_of_65535_bytes_too_long") && text.len() == 65_535 {
         return Err(ReadRefusal::new(TEXT_TOO_LONG, 0, 0));
@@ -1693,6 +1862,7 @@ fn read_text(text: &[u8], area: &mut [u16]) -> Result<usize, ReadRefusal> {
         "unended_page_accepted",
         "leading_zero_accepted",
         "second_head_line_accepted",
+        "second_default_accepted",
     ];
     let result = if changes.contains(&planted()) {
         area::read_into(&overlooked_text(text), area)
@@ -1700,6 +1870,10 @@ fn read_text(text: &[u8], area: &mut [u16]) -> Result<usize, ReadRefusal> {
         area::read_into(text, area)
     };
     let mut refusal = match result {
+        Ok(used) if fault("used_length_without_the_d_numbers") => {
+            area[3] -= area[1];
+            return Ok(used - usize::from(area[1]));
+        }
         Ok(used) => {
             if fault("area_written_past_used_length") && area.len() > used {
                 area[used] = 0;
@@ -1713,6 +1887,12 @@ fn read_text(text: &[u8], area: &mut [u16]) -> Result<usize, ReadRefusal> {
     }
     if fault("line_number_from_zero") && refusal.line > 0 {
         refusal.line -= 1;
+    }
+    if fault("second_default_before_a_range") && repeats_modulo_512(text, refusal) {
+        refusal = ReadRefusal::new(SECOND_DEFAULT, refusal.line, 0);
+    }
+    if fault("second_default_at_its_condition") && refusal.number == SECOND_DEFAULT {
+        refusal.place = 2;
     }
     refusal = misplaced(text, refusal);
     if let Some((start, length)) = page::show_line(text, refusal.line as usize) {
@@ -2248,9 +2428,23 @@ fn rounds(page: &Page, queries: &[u16]) -> u32 {
         "rounds_of_all_conditions" => index.rounds(&all),
         "equal_round_counted" => index.rounds(queries) + 1,
         "rounds_of_the_alternation" => index.alternations(),
+        "rounds_with_a_supported_default" => without_ruled_defaults(page).rounds(queries),
         "rounds_without_support" => rounds_without_support(page, &reach::reached(page, queries)),
         _ => index.rounds(queries),
     }
+}
+
+/// The index of the page without the D lines of conditions that have other lines.
+fn without_ruled_defaults(page: &Page) -> Index {
+    let mut other = page.clone();
+    other.lines.retain(|line| match line {
+        Line::Default { cond } => !page.lines.iter().any(|line| match line {
+            Line::Fact { cond: head, .. } | Line::Rule { head, .. } => head == cond,
+            _ => false,
+        }),
+        _ => true,
+    });
+    Index::new(&other)
 }
 
 /// The count where each next assignment is T at the last.
@@ -2363,6 +2557,11 @@ fn layers_of(page: &Page) -> Result<Vec<u16>, u16> {
                     *layer += 1;
                 }
             }
+            if fault("default_raises_a_layer") {
+                for (layer, unknown) in layers.iter_mut().zip(page.unknown()) {
+                    *layer += u16::from(unknown);
+                }
+            }
             if fault("layer_stops_at_255") {
                 for layer in &mut layers {
                     *layer = (*layer).min(255);
@@ -2410,7 +2609,9 @@ fn swap_conditions(page: &mut Page, a: u16, b: u16) {
     };
     for line in &mut page.lines {
         match line {
-            Line::Fact { cond, .. } | Line::Query { cond, .. } => swap(cond),
+            Line::Fact { cond, .. } | Line::Query { cond, .. } | Line::Default { cond } => {
+                swap(cond)
+            }
             Line::Rule { head, body, .. } => {
                 swap(head);
                 for literal in body {

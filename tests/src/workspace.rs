@@ -1,5 +1,7 @@
 //! The workspace of the indexed forms, as `simjorad.h` states it.
 
+use crate::area::first_line;
+
 /// The most numbers that any page needs.
 pub const WORKSPACE_MAX: usize = 10_754;
 
@@ -10,7 +12,7 @@ pub fn needed(area: &[u16]) -> usize {
         usize::from(area[2]),
         usize::from(area[3]),
     );
-    let literals = used - 4 - 4 * lines;
+    let literals = used - first_line(area) - 4 * lines;
     (count + 1) + lines + (2 * count + 1) + literals
 }
 

@@ -4,13 +4,13 @@ use mathlib.Core.Logic.{_≢_}
 use mathlib.Core.Bool.{true, false≢true}
 use mathlib.Core.List.{List, [], _∷_, _++_, append-nil, append-assoc}
 use Prim.Native.Nat.{ℕ, _+_, _*_, _-_, _≤_, _<_}
-use native.Mathlib.Decide.{decLe}
+use native.Mathlib.Decide.{decLe, ℕ-discrete}
 use native.Mathlib.Omega.{arith}
 use lib.ListN.{length, getD, take, drop, length-append}
 use lib.Seq.{take-at}
 use borrow.Author.Tests.{le-leb, lt-leb}
 use Rattle.fixpoint.specs.Interval.{Interval, Within}
-use Rattle.semantics.specs.Area.{sound, pageOf, topOf, conditionsOf, countOf, usedOf, every, lineTests, lineAt}
+use Rattle.semantics.specs.Area.{sound, pageOf, topOf, conditionsOf, countOf, usedOf, every, lineTests, lineAt, firstLine}
 use Rattle.semantics.specs.Page.{Reading, K, W, Line, Page}
 use Rattle.semantics.specs.ReadPage.{pageRead, refusedPage, readPage, readOf}
 use Rattle.semantics.specs.Reading.{Reads}
@@ -18,7 +18,7 @@ use Rattle.semantics.proofs.ReadProper.{accepted-proper}
 use Rattle.semantics.proofs.Soundness.{sound-proper}
 use Rattle.page.specs.Lines.{Next}
 use Rattle.page.proofs.Head.{head-of, top-is, conditions-is}
-use Rattle.page.proofs.Scan.{line-at, rule-kind, fact-kind, query-kind, fields-none, entry-fits, entry-head, entry-fields}
+use Rattle.page.proofs.Scan.{line-at, rule-kind, fact-kind, query-kind, fields-none, entry-fits, entry-head, entry-fields, default-kind}
 use Rattle.page.proofs.Scanning.{Scanning, linesLeft, scanning-first, lines-first, lines-moved, scanning-moved, lines-none}
 use Rattle.print.specs.Wrote.{Wrote}
 use Rattle.print.proofs.Writing.{wrote-none, wrote-then, wrote-as, wrote-front}
@@ -26,6 +26,7 @@ use Rattle.answers.specs.Asked.{readingOf}
 use Rattle.semantics.specs.Output.{Query, queriesOf, IsReading, topFields, answerFields, endFields, refusalFields, printed, answerLines, pageOutput, IsOutput, Prints}
 use Rattle.answers.specs.Printing.{PutLines, PutPage, PutOutput}
 use Rattle.semantics.proofs.Outputs.{printed-append, answers-append, queries-append, queries-most, answer-short, page-output, answers-exist, read-refused, read-accepted, page-accepted}
+use Rattle.semantics.proofs.UsedLength.{mostUsed}
 
 -- the Q line at a place, if there is one
 module _ (a : List ℕ) (at : ℕ) where
@@ -35,9 +36,9 @@ module _ (a : List ℕ) (at : ℕ) where
 
   module _ (t : every (lineTests (topOf a) (conditionsOf a) (usedOf a - at) (drop at a)) ≡ true) where
     -- an entry has a kind
-    kind-most : getD a (at + 1) 0 ≤ 6
+    kind-most : getD a (at + 1) 0 ≤ 7
     kind-most =
-        elim (decLe (getD a (at + 1) 0) 6) [
+        elim (decLe (getD a (at + 1) 0) 7) [
           | yes h ↦ h
           | no h ↦ absurd (false≢true (sym (entry-fields (topOf a) (conditionsOf a) (usedOf a - at) a at (entry-fits (topOf a) (conditionsOf a) (usedOf a - at) a at t) (entry-head (topOf a) (conditionsOf a) (usedOf a - at) a at t)
               ∙ fields-none (topOf a) (conditionsOf a) (getD a (at + 1) 0) (getD a (at + 2) 0) (getD a (at + 3) 0) (take (getD a (at + 3) 0) (drop (at + 4) a)) (omega arith)) ∙ t))
@@ -47,7 +48,11 @@ module _ (a : List ℕ) (at : ℕ) where
     unfolding queriesOf
     no-query n =
         elim (decLe 1 (getD a (at + 1) 0)) [
-          | yes h ↦ rw (line-at a at, rule-kind (getD a (at + 1) 0) h (omega (arith, kind-most)) .1)
+          | yes h ↦
+              elim (ℕ-discrete (getD a (at + 1) 0) 7) [
+                | yes d ↦ rw (line-at a at, default-kind (getD a (at + 1) 0) d)
+                | no d ↦ rw (line-at a at, rule-kind (getD a (at + 1) 0) h (omega (arith, kind-most)) .1)
+              ]
           | no h ↦ rw (line-at a at, fact-kind (getD a (at + 1) 0) (omega arith))
         ]
 
@@ -105,7 +110,7 @@ pub record Printing (a out : List ℕ) (from line passed : ℕ) (out′ : List �
   pub whole : lines ++ linesLeft a line passed ≡ pageOf a .lines
   pub puts : PutLines (pageOf a) lines out from 0 out′ at count
 
-pub printing-first : (a out : List ℕ) (from : ℕ) → sound a ≡ true → from ≤ length out → {line passed : ℕ} → (line ≡ 4) × (passed ≡ 0) → Printing a out from line passed out from 0
+pub printing-first : (a out : List ℕ) (from : ℕ) → sound a ≡ true → from ≤ length out → {line passed : ℕ} → (line ≡ firstLine a) × (passed ≡ 0) → Printing a out from line passed out from 0
 unfolding queriesOf
 printing-first a out from e h q =
     rw (q .0, q .1) (record { scan = scanning-first a e; lines = []; size = refl; whole = lines-first a; puts = puts-none (pageOf a) [] refl out from 0 h })
@@ -149,7 +154,7 @@ puts-page a {count = count} top lines end A h =
     (wrote-then (lines .wrote A h) (wrote-as (ap (λ (n : ℕ). printed (endFields n ∷ [])) e) end)))
 
 -- The output for a text, from what reading it answered.
-module _ (text area : List ℕ) (long : 12292 ≤ length area) {out out′ : List ℕ} {next : ℕ} where
+module _ (text area : List ℕ) (long : mostUsed ≤ length area) {out out′ : List ℕ} {next : ℕ} where
   pub puts-refusal : {number line place : ℕ} → refusedPage number line place ≡ readOf text area .answer
       → Wrote out 0 (printed (refusalFields number line ∷ [])) out′ next → PutOutput text out out′ next
   unfolding IsOutput

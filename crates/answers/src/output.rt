@@ -128,7 +128,7 @@ pub fn put_output(text: &[u8], out: &mut [u8]) -> usize
     requires { ⌜ 14353 ≤ length (now out) ⌝ }
     ensures { λ r. ⌜ PutOutput (now (text .entry)) (now (out .entry)) (now (out .exit)) r ⌝ }
 {
-    let mut page = [0u16; 12292];
+    let mut page = [0u16; 12804];
     let read = reader::read_page(text, &mut page);
     match read {
         ReadAnswer::Refused {

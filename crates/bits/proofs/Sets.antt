@@ -2,14 +2,14 @@
 use mathlib.Core.Path.{_≡_, refl, sym, _∙_, ap}
 use mathlib.Core.Logic.{_≢_}
 use mathlib.Core.Bool.{Bool, true, false, cond, not, _&&_, _||_}
-use mathlib.Core.List.{List}
+use mathlib.Core.List.{List, [], _∷_}
 use Prim.Native.Nat.{ℕ, zero, suc, _+_, _-_, _*_, _/_, _%_, _^_, _≤_, _<_}
 use native.Mathlib.Decide.{ℕ-discrete}
 use native.Mathlib.Omega.{arith}
 use lib.Bits.{bitAnd, bitOr}
 use lib.Count.{leadingZeros, trailingZeros}
 use lib.Dec.{eqb}
-use lib.ListN.{length, getD, set, length-set}
+use lib.ListN.{length, getD, set, length-set, replicate}
 use lib.Seq.{getD-set-same, getD-set-other}
 use borrow.Author.Tests.{eq-eqb, ne-eqb}
 use Rattle.bits.specs.Words.{has, Inserted, Removed, Absorbed, LowestIn, AnyIn}
@@ -221,3 +221,12 @@ module _ (words : List ℕ) where
   any-passed from l none v m =
       let e : (from / 64 + (8 + v - from / 64) % 8) % 8 ≡ v = omega arith in
       ap (λ (i : ℕ). getD words i 0) (sym e) ∙ none ((8 + v - from / 64) % 8) (omega arith)
+
+-- eight zeros are an empty set
+pub zeros-none : (c : ℕ) → has (0 ∷ 0 ∷ 0 ∷ 0 ∷ 0 ∷ 0 ∷ 0 ∷ 0 ∷ []) c ≡ false
+zeros-none c = word-none (0 ∷ 0 ∷ 0 ∷ 0 ∷ 0 ∷ 0 ∷ 0 ∷ 0 ∷ []) c (zero-at 8 (c / 64))
+  where
+    zero-at : (m i : ℕ) → _≡_ {A = ℕ} (getD (replicate m 0) i 0) 0
+    zero-at zero i = refl
+    zero-at (suc m) zero = refl
+    zero-at (suc m) (suc i) = zero-at m i

@@ -10,17 +10,18 @@ use native.Mathlib.Omega.{arith}
 use lib.ListN.{length, getD, drop}
 use Rattle.fixpoint.specs.Interval.{Interval, Assign}
 use Rattle.fixpoint.proofs.KnowledgeOrder.{pair-eq}
-use Rattle.semantics.specs.Area.{sound, pageOf, topOf, conditionsOf, countOf, usedOf, lineAt}
+use Rattle.semantics.specs.Area.{sound, pageOf, topOf, conditionsOf, countOf, usedOf, lineAt, firstLine}
 use Rattle.semantics.specs.Body.{lineBody, bodyless, T}
 use Rattle.semantics.specs.Grade.{End, lower, upper}
 use Rattle.page.specs.Places.{placeOf, LineIn, LineOf}
 use Rattle.page.specs.Lines.{stepAt, EntryIn, Next}
 use Rattle.semantics.proofs.UsedLength.{used-most}
 use Rattle.page.proofs.Scanning.{entry-here}
-use Rattle.page.proofs.LineNumbers.{scanning-at, shape, line-of}
+use Rattle.page.proofs.LineNumbers.{scanning-at, shape, line-of, adds-one}
 use Rattle.value.specs.Table.{endOf, EndTable}
 use Rattle.value.specs.LineEnds.{LineEnd}
-use Rattle.value.proofs.BodyEnds.{body-most, body-has, body-none}
+use Rattle.value.proofs.BodyEnds.{body-some, body-has, body-none}
+use Rattle.value.proofs.Defaults.{bodyless-in}
 use Rattle.ends.specs.Mirror.{mirrored}
 use Rattle.index.specs.Groups.{LinesByHead}
 use Rattle.body.specs.Body.{TakenLine, PassedLine, Taken, Largest, BestOf, Body}
@@ -86,11 +87,12 @@ module _ (a values : List ℕ) (c : ℕ) where
     pub low-end : Seeing lower a values c Seen low
     pub high-end : Seeing upper a (mirrored (topOf a) values) c Seen high
     pub none : found ≡ false → (p : ℕ) → Seen p → LineOf a c p → ⊥
+    pub some : found ≡ true → (p : ℕ) × LineOf a c p
 
   pub gathering-none : (Seen : ℕ → Type 0) {found : Bool} {low high : ℕ} → ((p : ℕ) → Seen p → ⊥) → (found ≡ false) × (low ≡ 0) × (high ≡ 0) → Gathering Seen found low high
   gathering-none Seen s q =
       rw (q .1, q .2)
-      (record { low-end = seeing-none _ _ _ _ Seen s; high-end = seeing-none _ _ _ _ Seen s; none = λ e p h o. s p h })
+      (record { low-end = seeing-none _ _ _ _ Seen s; high-end = seeing-none _ _ _ _ Seen s; none = λ e p h o. s p h; some = λ e. absurd (true≢false (sym e ∙ q .0)) })
 
   -- a line that is not looked at, since it is of another head
   pub gathering-skip : {Seen : ℕ → Type 0} (Seen′ : ℕ → Type 0) {found : Bool} {low high : ℕ} → Gathering Seen found low high → {at : ℕ} → (getD a at 0 ≡ c → ⊥)
@@ -100,6 +102,7 @@ module _ (a values : List ℕ) (c : ℕ) where
         low-end = seeing-passed _ _ _ _ (g .low-end) Seen′ (λ o. n (o .head)) refl s;
         high-end = seeing-passed _ _ _ _ (g .high-end) Seen′ (λ o. n (o .head)) refl s;
         none = λ e p h o. ⊎-elim (λ k. g .none e p k o) (λ k. n (rw k at (o .head))) (s p h);
+        some = g .some;
       }
 
   pub gathering-next : sound a ≡ true → {Seen : ℕ → Type 0} (Seen′ : ℕ → Type 0) {found found′ : Bool} {low high low′ high′ at : ℕ} → Gathering Seen found low high
@@ -109,12 +112,14 @@ module _ (a values : List ℕ) (c : ℕ) where
         low-end = seeing-passed _ _ _ _ (g .low-end) Seen′ (t .not-here) (t .low-same) s;
         high-end = seeing-passed _ _ _ _ (g .high-end) Seen′ (t .not-here) (t .high-same) s;
         none = λ e p h o. ⊎-elim (λ k. g .none (sym (t .found-same) ∙ e) p k o) (λ k. t .not-here (rw k at o)) (s p h);
+        some = λ e. g .some (sym (t .found-same) ∙ e);
       }
-  gathering-next ok Seen′ g (inr t) s =
+  gathering-next ok Seen′ {at = at} g (inr t) s =
       record {
         low-end = seeing-taken _ _ _ _ (g .low-end) ok Seen′ (t .here) (t .low-is) (t .low-most) s;
         high-end = seeing-taken _ _ _ _ (g .high-end) ok Seen′ (t .here) (t .high-is) (t .high-most) s;
         none = λ e p h o. true≢false (sym (t .found) ∙ e);
+        some = λ e. (at, t .here);
       }
 
   pub gathering-last : {Seen : ℕ → Type 0} {found : Bool} {low high : ℕ} → Gathering Seen found low high → ((p : ℕ) → LineOf a c p → Seen p) → BestOf a values c found low high
@@ -123,6 +128,7 @@ module _ (a values : List ℕ) (c : ℕ) where
         low-end = seeing-last _ _ _ _ (g .low-end) s;
         high-end = seeing-last _ _ _ _ (g .high-end) s;
         none = λ e p o. g .none e p (s p o) o;
+        some = g .some;
       }
 
 -- the places of the lines passed by a scan, and of those of a group passed
@@ -154,29 +160,33 @@ grouped-all a first places c i g l h p o = let w = g .every c p l o in (w .0, w 
 
 -- the body value, where a line is found and where none is
 module _ (a values : List ℕ) (c : ℕ) (ok : sound a ≡ true) {found : Bool} {low high : ℕ} (b : BestOf a values c found low high) where
-  most : (e : End) (table : List ℕ) {best : ℕ} → Largest e a table c best → (I : Assign) → EndTable e (topOf a) (conditionsOf a) I table → best ≡ endOf e (T (pageOf a) I c)
-  most e table {best} v I t =
-      let h = body-most e a ok I c best (λ j l p q. v .covers I t (placeOf a j) (line-of (topOf a) I c a j l q) p q) in
-      omega (arith, v .reached I t)
+  module _ (some : found ≡ true) where
+    most : (e : End) (table : List ℕ) {best : ℕ} → Largest e a table c best → (I : Assign) → EndTable e (topOf a) (conditionsOf a) I table → best ≡ endOf e (T (pageOf a) I c)
+    most e table {best} v I t =
+        let o = b .some some .1 in
+        let w = adds-one (topOf a) I c a o in
+        let d = subst (λ (k : ℕ). lineBody (topOf a) I c (lineAt (drop k a)) ≡ w .0 ∷ []) (o .place) (w .1) in
+        let h = body-some e a ok I c best (λ j l p q. v .covers I t (placeOf a j) (line-of (topOf a) I c a j l q) p q) (o .number) (o .in-count) (w .0) d in
+        omega (arith, v .reached I t)
 
-  pub body-found : Body a values c low high
-  body-found =
-      record {
-        low-in = b .low-end .grade;
-        high-in = b .high-end .grade;
-        is = λ I t u. pair-eq (most lower values (b .low-end) I t) (most upper (mirrored (topOf a) values) (b .high-end) I u);
-      }
+    pub body-found : Body a values c low high
+    body-found =
+        record {
+          low-in = b .low-end .grade;
+          high-in = b .high-end .grade;
+          is = λ I t u. pair-eq (most lower values (b .low-end) I t) (most upper (mirrored (topOf a) values) (b .high-end) I u);
+        }
 
-  pub body-empty : found ≡ false → {l h : ℕ} → record { low = l; high = h } ≡ bodyless (pageOf a) c → l ≤ topOf a → h ≤ topOf a → Body a values c l h
-  body-empty e q low-in high-in =
+  pub body-empty : found ≡ false → {l h : ℕ} → record { low = l; high = h } ≡ bodyless (pageOf a) c → Body a values c l h
+  body-empty e q =
       record {
-        low-in = low-in;
-        high-in = high-in;
+        low-in = omega (arith, ap (λ (i : Interval). i .low) q, bodyless-in a c lower);
+        high-in = omega (arith, ap (λ (i : Interval). i .high) q, bodyless-in a c upper);
         is = λ I t u. q ∙ sym (body-none a ok I c (λ j l. ⊎-elim (λ z. z) (λ z. absurd (b .none e (placeOf a j) (line-of (topOf a) I c a j l (z .1)))) (shape (topOf a) I c (lineAt (drop (placeOf a j) a)))));
       }
 
 -- the cursor stands where the line of its number begins
-pub place-first : (a : List ℕ) {at k : ℕ} → (at ≡ 4) × (k ≡ 0) → at ≡ placeOf a k
+pub place-first : (a : List ℕ) {at k : ℕ} → (at ≡ firstLine a) × (k ≡ 0) → at ≡ placeOf a k
 unfolding placeOf
 place-first a q = rw (q .1) (q .0)
 
@@ -190,11 +200,3 @@ place-small a ok {c} {at} o =
     let e = here-entry a ok (record { number = o .number; in-count = o .in-count; place = o .place }) in
     let s = subst (λ (z : ℕ). z ≤ usedOf a) (sym (o .place)) (scanning-at a ok (o .number) (omega (arith, o .in-count)) .in-used) in
     omega (arith, used-most a ok)
-
--- `bodyless` has grades
-pub bodyless-in : (a : List ℕ) (c : ℕ) {l h : ℕ} → record { low = l; high = h } ≡ bodyless (pageOf a) c → (l ≤ topOf a) × (h ≤ topOf a)
-unfolding bodyless
-bodyless-in a c {l} {h} e =
-    let p : l ≡ 0 = ap (λ (i : Interval). i .low) e in
-    let q : h ≡ 0 = ap (λ (i : Interval). i .high) e in
-    (omega arith, omega arith)

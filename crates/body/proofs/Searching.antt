@@ -9,7 +9,7 @@ use native.Mathlib.Omega.{arith}
 use lib.Dec.{eqb}
 use lib.ListN.{getD, drop}
 use Rattle.fixpoint.specs.Interval.{Interval, Assign}
-use Rattle.semantics.specs.Area.{sound, pageOf, topOf, conditionsOf, countOf, lineAt}
+use Rattle.semantics.specs.Area.{sound, pageOf, topOf, conditionsOf, countOf, lineAt, firstLine}
 use Rattle.semantics.specs.Body.{lineBody}
 use Rattle.semantics.specs.Grade.{lower}
 use Rattle.semantics.specs.Holding.{hasLow, firstWith}
@@ -63,7 +63,7 @@ module _ (a values : List ℕ) (c low : ℕ) where
     pub onward : (I : Assign) → EndTable lower (topOf a) (conditionsOf a) I values
         → firstWith (topOf a) I c low 2 (pageOf a .lines) ≡ firstWith (topOf a) I c low (k + 2) (linesLeft a (placeOf a k) k)
 
-  pub searching-first : {at k : ℕ} → (at ≡ 4) × (k ≡ 0) → Searching at k
+  pub searching-first : {at k : ℕ} → (at ≡ firstLine a) × (k ≡ 0) → Searching at k
   unfolding placeOf
   searching-first {at} {k} q =
       record {

@@ -46,6 +46,7 @@ pub record BestOf (a values : List ℕ) (c : ℕ) (found : Bool) (low high : ℕ
   pub low-end : Largest lower a values c low
   pub high-end : Largest upper a (mirrored (topOf a) values) c high
   pub none : found ≡ false → (p : ℕ) → LineOf a c p → ⊥
+  pub some : found ≡ true → (p : ℕ) × LineOf a c p
 
 -- both ends of the body value T of c, at every assignment that the table holds
 pub record Body (a values : List ℕ) (c low high : ℕ) : Type 0 where

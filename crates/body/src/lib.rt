@@ -54,7 +54,7 @@ fn take_line(a: &[u16], at: usize, values: &[u8], best: Best) -> Best
 }
 
 // The lines of c, by a scan of the page.
-pub fn by_scan(a: &[u16], values: &[u8], c: u16) -> Best
+fn by_scan(a: &[u16], values: &[u8], c: u16) -> Best
     requires { ⌜ (sound (now a) ≡ true) × Mirrored (topOf (now a)) (conditionsOf (now a)) (now values) ⌝ }
     ensures { λ r. ⌜ BestOf (now (a .entry)) (now (values .entry)) c (r .found) (r .low) (r .high) ⌝ }
 {

@@ -38,7 +38,7 @@ fn rest_code(rest: bool) -> i32
     if rest { 1 } else { 0 }
 }
 
-// Read a page: the used length, or minus 1, 2, 5, 3, 4, 21, 22, 23 or 6.
+// Read a page: the used length, or minus 1, 2, 5, 3, 4, 21, 22, 23, 24 or 6.
 #[no_mangle]
 pub extern "C" fn simjorad_read(
     text: &[u8],

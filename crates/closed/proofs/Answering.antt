@@ -14,7 +14,10 @@ use borrow.Rule.Slice.PartAt.{part-to-end}
 use borrow.Author.Tests.{le-leb, lt-leb, leb-true, not-false}
 use Rattle.fixpoint.specs.ChaoticIteration.{DependencyClosed}
 use Rattle.fixpoint.specs.Interval.{Assign}
-use Rattle.semantics.specs.Area.{sound, pageOf, conditionsOf, allUnder}
+use Rattle.fixpoint.proofs.Cond.{by-bool, cond-true, cond-false}
+use Rattle.fixpoint.proofs.KnowledgeOrder.{pair-eq}
+use Rattle.fixpoint.proofs.Tables.{turned-first}
+use Rattle.semantics.specs.Area.{sound, pageOf, topOf, conditionsOf, allUnder}
 use Rattle.semantics.specs.Body.{unknownByDefault}
 use Rattle.semantics.specs.Call.{Cause, cause}
 use Rattle.semantics.specs.Operation.{ends, zeros, scratchLength, closedCauses, indexLength, usedWorkspace, closedWorkspace, refusedClosing, closedAfter, ClosedOf}
@@ -39,43 +42,58 @@ use Rattle.closed.specs.Solving.{Begun, SolveReady, Solved}
 use Rattle.stages.specs.Counted.{CountReady, Counted}
 use Rattle.semantics.proofs.RoundsReached.{count-over}
 use Rattle.settle.proofs.Raising.{S}
-use Rattle.rounds.proofs.Turns.{turned-none}
 use Rattle.rounds.proofs.Starting.{upto}
 
--- the loop that begins: the conditions before c have the low end 0
-module _ (n : ℕ) (s₀ : List ℕ) where
+-- the loop that begins: the conditions before c have [0;top]
+module _ (n top : ℕ) (s₀ : List ℕ) where
   pub record Beginning (s : List ℕ) (c : ℕ) : Type 0 where
     pub long : 4 * n ≤ length s₀
     pub within : c ≤ n
     pub same-length : length s ≡ length s₀
     pub lows : (d : ℕ) → d < c → getD s (2 * d) 0 ≡ 0
+    pub highs : (d : ℕ) → d < c → getD s (2 * n + 2 * d) 0 ≡ top
     pub beyond : drop (4 * n) s ≡ drop (4 * n) s₀
 
   pub beginning-first : 4 * n ≤ length s₀ → Beginning s₀ 0
   beginning-first h =
-      record { long = h; within = omega arith; same-length = refl; lows = λ d l. absurd (omega arith); beyond = refl }
+      record { long = h; within = omega arith; same-length = refl; lows = λ d l. absurd (omega arith); highs = λ d l. absurd (omega arith); beyond = refl }
 
-  pub beginning-next : {s : List ℕ} {c : ℕ} → Beginning s c → c < n → Beginning (set s (2 * c) 0) (c + 1)
-  beginning-next {s} {c} v l =
-      record {
-        long = v .long;
-        within = omega arith;
-        same-length = simp length-set (v .same-length);
-        lows = upto (λ d. getD (set s (2 * c) 0) (2 * d) 0 ≡ 0) c (λ d m. getD-set-other s (2 * c) (2 * d) 0 0 (λ z. omega arith) ∙ v .lows d m)
-            (getD-set-same s (2 * c) 0 0 (omega (arith, v .same-length, v .long)));
-        beyond = drop-set-lt (4 * n) s (2 * c) 0 (omega arith) ∙ v .beyond;
-      }
+  module _ {s : List ℕ} {c : ℕ} (v : Beginning s c) (l : c < n) where
+    abbrev s₁ : List ℕ
+    s₁ = set s (2 * c) 0
 
-  pub beginning-last : {s : List ℕ} {c : ℕ} → Beginning s c → n ≤ c → Begun n s₀ s
-  beginning-last v l = record { same-length = v .same-length; lows = λ d m. v .lows d (omega arith); beyond = v .beyond }
+    abbrev s₂ : List ℕ
+    s₂ = set s₁ (2 * n + 2 * c) top
+
+    size : length s₁ ≡ length s₀
+    size = length-set s (2 * c) 0 ∙ v .same-length
+
+    else′ : (j : ℕ) → j ≢ 2 * c → j ≢ 2 * n + 2 * c → getD s₂ j 0 ≡ getD s j 0
+    else′ j p q = getD-set-other s₁ (2 * n + 2 * c) j top 0 q ∙ getD-set-other s (2 * c) j 0 0 p
+
+    pub beginning-next : Beginning s₂ (c + 1)
+    beginning-next =
+        record {
+          long = v .long;
+          within = omega arith;
+          same-length = length-set s₁ (2 * n + 2 * c) top ∙ size;
+          lows = upto (λ d. getD s₂ (2 * d) 0 ≡ 0) c (λ d m. else′ (2 * d) (λ z. omega arith) (λ z. omega arith) ∙ v .lows d m)
+              (getD-set-other s₁ (2 * n + 2 * c) (2 * c) top 0 (λ z. omega arith) ∙ getD-set-same s (2 * c) 0 0 (omega (arith, v .same-length, v .long)));
+          highs = upto (λ d. getD s₂ (2 * n + 2 * d) 0 ≡ top) c (λ d m. else′ (2 * n + 2 * d) (λ z. omega arith) (λ z. omega arith) ∙ v .highs d m)
+              (getD-set-same s₁ (2 * n + 2 * c) top 0 (omega (arith, size, v .long)));
+          beyond = drop-set-lt (4 * n) s₁ (2 * n + 2 * c) top (omega arith) ∙ drop-set-lt (4 * n) s (2 * c) 0 (omega arith) ∙ v .beyond;
+        }
+
+  pub beginning-last : {s : List ℕ} {c : ℕ} → Beginning s c → n ≤ c → Begun n top s₀ s
+  beginning-last v l = record { same-length = v .same-length; lows = λ d m. v .lows d (omega arith); highs = λ d m. v .highs d (omega arith); beyond = v .beyond }
 
 -- the start: the marks are those of the closure
-module _ (a qs s w : List ℕ) (r : SolveReady a qs s w) {marks : List Bool} (m : Marks (closure (pageOf a) qs) marks) {s₁ : List ℕ} (b : Begun (conditionsOf a) s s₁) where
+module _ (a qs s w : List ℕ) (r : SolveReady a qs s w) {marks : List Bool} (m : Marks (closure (pageOf a) qs) marks) {s₁ : List ℕ} (b : Begun (conditionsOf a) (topOf a) s s₁) where
   shut : DependencyClosed (pageOf a .conditions) (names (pageOf a)) (member marks)
   shut c d l k p q = m .same d ∙ reached-closed (pageOf a) qs c d l k (sym (m .same c) ∙ p) q
 
   pub rounds-begin : RoundReady a marks s₁
-  unfolding pageOf unknownByDefault
+  unfolding pageOf
   rounds-begin =
       record {
         page-sound = r .page-sound;
@@ -83,9 +101,12 @@ module _ (a qs s w : List ℕ) (r : SolveReady a qs s w) {marks : List Bool} (m 
         marked = omega (arith, m .size, head-of a (r .page-sound) .few);
         shut = shut;
         within = λ c l. omega (arith, b .lows c l);
+        highs-in = λ c l e. omega (arith, b .highs c l);
         apart = λ c l q. b .lows c l;
         round = 0;
-        turned = turned-none (S a (r .page-sound)) shut (held (conditionsOf a) s₁) (λ c l q. b .lows c l);
+        turned = turned-first (S a (r .page-sound)) shut (unknownByDefault (pageOf a))
+            (λ c l q. pair-eq (b .lows c l) (by-bool (unknownByDefault (pageOf a) c) (λ e. cond-true (getD s₁ (2 * conditionsOf a + 2 * c) 0) (topOf a) e ∙ b .highs c l)
+            (λ e. cond-false (getD s₁ (2 * conditionsOf a + 2 * c) 0) (topOf a) e)));
       }
 
 -- the answers: the first i queries are answered
@@ -138,7 +159,7 @@ module _ (I : Assign) (qs answers₀ : List ℕ) where
         s .is ∙ ap (λ (j : ℕ). ends I (take j qs) ++ drop (2 * j) answers₀) e ∙ ap (λ (t : List ℕ). ends I t ++ drop (2 * length qs) answers₀) (take-length qs)
 
 -- the answers are written over the closed reading, and then the rounds are counted
-module _ (a qs s w : List ℕ) (r : SolveReady a qs s w) {marks : List Bool} (m : Marks (closure (pageOf a) qs) marks) {s₁ : List ℕ} (b : Begun (conditionsOf a) s s₁)
+module _ (a qs s w : List ℕ) (r : SolveReady a qs s w) {marks : List Bool} (m : Marks (closure (pageOf a) qs) marks) {s₁ : List ℕ} (b : Begun (conditionsOf a) (topOf a) s s₁)
     {s₂ : List ℕ} (v : Alternated a marks s₁ s₂) where
   real : (c : ℕ) → listed c qs ≡ true → c < conditionsOf a
   real c l = under-listed (conditionsOf a) qs (r .under) c l

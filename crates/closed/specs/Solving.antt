@@ -2,17 +2,18 @@
 use mathlib.Core.Path.{_≡_}
 use mathlib.Core.Bool.{Bool, true}
 use mathlib.Core.List.{List, _++_}
-use Prim.Native.Nat.{ℕ, _*_, _≤_, _<_}
+use Prim.Native.Nat.{ℕ, _+_, _*_, _≤_, _<_}
 use lib.ListN.{length, getD, drop}
 use Rattle.semantics.specs.Area.{sound, pageOf, conditionsOf, allUnder}
 use Rattle.semantics.specs.Operation.{ends}
 use Rattle.semantics.specs.Rounds.{IsRounds}
 use Rattle.rounds.specs.Round.{closedAt}
 
--- the low ends are 0
-pub record Begun (n : ℕ) (s s′ : List ℕ) : Type 0 where
+-- nothing is known: every interval is [0;top]
+pub record Begun (n top : ℕ) (s s′ : List ℕ) : Type 0 where
   pub same-length : length s′ ≡ length s
   pub lows : (c : ℕ) → c < n → getD s′ (2 * c) 0 ≡ 0
+  pub highs : (c : ℕ) → c < n → getD s′ (2 * n + 2 * c) 0 ≡ top
   pub beyond : drop (4 * n) s′ ≡ drop (4 * n) s
 
 -- the closed reading can be solved, and there is room for its answers

@@ -1,4 +1,4 @@
-// The closed reading, by rounds of two halves: the least high ends over the low ends held, then the least low ends over the high ends held.
+// The closed reading, by rounds of two halves: the least high ends over the floor held, then the least floor over the high ends held.
 ghost use mathlib.Core.Path.{_≡_};
 ghost use mathlib.Core.List.{_++_};
 ghost use mathlib.Core.Option.{none};
@@ -10,14 +10,16 @@ ghost use Rattle.settle.specs.Waiting.{MaybeIndex};
 ghost use Rattle.closed.specs.Solving.{Begun, SolveReady, Solved};
 ghost use Rattle.closed.specs.Answer.{refusalTold, closingTold, FirstCause};
 
-// The low ends are 0.
-fn begin(scratch: &mut [u16], n: u16)
+// Nothing is known: the low ends are 0 and the high ends top.
+fn begin(scratch: &mut [u16], n: u16, top: u16)
     requires { ⌜ (4 * n ≤ length (now scratch)) × (n ≤ 512) ⌝ }
-    ensures { λ r. ⌜ Begun n (now (scratch .entry)) (now (scratch .exit)) ⌝ }
+    ensures { λ r. ⌜ Begun n top (now (scratch .entry)) (now (scratch .exit)) ⌝ }
 {
+    let base = 2 * n as usize;
     let mut c: usize = 0;
     while c < n as usize {
         scratch[2 * c] = 0;
+        scratch[base + 2 * c] = top;
         c += 1;
     }
 }
@@ -54,13 +56,15 @@ fn solve(
     let n = a[1];
     let mut marks = [false; 512];
     reach::mark_closure(a, queries, &mut marks);
-    begin(scratch, n);
-    rounds::alternate(a, lines, users, &marks, scratch);
+    begin(scratch, n, a[0]);
+    let free = unknowns::any_free(a, &marks);
+    let mut next = [0u8; 512];
+    rounds::alternate(a, lines, users, &marks, scratch, &mut next, free);
     write_answers(scratch, n, queries, answers);
     if !counting {
         return 0;
     }
-    stages::count_rounds(a, lines, users, &marks, scratch)
+    stages::count_rounds(a, lines, users, &marks, scratch, &mut next, free)
 }
 
 // The answer of the closed reading: the number of the refusal, or the count of rounds where the work is done.

@@ -9,11 +9,11 @@ use native.Mathlib.Decide.{ℕ-discrete}
 use lib.Dec.{eqb, leb}
 use lib.ListN.{length, getD, drop}
 use borrow.Author.Tests.{ne-eqb, eqb-true, le-leb, leb-true, leb-false}
-use Rattle.semantics.specs.Text.{field}
+use Rattle.semantics.specs.Text.{textLines, field, isLetter}
 use Rattle.fields.specs.Cursor.{InText, fieldsAt, fieldAt, linesAfter, letterThen}
 use Rattle.fields.proofs.Places.{byte-here, within, within-next, comma-fields, newline-fields, other-fields}
 use Rattle.semantics.proofs.Soundness.{both-true}
-use Rattle.fields.proofs.Fields.{Comma, Newline, some-field, follows}
+use Rattle.fields.proofs.Fields.{Comma, Newline, some-field, follows, newline-after}
 
 -- The letter at a place, or 0, by the byte x there and the byte y after it.
 module _ (s : List ℕ) (at : ℕ) {x : ℕ} (b : x ≡ getD s at 10) where
@@ -107,6 +107,37 @@ module _ (s : List ℕ) (at : ℕ) (p : InText s at) {x : ℕ} (b : getD s at 10
 
   pub letter-gone : (getD s (at + 1) 0 ≡ 44 → ⊥) → letterThen (fieldsAt (drop at s)) ≡ 0
   letter-gone e = sym (letter-not s at (sym b) (l .comma) (l .newline) byte-next e)
+
+-- The letter r is the field at a place, and the last one of its line.
+pub record LetterLast (s : List ℕ) (at r : ℕ) : Type 0 where
+  pub fields : fieldsAt (drop at s) ≡ (r ∷ []) ∷ []
+  pub lines : linesAfter (drop at s) ≡ textLines (drop (at + 2) s)
+
+module _ (s : List ℕ) (at : ℕ) {x : ℕ} (b : getD s at 10 ≡ x) (l : Plain x) where
+  last-field : fieldsAt (drop at s) ≡ (x ∷ fieldAt s (at + 1)) ∷ drop 1 (fieldsAt (drop (at + 1) s))
+  last-field = other-fields s at (λ e. l .newline (sym b ∙ e)) (λ e. l .comma (sym b ∙ e)) ∙ rw b
+
+  pub letter-last : getD s (at + 1) 10 ≡ 10 → LetterLast s at x
+  letter-last e =
+      let two : at + 1 + 1 ≡ at + 2 = omega arith in
+      let f : fieldsAt (drop at s) ≡ (x ∷ []) ∷ [] = last-field ∙ rw (newline-fields s (at + 1) e) in
+      let n = newline-after s at (at + 1) (omega (arith, ap (λ (fs : List (List ℕ)). length (field fs 0)) f)) e in
+      record { fields = f; lines = n .lines ∙ rw two }
+
+-- Where another byte stands than the letter x with byte 10 behind it, the field is not that letter, or more fields follow.
+pub no-letter-last : (s : List ℕ) (at x : ℕ) → (getD s at 10 ≡ x → getD s (at + 1) 10 ≡ 10 → ⊥) → (isLetter x (fieldAt s at) ≡ false) ⊎ (2 ≤ length (fieldsAt (drop at s)))
+no-letter-last s at x n = first (ℕ-discrete (getD s at 10) 44) (ℕ-discrete (getD s at 10) 10) (ℕ-discrete (getD s (at + 1) 10) 44) (ℕ-discrete (getD s (at + 1) 10) 10)
+  where
+    first : Dec (getD s at 10 ≡ 44) → Dec (getD s at 10 ≡ 10) → Dec (getD s (at + 1) 10 ≡ 44) → Dec (getD s (at + 1) 10 ≡ 10)
+        → (isLetter x (fieldAt s at) ≡ false) ⊎ (2 ≤ length (fieldsAt (drop at s)))
+    first (yes e) d f g = inl (rw (comma-fields s at e))
+    first (no m) (yes e) f g = inl (rw (newline-fields s at e))
+    first (no m) (no k) (yes e) g =
+        let q : fieldsAt (drop at s) ≡ (getD s at 10 ∷ []) ∷ fieldsAt (drop (at + 1 + 1) s) = other-fields s at k m ∙ rw (comma-fields s (at + 1) e) in
+        inr (omega (arith, ap length q, some-field (drop (at + 1 + 1) s)))
+    first (no m) (no k) (no e) (yes g) = inl (rw (other-fields s at k m, newline-fields s (at + 1) g, ne-eqb (getD s at 10) x (λ z. n z g)))
+    first (no m) (no k) (no e) (no g) =
+        inl (rw (other-fields s at k m, other-fields s (at + 1) g e, ne-eqb (suc (suc (length (fieldAt s (at + 1 + 1))))) 1 (λ z. omega arith)))
 
 -- The letter is the byte at the place, or 0.
 pub letter-or : (s : List ℕ) (at : ℕ) → (letterThen (fieldsAt (drop at s)) ≡ getD s at 10) ⊎ (letterThen (fieldsAt (drop at s)) ≡ 0)

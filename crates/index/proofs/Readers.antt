@@ -8,7 +8,7 @@ use native.Mathlib.Omega.{arith}
 use lib.Dec.{eqb}
 use borrow.Author.Tests.{eqb-true}
 use Rattle.semantics.specs.Area.{sound, pageOf, conditionsOf}
-use Rattle.semantics.specs.Page.{Line, fact, rule, query}
+use Rattle.semantics.specs.Page.{Line, fact, rule, query, default}
 use Rattle.semantics.proofs.Proper.{AllInRange}
 use Rattle.semantics.proofs.Soundness.{both-true, sound-proper}
 use Rattle.semantics.proofs.Table.{or-cases}
@@ -22,6 +22,7 @@ read-below top n (rule d v op lits ∷ ls) w code h e =
     ⊎-elim (λ q. omega (arith, eqb-true d h (both-true (eqb d h) (among code lits) q .0), w .0 .0)) (λ q. read-below top n ls (w .1) code h q)
     (or-cases (eqb d h && among code lits) (linesRead code ls h) e)
 read-below top n (query r d ∷ ls) w code h e = read-below top n ls (w .1) code h e
+read-below top n (default d ∷ ls) w code h e = read-below top n ls (w .1) code h e
 
 pub reads-below : (a : List ℕ) → sound a ≡ true → (code h : ℕ) → linesRead code (pageOf a .lines) h ≡ true → h < conditionsOf a
 unfolding pageOf

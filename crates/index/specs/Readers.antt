@@ -4,7 +4,7 @@ use mathlib.Core.List.{List, [], _∷_}
 use Prim.Native.Nat.{ℕ}
 use lib.Dec.{eqb}
 use Rattle.semantics.specs.Area.{codeOf}
-use Rattle.semantics.specs.Page.{Literal, Line, fact, rule, query}
+use Rattle.semantics.specs.Page.{Literal, Line, fact, rule, query, default}
 
 -- the literal with that code is one of the list
 unfoldable pub among : ℕ → List Literal → Bool
@@ -17,3 +17,4 @@ linesRead code [] a = false
 linesRead code (fact d l h ∷ ls) a = linesRead code ls a
 linesRead code (rule d w op lits ∷ ls) a = (eqb d a && among code lits) || linesRead code ls a
 linesRead code (query r d ∷ ls) a = linesRead code ls a
+linesRead code (default d ∷ ls) a = linesRead code ls a

@@ -11,7 +11,7 @@ use lib.Dec.{eqb}
 use lib.ListN.{length, getD, take, drop}
 use lib.Seq.{drop-cons}
 use borrow.Author.Tests.{eq-eqb, ne-eqb, eqb-true}
-use Rattle.semantics.specs.Area.{Kind, factKind, ruleKind, queryKind, noKind, kind, literalOf, lineAs, lineAt}
+use Rattle.semantics.specs.Area.{Kind, factKind, ruleKind, queryKind, defaultKind, noKind, kind, literalOf, lineAs, lineAt}
 use Rattle.semantics.specs.Layers.{denies, linesNegate}
 use Rattle.semantics.specs.Page.{Literal, positive, negative, conditionOf, mentions, Line}
 use Rattle.semantics.proofs.Layers.{or-right}
@@ -100,7 +100,7 @@ module _ (a : List ℕ) (at c : ℕ) where
   fact-denies h = rw (line-at a at, fact-kind (getD a (at + 1) 0) (omega arith))
 
   pub over-denies : 5 < getD a (at + 1) 0 → lineNegates (lineAt (drop at a)) c ≡ false
-  over-denies h = rw (line-at a at) (⊎-elim (λ e. rw e) (λ e. rw e) (over-five (getD a (at + 1) 0) h))
+  over-denies h = rw (line-at a at) (⊎-elim (λ e. rw e) (⊎-elim (λ e. rw e) (λ e. rw e)) (over-five (getD a (at + 1) 0) h))
 
 -- lines that begin with the one at a place: it is of the head and negates c, or those behind it decide
 pub lines-negate : (a : List ℕ) (at head c : ℕ) (ls : List Line)
@@ -112,4 +112,5 @@ lines-negate a at head c ls = rw (line-at a at) (go (kind (getD a (at + 1) 0)) (
     go factKind d x y lits = rw (and-false (eqb d head))
     go (ruleKind op) d x y lits = refl
     go queryKind d x y lits = rw (and-false (eqb d head))
+    go defaultKind d x y lits = rw (and-false (eqb d head))
     go noKind d x y lits = rw (and-false (eqb d head))

@@ -7,7 +7,7 @@ use Prim.Native.Nat.{ℕ, suc, _+_, _/_, _%_, _≤_, _<_, max}
 use lib.ListN.{length, getD, drop}
 use Rattle.semantics.specs.Area.{lineAt}
 use Rattle.semantics.specs.Layers.{denies, negates, LowestLoop, Layers, LeastLayers}
-use Rattle.semantics.specs.Page.{Line, fact, rule, query, Page, names}
+use Rattle.semantics.specs.Page.{Line, fact, rule, query, default, Page, names}
 use Rattle.page.specs.Lines.{lineNames}
 
 -- a list of numbers read as layers
@@ -43,6 +43,7 @@ abbrev pub lineNegates : Line → ℕ → Bool
 lineNegates (fact d l h) c = false
 lineNegates (rule d w op lits) c = denies lits c
 lineNegates (query r d) c = false
+lineNegates (default d) c = false
 
 -- the same of any line: its head has what the line asks for
 pub record LineRaised (a : List ℕ) (at : ℕ) (layers layers′ : List ℕ) (r : ℕ) : Type 0 where

@@ -9,13 +9,13 @@ use lib.Dec.{leb}
 use lib.ListN.{length, getD, drop, length-drop, length-map}
 use borrow.Author.Tests.{ne-eqb, eqb-true, le-leb, lt-leb, leb-true}
 use Rattle.semantics.specs.Area.{every, codeOf, lineCode}
-use Rattle.semantics.specs.Page.{Reading, K, W, fact, rule, query}
-use Rattle.semantics.specs.Text.{field, isNumber, numberIn, isLetter, isOp, opIn, isReading, readingIn, literalIn, allLiterals, factForm, isFact, ruleForm, isRule, queryForm, isQuery, hasForm, lineIn}
+use Rattle.semantics.specs.Page.{Reading, K, W, fact, rule, query, default}
+use Rattle.semantics.specs.Text.{field, isNumber, numberIn, isLetter, isOp, opIn, isReading, readingIn, literalIn, allLiterals, factForm, isFact, ruleForm, isRule, queryForm, isQuery, defaultForm, isDefault, hasForm, lineIn}
 use Rattle.semantics.proofs.TestLists.{fails, passes}
 use Rattle.fields.specs.Cursor.{InText, fieldsAt, fieldAt, letterThen}
-use Rattle.fields.proofs.Tokens.{NumberLast}
+use Rattle.fields.proofs.Tokens.{NumberThen, NumberLast}
 use Rattle.fields.proofs.Fields.{some-field}
-use Rattle.fields.proofs.Letters.{LetterThen, letter-absent, letter-or}
+use Rattle.fields.proofs.Letters.{LetterThen, LetterLast, letter-absent, letter-or}
 use Rattle.lines.specs.Lines.{Ends, Says, PairThen, areLiterals, LiteralsTo, RuleSays, kindAt, readingAt}
 use Rattle.lines.proofs.LetterCodes.{op-one, op-known, op-none, reading-one, reading-known, reading-none}
 
@@ -37,24 +37,28 @@ query-size K c = refl
 query-size W c = refl
 
 pub form-size : (fs : List (List ℕ)) → hasForm fs ≡ true → (length (lineCode (lineIn fs)) ≡ 4 + length (drop 4 fs)) × (length (drop 4 fs) ≤ 8)
-unfolding hasForm lineIn isFact isRule isQuery
-form-size fs = go (every (factForm fs)) (every (ruleForm fs)) (every (queryForm fs)) refl refl refl
+unfolding hasForm lineIn isFact isRule isQuery isDefault
+form-size fs = go (every (factForm fs)) (every (ruleForm fs)) (every (queryForm fs)) (every (defaultForm fs)) refl refl refl refl
   where
-    go : (t u v : Bool) → every (factForm fs) ≡ t → every (ruleForm fs) ≡ u → every (queryForm fs) ≡ v → (t || (u || v)) ≡ true
+    go : (t u v w : Bool) → every (factForm fs) ≡ t → every (ruleForm fs) ≡ u → every (queryForm fs) ≡ v → every (defaultForm fs) ≡ w → (t || (u || (v || w))) ≡ true
         → (length
         (lineCode
         (cond t (fact (numberIn (field fs 1)) (numberIn (field fs 2)) (numberIn (field fs 3)))
-        (cond u (rule (numberIn (field fs 1)) (numberIn (field fs 2)) (opIn (field fs 3)) (map literalIn (drop 4 fs))) (query (readingIn (field fs 1)) (numberIn (field fs 2))))))
+        (cond u (rule (numberIn (field fs 1)) (numberIn (field fs 2)) (opIn (field fs 3)) (map literalIn (drop 4 fs)))
+        (cond v (query (readingIn (field fs 1)) (numberIn (field fs 2))) (default (numberIn (field fs 1)))))))
         ≡ 4 + length (drop 4 fs))
         × (length (drop 4 fs) ≤ 8)
-    go true u v p q r h =
+    go true u v w p q r d h =
         let l : length fs ≡ 4 = eqb-true (length fs) 4 (passes (factForm fs) 1 p) in
         (omega (arith, length-drop 4 fs), omega (arith, length-drop 4 fs))
-    go false true v p q r h = (omega (arith, length-map (map literalIn (drop 4 fs)) codeOf, length-map (drop 4 fs) literalIn), leb-true (length (drop 4 fs)) 8 (passes (ruleForm fs) 2 q))
-    go false false true p q r h =
+    go false true v w p q r d h = (omega (arith, length-map (map literalIn (drop 4 fs)) codeOf, length-map (drop 4 fs) literalIn), leb-true (length (drop 4 fs)) 8 (passes (ruleForm fs) 2 q))
+    go false false true w p q r d h =
         let l : length fs ≡ 3 = eqb-true (length fs) 3 (passes (queryForm fs) 1 r) in
         (omega (arith, length-drop 4 fs, query-size (readingIn (field fs 1)) (numberIn (field fs 2))), omega (arith, length-drop 4 fs))
-    go false false false p q r h = absurd (false≢true h)
+    go false false false true p q r d h =
+        let l : length fs ≡ 3 = eqb-true (length fs) 3 (passes (defaultForm fs) 1 d) in
+        (omega (arith, length-drop 4 fs), omega (arith, length-drop 4 fs))
+    go false false false false p q r d h = absurd (false≢true h)
 
 -- two numbers, and another field behind them
 abbrev pub pairTests : List (List ℕ) → List Bool
@@ -63,7 +67,7 @@ pairTests fs = isNumber (field fs 0) ∷ isNumber (field fs 1) ∷ leb 3 (length
 -- A fact: `F`, and the fields gs.
 module _ (gs : List (List ℕ)) where
   pub fact-form : hasForm ((70 ∷ []) ∷ gs) ≡ isFact ((70 ∷ []) ∷ gs)
-  unfolding hasForm isRule isQuery
+  unfolding hasForm isRule isQuery isDefault
   fact-form = or-false (isFact ((70 ∷ []) ∷ gs))
 
   pub no-fact : every (pairTests gs) ≡ false → hasForm ((70 ∷ []) ∷ gs) ≡ false
@@ -114,8 +118,8 @@ module _ (s : List ℕ) (at : ℕ) (x : getD s at 10 ≡ 70) {v w b : ℕ} (k : 
 -- A query: `Q`, and the fields gs.
 module _ (gs : List (List ℕ)) where
   pub query-form : hasForm ((81 ∷ []) ∷ gs) ≡ isQuery ((81 ∷ []) ∷ gs)
-  unfolding hasForm isFact isRule
-  query-form = refl
+  unfolding hasForm isFact isRule isDefault
+  query-form = or-false (isQuery ((81 ∷ []) ∷ gs))
 
   no-reading : readingAt (letterThen gs) ≡ 2 → hasForm ((81 ∷ []) ∷ gs) ≡ false
   unfolding isQuery
@@ -159,7 +163,7 @@ module _ (s : List ℕ) (at : ℕ) (k₀ : LetterThen s at 81) where
 
       query-line : lineIn ((81 ∷ []) ∷ (r ∷ []) ∷ fieldAt s (at + 4) ∷ []) ≡ query (readingIn (r ∷ [])) v
       unfolding lineIn isFact isRule
-      query-line = rw (l .value)
+      query-line = rw (is-query, l .value)
 
       pub query-codes : v ∷ 6 ∷ readingAt r ∷ 0 ∷ [] ≡ lineCode (query (readingIn (r ∷ [])) v)
       query-codes = sym (reading-known r n .1 v)
@@ -175,10 +179,59 @@ module _ (s : List ℕ) (at : ℕ) (k₀ : LetterThen s at 81) where
             };
           }
 
+-- A D line: `D`, and the fields gs.
+module _ (gs : List (List ℕ)) where
+  pub default-form : hasForm ((68 ∷ []) ∷ gs) ≡ isDefault ((68 ∷ []) ∷ gs)
+  unfolding hasForm isFact isRule isQuery
+  default-form = refl
+
+module _ (s : List ℕ) (at : ℕ) (k : LetterThen s at 68) where
+  pub no-default : (isNumber (fieldAt s (at + 2)) ≡ false) ⊎ (length (fieldsAt (drop (at + 2) s)) ≡ 1) → hasForm (fieldsAt (drop at s)) ≡ false
+  unfolding isDefault
+  no-default h = rw (k .fields, default-form (fieldsAt (drop (at + 2) s))) (go h)
+    where
+      go : (isNumber (fieldAt s (at + 2)) ≡ false) ⊎ (length (fieldsAt (drop (at + 2) s)) ≡ 1) → isDefault ((68 ∷ []) ∷ fieldsAt (drop (at + 2) s)) ≡ false
+      go (inl n) = fails (defaultForm ((68 ∷ []) ∷ fieldsAt (drop (at + 2) s))) 2 n
+      go (inr l) = fails (defaultForm ((68 ∷ []) ∷ fieldsAt (drop (at + 2) s))) 1 (ne-eqb (suc (length (fieldsAt (drop (at + 2) s)))) 3 (λ z. omega arith))
+
+  module _ {v b : ℕ} (c : NumberThen s (at + 2) v b) where
+    condition-fields : fieldsAt (drop at s) ≡ (68 ∷ []) ∷ fieldAt s (at + 2) ∷ fieldsAt (drop b s)
+    condition-fields = k .fields ∙ ap (λ (fs : List (List ℕ)). (68 ∷ []) ∷ fs) (c .fields)
+
+    pub no-unknown : (isLetter 85 (fieldAt s b) ≡ false) ⊎ (2 ≤ length (fieldsAt (drop b s))) → hasForm (fieldsAt (drop at s)) ≡ false
+    unfolding isDefault
+    no-unknown h = rw (condition-fields, default-form (fieldAt s (at + 2) ∷ fieldsAt (drop b s))) (go h)
+      where
+        go : (isLetter 85 (fieldAt s b) ≡ false) ⊎ (2 ≤ length (fieldsAt (drop b s))) → isDefault ((68 ∷ []) ∷ fieldAt s (at + 2) ∷ fieldsAt (drop b s)) ≡ false
+        go (inl n) = fails (defaultForm ((68 ∷ []) ∷ fieldAt s (at + 2) ∷ fieldsAt (drop b s))) 3 n
+        go (inr l) =
+            fails (defaultForm ((68 ∷ []) ∷ fieldAt s (at + 2) ∷ fieldsAt (drop b s))) 1
+            (ne-eqb (suc (suc (length (fieldsAt (drop b s))))) 3 (λ z. omega arith))
+
+    module _ (l : LetterLast s b 85) where
+      default-fields : fieldsAt (drop at s) ≡ (68 ∷ []) ∷ fieldAt s (at + 2) ∷ (85 ∷ []) ∷ []
+      default-fields = condition-fields ∙ ap (λ (fs : List (List ℕ)). (68 ∷ []) ∷ fieldAt s (at + 2) ∷ fs) (l .fields)
+
+      is-default : isDefault ((68 ∷ []) ∷ fieldAt s (at + 2) ∷ (85 ∷ []) ∷ []) ≡ true
+      unfolding isDefault
+      is-default = rw (c .number)
+
+      default-line : lineIn ((68 ∷ []) ∷ fieldAt s (at + 2) ∷ (85 ∷ []) ∷ []) ≡ default v
+      unfolding lineIn isFact isRule isQuery
+      default-line = rw (c .value)
+
+      pub a-default : Says s at (default v) (b + 2)
+      a-default =
+          record {
+            form = ap hasForm default-fields ∙ default-form (fieldAt s (at + 2) ∷ (85 ∷ []) ∷ []) ∙ is-default;
+            is = ap lineIn default-fields ∙ default-line;
+            ends = record { lines = k .lines ∙ c .lines ∙ l .lines; ahead = omega (arith, c .ahead) };
+          }
+
 -- A rule: `R`, and the fields gs.
 module _ (gs : List (List ℕ)) where
   pub rule-form : hasForm ((82 ∷ []) ∷ gs) ≡ isRule ((82 ∷ []) ∷ gs)
-  unfolding hasForm isFact isQuery
+  unfolding hasForm isFact isQuery isDefault
   rule-form = or-false (isRule ((82 ∷ []) ∷ gs))
 
   pub no-rule : every (pairTests gs) ≡ false → hasForm ((82 ∷ []) ∷ gs) ≡ false
@@ -252,14 +305,15 @@ module _ (s : List ℕ) (at : ℕ) (x : getD s at 10 ≡ 82) {v w b : ℕ} (k : 
         }
 
 -- A line that begins with none of the letters.
-no-line : (fs : List (List ℕ)) → (letterThen fs ≡ 70 → ⊥) → (letterThen fs ≡ 82 → ⊥) → (letterThen fs ≡ 81 → ⊥) → hasForm fs ≡ false
-unfolding hasForm isFact isRule isQuery
-no-line fs a b d =
+no-line : (fs : List (List ℕ)) → (letterThen fs ≡ 70 → ⊥) → (letterThen fs ≡ 82 → ⊥) → (letterThen fs ≡ 81 → ⊥) → (letterThen fs ≡ 68 → ⊥) → hasForm fs ≡ false
+unfolding hasForm isFact isRule isQuery isDefault
+no-line fs a b d u =
     let x = letterThen fs in
     rw (
       go-fact (letter-absent (isLetter 70) (λ f. refl) fs (ne-eqb x 70 a)),
       go-rule (letter-absent (isLetter 82) (λ f. refl) fs (ne-eqb x 82 b)),
       go-query (letter-absent (isLetter 81) (λ f. refl) fs (ne-eqb x 81 d)),
+      go-default (letter-absent (isLetter 68) (λ f. refl) fs (ne-eqb x 68 u)),
     )
   where
     go-fact : (isLetter 70 (field fs 0) ≡ false) ⊎ (length fs ≤ 1) → isFact fs ≡ false
@@ -274,12 +328,16 @@ no-line fs a b d =
     go-query (inl n) = fails (queryForm fs) 0 n
     go-query (inr l) = fails (queryForm fs) 1 (ne-eqb (length fs) 3 (λ z. omega arith))
 
-pub gone-line : (fs : List (List ℕ)) → letterThen fs ≡ 0 → hasForm fs ≡ false
-gone-line fs e = no-line fs (λ z. omega arith) (λ z. omega arith) (λ z. omega arith)
+    go-default : (isLetter 68 (field fs 0) ≡ false) ⊎ (length fs ≤ 1) → isDefault fs ≡ false
+    go-default (inl n) = fails (defaultForm fs) 0 n
+    go-default (inr l) = fails (defaultForm fs) 1 (ne-eqb (length fs) 3 (λ z. omega arith))
 
-pub other-line : (s : List ℕ) (at : ℕ) → (getD s at 10 ≡ 70 → ⊥) → (getD s at 10 ≡ 82 → ⊥) → (getD s at 10 ≡ 81 → ⊥) → hasForm (fieldsAt (drop at s)) ≡ false
-other-line s at a b d =
+pub gone-line : (fs : List (List ℕ)) → letterThen fs ≡ 0 → hasForm fs ≡ false
+gone-line fs e = no-line fs (λ z. omega arith) (λ z. omega arith) (λ z. omega arith) (λ z. omega arith)
+
+pub other-line : (s : List ℕ) (at : ℕ) → (getD s at 10 ≡ 70 → ⊥) → (getD s at 10 ≡ 82 → ⊥) → (getD s at 10 ≡ 81 → ⊥) → (getD s at 10 ≡ 68 → ⊥) → hasForm (fieldsAt (drop at s)) ≡ false
+other-line s at a b d u =
     let fs = fieldsAt (drop at s) in
-    ⊎-elim (λ (e : letterThen fs ≡ getD s at 10). no-line fs (λ z. a (sym e ∙ z)) (λ z. b (sym e ∙ z)) (λ z. d (sym e ∙ z)))
+    ⊎-elim (λ (e : letterThen fs ≡ getD s at 10). no-line fs (λ z. a (sym e ∙ z)) (λ z. b (sym e ∙ z)) (λ z. d (sym e ∙ z)) (λ z. u (sym e ∙ z)))
     (λ (e : letterThen fs ≡ 0). gone-line fs e)
     (letter-or s at)

@@ -7,7 +7,7 @@ use Prim.Native.Nat.{ℕ, suc, _<_}
 use lib.Dec.{eqb, ltb, leb}
 use lib.ListN.{length, getD, drop}
 use Rattle.semantics.specs.Grade.{Op}
-use Rattle.semantics.specs.Page.{Literal, conditionOf, Reading, Line, fact, rule, query}
+use Rattle.semantics.specs.Page.{Literal, conditionOf, Reading, Line, fact, rule, query, default}
 use Rattle.semantics.specs.Text.{textLines, isNumber, numberIn, allLiterals, literalIn, hasForm, lineIn}
 use Rattle.fields.specs.Cursor.{InText, fieldsAt, linesAfter}
 use Rattle.lines.specs.declared.Pair.{Pair}
@@ -15,7 +15,7 @@ use Rattle.lines.specs.declared.Pair.the-variants as pair-as
 use Rattle.lines.specs.declared.Literals.{Literals}
 use Rattle.lines.specs.declared.Literals.the-variants as literals-as
 use Rattle.lines.specs.declared.Parsed.{Parsed}
-use Rattle.lines.specs.declared.Parsed.the-variants.{Fact, Rule, Query, Form}
+use Rattle.lines.specs.declared.Parsed.the-variants.{Fact, Rule, Query, Default, Form}
 
 -- the line at a place goes on to the place `next`, where another begins
 pub record Ends (s : List ℕ) (at next : ℕ) : Type 0 where
@@ -95,6 +95,7 @@ abbrev pub ParsedAs : List ℕ → ℕ → ℕ → Parsed → Type 0
 ParsedAs s at n (Fact c l h next) = Says s at (fact c l h) next
 ParsedAs s at n (Rule c w k far next) = RuleSays s at n c w k far next
 ParsedAs s at n (Query c next) = QuerySays s at c next
+ParsedAs s at n (Default c next) = Says s at (default c) next
 ParsedAs s at n Form = hasForm (fieldsAt (drop at s)) ≡ false
 
 -- the kind of a rule with an op letter, or 0 where it is none; the number of a reading letter, or 2

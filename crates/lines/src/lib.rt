@@ -1,5 +1,5 @@
-// The lines after the first: `F,cond,low,high`, `R,cond,weight,op,literal,...`, `Q,reading,cond`, parsed by their form. What is out of
-// range is for the caller to refuse, who has every field at hand.
+// The lines after the first: `F,cond,low,high`, `R,cond,weight,op,literal,...`, `Q,reading,cond`, `D,cond,U`, parsed by their form. What
+// is out of range is for the caller to refuse, who has every field at hand.
 ghost use Prim.Native.Nat.{ℕ};
 ghost use mathlib.Core.Path.{_≡_};
 ghost use lib.ListN.{getD};
@@ -26,6 +26,10 @@ pub enum Parsed {
         next: usize,
     },
     Query {
+        condition: u16,
+        next: usize,
+    },
+    Default {
         condition: u16,
         next: usize,
     },
@@ -199,6 +203,29 @@ fn parse_query(bytes: &[u8], at: usize) -> Parsed
     Parsed::Query { condition, next }
 }
 
+// The line at a place that begins with `D`.
+fn parse_default(bytes: &[u8], at: usize) -> Parsed
+    requires { ⌜ InText (now bytes) at × (getD (now bytes) at 10 ≡ 68) ⌝ }
+    ensures { λ r. ⌜ ((n : ℕ) → ParsedAs (now (bytes .entry)) at n r) ⌝ }
+{
+    if bytes[at + 1] != b',' {
+        return Parsed::Form;
+    }
+    let Field::Number(condition, a) = number_before(bytes, at + 2, b',') else {
+        return Parsed::Form;
+    };
+    if bytes[a] != b'U' {
+        return Parsed::Form;
+    }
+    if bytes[a + 1] != b'\n' {
+        return Parsed::Form;
+    }
+    Parsed::Default {
+        condition,
+        next: a + 2,
+    }
+}
+
 // The line at a place, of a page with so many conditions.
 pub fn parse_line(bytes: &[u8], at: usize, conditions: u16) -> Parsed
     requires { ⌜ InText (now bytes) at ⌝ }
@@ -209,6 +236,7 @@ pub fn parse_line(bytes: &[u8], at: usize, conditions: u16) -> Parsed
         b'F' => parse_fact(bytes, at),
         b'R' => parse_rule(bytes, at, conditions),
         b'Q' => parse_query(bytes, at),
+        b'D' => parse_default(bytes, at),
         _ => Parsed::Form,
     }
 }

@@ -7,7 +7,7 @@ use native.Mathlib.Omega.{arith}
 use lib.Dec.{eqb, leb}
 use lib.ListN.{length, getD, take, drop}
 use borrow.Author.Tests.{leb-true, not-true, not-false}
-use Rattle.semantics.specs.Area.{kind, every, allUnder, fieldTests, lineTests, linesOk}
+use Rattle.semantics.specs.Area.{kind, every, allUnder, fieldTests, lineTests, linesOk, firstLine}
 use Rattle.semantics.proofs.Soundness.{both-true}
 use Rattle.page.specs.Lines.{stepAt}
 use Rattle.page.specs.Checks.{headOk, ruleOk}
@@ -24,7 +24,7 @@ module _ {r b : Bool} (e : r ≡ b) where
 module _ (a : List ℕ) (used count top n : ℕ) where
   -- what the scan is to answer
   abbrev answer : Bool
-  answer = linesOk top n count (used - 4) (drop 4 a)
+  answer = linesOk top n count (used - firstLine a) (drop (firstLine a) a)
 
   -- it stands at `at`, behind k entries that passed
   pub record Checking (at k : ℕ) : Type 0 where
@@ -34,7 +34,7 @@ module _ (a : List ℕ) (used count top n : ℕ) where
     pub few : n ≤ 512
     pub is : answer ≡ linesOk top n (count - k) (used - at) (drop at a)
 
-  pub checking-first : used ≤ length a → 4 ≤ used → n ≤ 512 → {at k : ℕ} → (at ≡ 4) × (k ≡ 0) → Checking at k
+  pub checking-first : used ≤ length a → firstLine a ≤ used → n ≤ 512 → {at k : ℕ} → (at ≡ firstLine a) × (k ≡ 0) → Checking at k
   checking-first l f h {at} {k} e =
       let z : count - k ≡ count = omega arith in
       record { in-count = omega arith; in-used = omega arith; in-area = l; few = h; is = rw (z, e .0) }

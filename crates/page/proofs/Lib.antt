@@ -11,3 +11,5 @@ pub mod Naming
 pub mod Entries
 -- the lines by number
 pub mod LineNumbers
+-- the D lines and the D numbers
+pub mod Defaults

@@ -11,9 +11,9 @@ use lib.Dec.{eqb}
 use lib.ListN.{getD, take, drop}
 use borrow.Author.Tests.{eqb-true, eq-eqb}
 use Rattle.fixpoint.specs.Interval.{Interval, Assign}
-use Rattle.semantics.specs.Area.{Kind, factKind, ruleKind, queryKind, noKind, kind, lineAs, lineAt, literalOf, sound, topOf, conditionsOf, countOf, usedOf}
+use Rattle.semantics.specs.Area.{Kind, factKind, ruleKind, queryKind, defaultKind, noKind, kind, lineAs, lineAt, literalOf, sound, topOf, conditionsOf, countOf, usedOf}
 use Rattle.semantics.specs.Body.{ruleValue, onlyIf, lineBody}
-use Rattle.semantics.specs.Page.{Line, fact, rule, query}
+use Rattle.semantics.specs.Page.{Line, fact, rule, query, default}
 use Rattle.page.specs.Graded.{RuleAt, SoundEntry}
 use Rattle.page.proofs.Scan.{line-at, entry-four, fact-kind, rule-kind, over-five}
 use Rattle.page.proofs.Scanning.{Scanning, linesLeft, scanning-first, scanning-next, entry-ok, lines-on}
@@ -58,6 +58,7 @@ module _ (top : ℕ) (I : Assign) (c : ℕ) where
   shape (fact d l h) = only-shape (eqb d c) _
   shape (rule d w op lits) = only-shape (eqb d c) _
   shape (query r d) = inl refl
+  shape (default d) = inl refl
 
   only-true : (t : Bool) (p : Interval) {q : Interval} → onlyIf t p ≡ q ∷ [] → t ≡ true
   only-true true p e = refl
@@ -65,15 +66,16 @@ module _ (top : ℕ) (I : Assign) (c : ℕ) where
 
   -- the kind of an F or R line
   abbrev Bodily : Kind → Type 0
-  Bodily t = (t ≡ queryKind) ⊎ (t ≡ noKind) → ⊥
+  Bodily t = (t ≡ queryKind) ⊎ ((t ≡ defaultKind) ⊎ (t ≡ noKind)) → ⊥
 
-  apart : (t : Kind) → (t ≡ queryKind → _≡_ {A = ℕ} 0 1) → (t ≡ noKind → _≡_ {A = ℕ} 0 1) → Bodily t
-  apart t f g h = ⊎-elim (λ q. let z = f q in omega arith) (λ q. let z = g q in omega arith) h
+  apart : (t : Kind) → (t ≡ queryKind → _≡_ {A = ℕ} 0 1) → (t ≡ defaultKind → _≡_ {A = ℕ} 0 1) → (t ≡ noKind → _≡_ {A = ℕ} 0 1) → Bodily t
+  apart t f d g h = ⊎-elim (λ q. let z = f q in omega arith) (⊎-elim (λ q. let z = d q in omega arith) (λ q. let z = g q in omega arith)) h
 
   adds-head : (t : Kind) (d x y : ℕ) (lits : List ℕ) {p : Interval} → lineBody top I c (lineAs t d x y lits) ≡ p ∷ [] → (d ≡ c) × Bodily t
-  adds-head factKind d x y lits e = (eqb-true d c (only-true (eqb d c) _ e), apart factKind (λ q. cc) (λ q. cc))
-  adds-head (ruleKind op) d x y lits e = (eqb-true d c (only-true (eqb d c) _ e), apart (ruleKind op) (λ q. cc) (λ q. cc))
+  adds-head factKind d x y lits e = (eqb-true d c (only-true (eqb d c) _ e), apart factKind (λ q. cc) (λ q. cc) (λ q. cc))
+  adds-head (ruleKind op) d x y lits e = (eqb-true d c (only-true (eqb d c) _ e), apart (ruleKind op) (λ q. cc) (λ q. cc) (λ q. cc))
   adds-head queryKind d x y lits e = let z : _≡_ {A = ℕ} 0 1 = cc in absurd (omega arith)
+  adds-head defaultKind d x y lits e = let z : _≡_ {A = ℕ} 0 1 = cc in absurd (omega arith)
   adds-head noKind d x y lits e = let z : _≡_ {A = ℕ} 0 1 = cc in absurd (omega arith)
 
   pub line-of : (a : List ℕ) (k : ℕ) → k < countOf a → {p : Interval} → lineBody top I c (lineAt (drop (placeOf a k) a)) ≡ p ∷ [] → LineOf a c (placeOf a k)
@@ -90,3 +92,14 @@ module _ (top : ℕ) (I : Assign) (c : ℕ) where
           | no z ↦ absurd (h .1 (over-five (getD a (at + 1) 0) (omega arith)))
         ];
       }
+
+  -- and an F or R line of c adds one
+  pub adds-one : (a : List ℕ) {at : ℕ} → LineOf a c at → (p : Interval) × (lineBody top I c (lineAt (drop at a)) ≡ p ∷ [])
+  adds-one a {at} s =
+      elim (decLe 1 (getD a (at + 1) 0)) [
+        | yes z ↦ let o = rule-kind (getD a (at + 1) 0) z (s .body) in (
+          ruleValue top I (getD a (at + 2) 0) (o .0) (map literalOf (take (getD a (at + 3) 0) (drop (at + 4) a))),
+          rw (line-at a at, o .1, eq-eqb (getD a at 0) c (s .head)),
+        )
+        | no z ↦ (record { low = getD a (at + 2) 0; high = getD a (at + 3) 0 }, rw (line-at a at, fact-kind (getD a (at + 1) 0) (omega arith), eq-eqb (getD a at 0) c (s .head)))
+      ]

@@ -8,7 +8,7 @@ use native.Mathlib.Omega.{arith}
 use lib.Dec.{eqb, ltb}
 use lib.ListN.{getD, take, drop}
 use borrow.Author.Tests.{eq-eqb, ne-eqb, lt-ltb, le-ltb}
-use Rattle.semantics.specs.Area.{Kind, factKind, ruleKind, queryKind, noKind, kind, literalOf, lineAs, lineAt, pageOf, sound, countOf}
+use Rattle.semantics.specs.Area.{Kind, factKind, ruleKind, queryKind, defaultKind, noKind, kind, literalOf, lineAs, lineAt, pageOf, sound, countOf}
 use Rattle.semantics.specs.Page.{positive, negative, conditionOf, Line, mentions, linesName, names}
 use Rattle.page.specs.Lines.{Next, lineNames}
 use Rattle.page.proofs.Scan.{part-cons, Remaining, remaining-next, rule-kind, fact-kind, over-five, line-at}
@@ -52,7 +52,7 @@ module _ (a : List ℕ) (at c : ℕ) where
   line-fact h = rw (line-at a at, fact-kind (getD a (at + 1) 0) (omega arith))
 
   pub line-over : 5 < getD a (at + 1) 0 → lineNames (lineAt (drop at a)) c ≡ false
-  line-over h = rw (line-at a at) (⊎-elim (λ e. rw e) (λ e. rw e) (over-five (getD a (at + 1) 0) h))
+  line-over h = rw (line-at a at) (⊎-elim (λ e. rw e) (⊎-elim (λ e. rw e) (λ e. rw e)) (over-five (getD a (at + 1) 0) h))
 
 -- lines that begin with the one at a place: it is of the head and names c, or those behind it decide
 pub lines-name : (a : List ℕ) (at head c : ℕ) (ls : List Line)
@@ -64,4 +64,5 @@ lines-name a at head c ls = rw (line-at a at) (go (kind (getD a (at + 1) 0)) (ge
     go factKind d x y lits = rw (and-false (eqb d head))
     go (ruleKind op) d x y lits = refl
     go queryKind d x y lits = rw (and-false (eqb d head))
+    go defaultKind d x y lits = rw (and-false (eqb d head))
     go noKind d x y lits = rw (and-false (eqb d head))

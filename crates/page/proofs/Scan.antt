@@ -12,9 +12,9 @@ use lib.Dec.{eqb, leb, ltb}
 use lib.ListN.{length, getD, take, drop, List·getD-eq-default}
 use lib.Seq.{getD-drop, drop-drop, drop-cons}
 use borrow.Author.Tests.{le-leb, lt-leb, lt-ltb, le-ltb, eq-eqb, ne-eqb, leb-true, leb-false, ltb-true, ltb-false, eqb-true, eqb-false}
-use Rattle.semantics.specs.Area.{Kind, factKind, ruleKind, queryKind, noKind, kind, spanAs, span, lineAs, lineAt, every, allUnder, fieldTests, lineTests, linesOk, headTests, sound, topOf, conditionsOf, countOf, usedOf}
+use Rattle.semantics.specs.Area.{Kind, factKind, ruleKind, queryKind, defaultKind, noKind, kind, spanAs, span, lineAs, lineAt, every, allUnder, fieldTests, lineTests, linesOk, headTests, defaultsOk, sound, firstLine, topOf, conditionsOf, countOf, usedOf}
 use Rattle.semantics.specs.Grade.{Op, M, X, L, B, P}
-use Rattle.semantics.proofs.Soundness.{every-true, both-true}
+use Rattle.semantics.proofs.Soundness.{every-true, both-true, sound-parts}
 use Rattle.page.specs.Lines.{stepAt, EntryIn}
 use Rattle.page.specs.Checks.{headOk, ruleTests, ruleOk}
 
@@ -67,7 +67,7 @@ module _ (a : List ℕ) (from m limit : ℕ) {j : ℕ} (s : Remaining (allUnder 
   pub under-last : m ≤ j → allUnder limit (take m (drop from a)) ≡ true
   under-last h = s .is ∙ under-none (drop (from + j) a) limit (m - j) (omega arith)
 
--- the kinds: 0 a fact, 1 to 5 a rule, 6 a query, no other
+-- the kinds: 0 a fact, 1 to 5 a rule, 6 a query, 7 a D line, no other
 pub rule-kind : (k : ℕ) → 1 ≤ k → k ≤ 5 → (op : Op) × (kind k ≡ ruleKind op)
 unfolding kind
 rule-kind zero l h = absurd (omega arith)
@@ -86,15 +86,19 @@ pub query-kind : (k : ℕ) → k ≡ 6 → kind k ≡ queryKind
 unfolding kind
 query-kind k e = rw e
 
-pub other-kind : (k : ℕ) → 6 < k → kind k ≡ noKind
+pub default-kind : (k : ℕ) → k ≡ 7 → kind k ≡ defaultKind
 unfolding kind
-other-kind k l = List·getD-eq-default (factKind ∷ ruleKind M ∷ ruleKind X ∷ ruleKind L ∷ ruleKind B ∷ ruleKind P ∷ queryKind ∷ []) noKind l
+default-kind k e = rw e
 
-pub over-five : (k : ℕ) → 5 < k → (kind k ≡ queryKind) ⊎ (kind k ≡ noKind)
+pub other-kind : (k : ℕ) → 7 < k → kind k ≡ noKind
+unfolding kind
+other-kind k l = List·getD-eq-default (factKind ∷ ruleKind M ∷ ruleKind X ∷ ruleKind L ∷ ruleKind B ∷ ruleKind P ∷ queryKind ∷ defaultKind ∷ []) noKind l
+
+pub over-five : (k : ℕ) → 5 < k → (kind k ≡ queryKind) ⊎ ((kind k ≡ defaultKind) ⊎ (kind k ≡ noKind))
 over-five k l =
     elim (ℕ-discrete k 6) [
       | yes e ↦ inl (query-kind k e)
-      | no e ↦ inr (other-kind k (omega arith))
+      | no e ↦ inr (elim (ℕ-discrete k 7) [ yes f ↦ inl (default-kind k f) | no f ↦ inr (other-kind k (omega arith)) ])
     ]
 
 -- how many numbers an entry takes, by its kind
@@ -105,12 +109,13 @@ pub span-none : (k y : ℕ) → k < 1 → spanAs (kind k) y ≡ 4
 span-none k y l = rw (fact-kind k (omega arith))
 
 pub span-over : (k y : ℕ) → 5 < k → spanAs (kind k) y ≡ 4
-span-over k y l = ⊎-elim (λ e. rw e) (λ e. rw e) (over-five k l)
+span-over k y l = ⊎-elim (λ e. rw e) (⊎-elim (λ e. rw e) (λ e. rw e)) (over-five k l)
 
 pub span-four : (t : Kind) (y : ℕ) → 4 ≤ spanAs t y
 span-four factKind y = omega arith
 span-four (ruleKind op) y = omega arith
 span-four queryKind y = omega arith
+span-four defaultKind y = omega arith
 span-four noKind y = omega arith
 
 -- a list of tests fails where one of them fails
@@ -161,7 +166,16 @@ module _ (top n k x y : ℕ) (lits : List ℕ) where
   pub query-decides : k ≡ 6 → x ≤ 1 → eqb y 0 ≡ every (fieldTests top n (kind k) x y lits)
   query-decides e l = sym (fields-query e ∙ rw (le-leb x 1 l, and-true (eqb y 0)))
 
-  pub fields-none : 6 < k → every (fieldTests top n (kind k) x y lits) ≡ false
+  pub fields-default : k ≡ 7 → every (fieldTests top n (kind k) x y lits) ≡ (eqb x 0 && (eqb y 0 && true))
+  fields-default e = rw (default-kind k e)
+
+  pub default-fails : k ≡ 7 → 0 < x → every (fieldTests top n (kind k) x y lits) ≡ false
+  default-fails e l = fields-default e ∙ rw (ne-eqb x 0 (λ z. omega arith))
+
+  pub default-decides : k ≡ 7 → x ≤ 0 → eqb y 0 ≡ every (fieldTests top n (kind k) x y lits)
+  default-decides e l = sym (fields-default e ∙ rw (eq-eqb x 0 (omega arith), and-true (eqb y 0)))
+
+  pub fields-none : 7 < k → every (fieldTests top n (kind k) x y lits) ≡ false
   fields-none l = rw (other-kind k l)
 
 -- the line at a place
@@ -294,27 +308,24 @@ pub lines-last : (top n m : ℕ) (a : List ℕ) (at used : ℕ) → at ≤ used 
 unfolding linesOk
 lines-last top n m a at used l e = rw e (eqb-go (used - at) 0 at used (λ q. omega arith) (λ q. omega arith) (eqb (used - at) 0) refl)
 
--- the head's tests, and then the lines
+-- the head's tests, then the lines, then the D numbers
 module _ (a : List ℕ) where
   abbrev lines-sound : Bool
-  lines-sound = linesOk (topOf a) (conditionsOf a) (countOf a) (usedOf a - 4) (drop 4 a)
-
-  pub head-fails : every (headTests a) ≡ false → sound a ≡ false
-  unfolding sound
-  head-fails e = ap (λ (t : Bool). t && lines-sound) e
+  lines-sound = linesOk (topOf a) (conditionsOf a) (countOf a) (usedOf a - firstLine a) (drop (firstLine a) a)
 
   pub head-fails-at : (i : ℕ) → getD (headTests a) i true ≡ false → sound a ≡ false
-  head-fails-at i e = head-fails (every-fails (headTests a) i e)
-
-  pub head-passes : every (headTests a) ≡ true → sound a ≡ linesOk (topOf a) (conditionsOf a) (countOf a) (usedOf a - 4) (drop 4 a)
   unfolding sound
-  head-passes e = ap (λ (t : Bool). t && lines-sound) e
+  head-fails-at i e = rw (every-fails (headTests a) i e)
 
-  pub lines-decide : {r : Bool} → every (headTests a) ≡ true → r ≡ linesOk (topOf a) (conditionsOf a) (countOf a) (usedOf a - 4) (drop 4 a) → r ≡ sound a
-  lines-decide h e = e ∙ sym (head-passes h)
+  pub lines-fail : every (headTests a) ≡ true → lines-sound ≡ false → sound a ≡ false
+  unfolding sound
+  lines-fail h e = rw (h, e)
+
+  pub defaults-decide : {r : Bool} → every (headTests a) ≡ true → lines-sound ≡ true → r ≡ defaultsOk a → r ≡ sound a
+  unfolding sound
+  defaults-decide h l e = rw (h, l) (e ∙ sym (and-true (defaultsOk a)))
 
   pub sound-head : sound a ≡ true → (4 ≤ length a) × (usedOf a ≤ length a) × (countOf a ≤ 1024)
-  unfolding sound
   sound-head e =
-      let h = every-true (headTests a) (both-true (every (headTests a)) lines-sound e .0) in
+      let h = sound-parts a e .head in
       (leb-true 4 (length a) (h .0), leb-true (usedOf a) (length a) (h .1 .1 .0), leb-true (countOf a) 1024 (h .1 .1 .1 .1 .1 .1 .1 .0))

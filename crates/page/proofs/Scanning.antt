@@ -9,8 +9,8 @@ use lib.ListN.{length, getD, drop}
 use lib.Seq.{drop-drop}
 use borrow.Author.Tests.{leb-true}
 use Rattle.semantics.specs.Page.{Line}
-use Rattle.semantics.specs.Area.{kind, spanAs, span, lineAt, linesOf, pageOf, every, lineTests, linesOk, headTests, sound, topOf, conditionsOf, countOf, usedOf}
-use Rattle.semantics.proofs.Soundness.{both-true, every-true}
+use Rattle.semantics.specs.Area.{kind, spanAs, span, lineAt, linesOf, pageOf, every, lineTests, linesOk, headTests, sound, firstLine, topOf, conditionsOf, countOf, usedOf}
+use Rattle.semantics.proofs.Soundness.{both-true, sound-parts}
 use Rattle.page.specs.Graded.{SoundEntry}
 use Rattle.page.specs.Lines.{EntryIn, Next}
 use Rattle.page.proofs.Scan.{span-at, entry-fits, entry-four, entry-in, lines-behind, at-suc}
@@ -27,20 +27,16 @@ module _ (a : List ℕ) where
     pub in-area : usedOf a ≤ length a
     pub entries : linesOk (topOf a) (conditionsOf a) (countOf a - k) (usedOf a - at) (drop at a) ≡ true
 
-  pub scanning-first : sound a ≡ true → Scanning 4 0
-  unfolding sound
-  scanning-first e =
-      let b = both-true (every (headTests a)) (linesOk (topOf a) (conditionsOf a) (countOf a) (usedOf a - 4) (drop 4 a)) e in
-      let h = every-true (headTests a) (b .0) in
+  pub scanning-begun : firstLine a ≤ usedOf a → usedOf a ≤ length a
+      → linesOk (topOf a) (conditionsOf a) (countOf a) (usedOf a - firstLine a) (drop (firstLine a) a) ≡ true → Scanning (firstLine a) 0
+  scanning-begun f u e =
       let z : countOf a - 0 ≡ countOf a = omega arith in
-      record {
-        in-count = omega arith;
-        in-used = omega (arith, leb-true);
-        in-area = omega (arith, leb-true);
-        entries = rw z (b .1);
-      }
+      record { in-count = omega arith; in-used = f; in-area = u; entries = rw z e }
 
-  pub lines-first : linesLeft 4 0 ≡ pageOf a .lines
+  pub scanning-first : sound a ≡ true → Scanning (firstLine a) 0
+  scanning-first e = let s = sound-parts a e in scanning-begun (leb-true (firstLine a) (usedOf a) (s .head .1 .0)) (leb-true (usedOf a) (length a) (s .head .1 .1 .0)) (s .lines)
+
+  pub lines-first : linesLeft (firstLine a) 0 ≡ pageOf a .lines
   unfolding pageOf
   lines-first = let z : countOf a - 0 ≡ countOf a = omega arith in rw z
 

@@ -5,7 +5,7 @@ use mathlib.Core.List.{List}
 use Prim.Native.Nat.{ℕ, _+_, _≤_}
 use lib.ListN.{length, getD}
 use Rattle.semantics.specs.Area.{kind, spanAs}
-use Rattle.semantics.specs.Page.{Line, fact, rule, query, mentions}
+use Rattle.semantics.specs.Page.{Line, fact, rule, query, default, mentions}
 
 -- how many numbers the entry at a place takes
 abbrev pub stepAt : List ℕ → ℕ → ℕ
@@ -26,3 +26,4 @@ abbrev pub lineNames : Line → ℕ → Bool
 lineNames (fact d l h) c = false
 lineNames (rule d w op lits) c = mentions lits c
 lineNames (query r d) c = false
+lineNames (default d) c = false

@@ -1,12 +1,16 @@
 // Code on raw page areas (document 01, "Areas"): a cursor over the lines, soundness, and which condition an R line names.
 ghost use mathlib.Core.Path.{_≡_};
+ghost use mathlib.Core.Bool.{true, false};
 ghost use mathlib.Core.List.{List, map};
 ghost use Prim.Native.Nat.{ℕ, _≤_, _<_, _+_, _-_};
-ghost use lib.ListN.{length, take, drop};
+ghost use lib.ListN.{length, getD, take, drop};
 ghost use Rattle.semantics.specs.Page.{mentions};
-ghost use Rattle.semantics.specs.Area.{sound, linesOk, fieldTests, every, kind, spanAs, firstLine, literalOf, lineAt};
+ghost use Rattle.semantics.specs.Body.{unknownByDefault};
+ghost use Rattle.semantics.specs.Table.{allBelow};
+ghost use Rattle.bits.specs.Words.{has};
+ghost use Rattle.semantics.specs.Area.{sound, pageOf, conditionsOf, defaultsOk, linesOk, fieldTests, every, kind, spanAs, firstLine, literalOf, lineAt};
 ghost use Rattle.page.specs.Lines.{EntryIn, Next, lineNames};
-ghost use Rattle.page.specs.Checks.{ruleTests, headOk, ruleOk};
+ghost use Rattle.page.specs.Checks.{ruleTests, headOk, ruleOk, Lined, CollectedAt, Collected, numberTells};
 
 // How many numbers an entry of the kind k takes, with y as its fourth.
 pub fn span_of(k: u16, y: u16) -> usize
@@ -27,9 +31,13 @@ pub struct Cursor {
 impl Cursor {
     // Before the first line.
     pub fn first(a: &[u16]) -> Self
+        requires { ⌜ 4 ≤ length (now a) ⌝ }
         ensures { λ r. ⌜ (r .at ≡ firstLine (now (a .entry))) × (r .passed ≡ 0) ⌝ }
     {
-        Cursor { at: 4, passed: 0 }
+        Cursor {
+            at: 4 + a[1] as usize,
+            passed: 0,
+        }
     }
 
     // Behind the entry that begins here, with one line more passed.
@@ -61,7 +69,7 @@ fn rule_ok(x: u16, y: u16, top: u16) -> bool
     y <= 8
 }
 
-// Whether the fields of an entry without literals are in range: 0 is a fact, 6 a query, and no other is a kind.
+// Whether the fields of an entry without literals are in range: 0 is a fact, 6 a query, 7 a D line, and no other is a kind.
 fn short_ok(k: u16, x: u16, y: u16, top: u16) -> bool
     requires { ⌜ (1 ≤ k → 6 ≤ k) ⌝ }
     ensures { λ r. ⌜ ((n : ℕ) (codes : List ℕ) → r ≡ every (fieldTests top n (kind k) x y codes)) ⌝ }
@@ -75,6 +83,12 @@ fn short_ok(k: u16, x: u16, y: u16, top: u16) -> bool
         }
         6 => {
             if 1 < x {
+                return false;
+            }
+            y == 0
+        }
+        7 => {
+            if 0 < x {
                 return false;
             }
             y == 0
@@ -152,6 +166,78 @@ fn lines_ok(a: &[u16], used: usize, count: u16, top: u16, n: u16) -> bool
     line.at == used
 }
 
+// If the entry at `at` is a D line, puts its condition into the set; whether it was not there.
+fn collect_default(a: &[u16], at: usize, seen: &mut [u64]) -> bool
+    requires { ⌜ (at + 4 ≤ length (now a)) × (getD (now a) at 0 < 512) × (length (now seen) ≡ 8) ⌝ }
+    ensures { λ r. ⌜ CollectedAt (now (a .entry)) at (now (seen .entry)) (now (seen .exit)) r ⌝ }
+{
+    if a[at + 1] != 7 {
+        return true;
+    }
+    if bits::contains(seen, a[at]) {
+        return false;
+    }
+    bits::insert(seen, a[at]);
+    true
+}
+
+// Puts the conditions of the D lines into the set; whether no condition has two.
+fn collect_defaults(a: &[u16], seen: &mut [u64]) -> bool
+    requires { ⌜ Lined (now a) × (length (now seen) ≡ 8) × ((c : ℕ) → c < 512 → has (now seen) c ≡ false) ⌝ }
+    ensures { λ r. ⌜ Collected (now (a .entry)) (now (seen .exit)) r ⌝ }
+{
+    let count = a[2];
+    let mut line = Cursor::first(a);
+    while line.passed < count {
+        let at = line.at;
+        if !collect_default(a, at, seen) {
+            return false;
+        }
+        line = line.next(a);
+    }
+    true
+}
+
+// Whether the D number of c is 1 if c is in the set, and 0 if not.
+fn number_tells(a: &[u16], seen: &[u64], c: u16) -> bool
+    requires { ⌜ (firstLine (now a) ≤ length (now a)) × (c < conditionsOf (now a)) × (c < 512) × (length (now seen) ≡ 8) ⌝ }
+    ensures { λ r. ⌜ r ≡ numberTells (now (a .entry)) (now (seen .entry)) c ⌝ }
+{
+    let number = a[4 + c as usize];
+    if bits::contains(seen, c) {
+        return number == 1;
+    }
+    number == 0
+}
+
+// Whether each D number is 1 where its condition is in the set, and 0 elsewhere.
+fn numbers_tell(a: &[u16], seen: &[u64]) -> bool
+    requires { ⌜ Lined (now a) × (length (now seen) ≡ 8) ⌝ }
+    ensures { λ r. ⌜ r ≡ allBelow (conditionsOf (now (a .entry))) (numberTells (now (a .entry)) (now (seen .entry))) ⌝ }
+{
+    let n = a[1];
+    let mut c: u16 = 0;
+    while c < n {
+        if !number_tells(a, seen, c) {
+            return false;
+        }
+        c += 1;
+    }
+    true
+}
+
+// Whether the D numbers tell the D lines: 1 with exactly one, 0 with none.
+fn defaults_ok(a: &[u16]) -> bool
+    requires { ⌜ Lined (now a) ⌝ }
+    ensures { λ r. ⌜ r ≡ defaultsOk (now (a .entry)) ⌝ }
+{
+    let mut seen = [0u64; 8];
+    if !collect_defaults(a, &mut seen) {
+        return false;
+    }
+    numbers_tell(a, &seen)
+}
+
 // Whether a page area is sound. The answer is yes or no for every slice, whatever its length and content.
 pub fn page_sound(a: &[u16]) -> bool
     ensures { λ r. ⌜ r ≡ sound (now (a .entry)) ⌝ }
@@ -160,7 +246,7 @@ pub fn page_sound(a: &[u16]) -> bool
         return false;
     }
     let used = a[3] as usize;
-    if used < 4 {
+    if used < 4 + a[1] as usize {
         return false;
     }
     if a.len() < used {
@@ -181,7 +267,18 @@ pub fn page_sound(a: &[u16]) -> bool
     if 1024 < a[2] {
         return false;
     }
-    lines_ok(a, used, a[2], a[0], a[1])
+    if !lines_ok(a, used, a[2], a[0], a[1]) {
+        return false;
+    }
+    defaults_ok(a)
+}
+
+// Whether c is unknown by default.
+pub fn unknown_by_default(a: &[u16], c: u16) -> bool
+    requires { ⌜ (sound (now a) ≡ true) × (c < conditionsOf (now a)) ⌝ }
+    ensures { λ r. ⌜ r ≡ unknownByDefault (pageOf (now (a .entry))) c ⌝ }
+{
+    a[4 + c as usize] == 1
 }
 
 // Whether c is among the m literals from `from` on, plain or negated.

@@ -1,13 +1,13 @@
 -- The entries that the second pass writes, one after the other. Assumes nothing.
 use mathlib.Core.Path.{_≡_, refl, sym, _∙_, ap}
 use mathlib.Core.Bool.{true}
-use mathlib.Core.List.{List, [], _++_}
+use mathlib.Core.List.{List, [], _∷_, _++_}
 use Prim.Native.Nat.{ℕ, suc, _+_, _≤_, _<_}
 use native.Mathlib.Omega.{arith}
 use lib.ListN.{length, getD, drop, drop-of-length-le, length-append}
 use lib.Seq.{sets, length-sets}
 use Rattle.semantics.specs.Area.{lineCode, lineCodes}
-use Rattle.semantics.specs.Text.{textLines, hasForm, lineIn, linesIn}
+use Rattle.semantics.specs.Text.{textLines, fieldsOf, hasForm, lineIn, linesIn}
 use Rattle.semantics.specs.ReadPage.{badLine}
 use Rattle.semantics.proofs.ReadLines.{GoodLine, good-line}
 use Rattle.fields.specs.Cursor.{fieldsAt, linesAfter}
@@ -33,11 +33,11 @@ module _ (s : List ℕ) (from : ℕ) (area₀ : List ℕ) (start : ℕ) {area : 
 
   module _ (h : i < length s) where
     -- the line is good, and those behind it
-    good-here : GoodLine (w .fits .top) (w .fits .n) (w .fits .k) (getD (textLines (drop i s)) 0 []) (linesAfter (drop i s))
+    good-here : GoodLine (w .fits .top) (w .fits .n) (w .fits .k) (w .fits .before) (getD (textLines (drop i s)) 0 []) (linesAfter (drop i s))
     good-here =
         let f = w .fits in
-        good-line (f .top) (f .n) (f .k) (getD (textLines (drop i s)) 0 []) (linesAfter (drop i s))
-        (ap (badLine (f .top) (f .n) (f .k)) (sym (line-here s i h)) ∙ f .good)
+        good-line (f .top) (f .n) (f .k) (f .before) (getD (textLines (drop i s)) 0 []) (linesAfter (drop i s))
+        (ap (badLine (f .top) (f .n) (f .k) (f .before)) (sym (line-here s i h)) ∙ f .good)
 
     form-here : hasForm (fieldsAt (drop i s)) ≡ true
     unfolding fieldsAt
@@ -65,7 +65,8 @@ module _ (s : List ℕ) (from : ℕ) (area₀ : List ℕ) (start : ℕ) {area : 
             top = w .fits .top;
             n = w .fits .n;
             k = suc (w .fits .k);
-            good = ap (badLine (w .fits .top) (w .fits .n) (suc (w .fits .k))) (sym (y .ends .lines)) ∙ good-here .others;
+            before = lineIn (fieldsOf (getD (textLines (drop i s)) 0 [])) ∷ w .fits .before;
+            good = ap (badLine (w .fits .top) (w .fits .n) (suc (w .fits .k)) (lineIn (fieldsOf (getD (textLines (drop i s)) 0 [])) ∷ w .fits .before)) (sym (y .ends .lines)) ∙ good-here .others;
             text = w .fits .text;
             room = omega (arith, w .fits .room, size, ap length on, length-append c (entriesOf s next), y .entry .size);
           };

@@ -3,22 +3,22 @@ use mathlib.Core.Path.{_≡_, refl, sym, _∙_, ap}
 use mathlib.Core.Bool.{Bool, true, false, false≢true}
 use mathlib.Core.List.{List, [], _∷_, map, map-map}
 use mathlib.Core.Logic.{_⊎_, inl, inr}
-use Prim.Native.Nat.{ℕ, _+_, _≤_}
+use Prim.Native.Nat.{ℕ, _+_, _≤_, _<_}
 use native.Mathlib.Omega.{arith}
 use native.Mathlib.Decide.{ℕ-discrete}
 use lib.Dec.{leb}
 use lib.ListN.{length, getD, drop, length-map}
 use Rattle.semantics.specs.Area.{codeOf, lineCode}
-use Rattle.semantics.specs.Page.{Line, fact, rule, query}
+use Rattle.semantics.specs.Page.{Line, fact, rule, query, default}
 use Rattle.semantics.specs.Text.{isNumber, opIn, readingIn, literalIn, allLiterals, hasForm}
 use Rattle.semantics.proofs.Soundness.{both-true}
 use Rattle.fields.specs.Cursor.{InText, fieldsAt, fieldAt, letterThen, NumberTo}
 use Rattle.fields.proofs.Fields.{some-field}
-use Rattle.fields.proofs.Letters.{Plain, plain, LetterThen, letter-here, letter-gone}
+use Rattle.fields.proofs.Letters.{Plain, plain, LetterThen, letter-here, letter-next, letter-gone, letter-last, no-letter-last}
 use Rattle.fields.proofs.Tokens.{NumberThen, NumberLast, number-more, number-only}
 use Rattle.lines.specs.Lines.{Ends, Says, PairLetter, PairThen, areLiterals, kindAt, readingAt}
 use Rattle.lines.proofs.LetterCodes.{op-known, kind-plain, zero-kind, none-kind, reading-plain, zero-reading, none-reading}
-use Rattle.lines.proofs.Forms.{gone-line, other-line, form-size, no-high, a-fact, no-op, literals-form, a-rule, no-reading-letter, query-place, no-query, query-codes, a-query}
+use Rattle.lines.proofs.Forms.{gone-line, other-line, form-size, no-high, a-fact, no-op, literals-form, a-rule, no-reading-letter, query-place, no-query, query-codes, a-query, no-default, no-unknown, a-default}
 use Rattle.lines.proofs.Pairs.{pair-plain, no-first, no-second, pair-then}
 use Rattle.reader.specs.Entries.{Formed, LineFits, Put, LinePut, codeIn}
 
@@ -109,13 +109,13 @@ module _ (s : List ℕ) (at : ℕ) (w : Formed s at) where
     pub rule-codes : v ∷ kindAt (getD s b 10) ∷ u ∷ length (fieldsAt (drop (b + 2) s)) ∷ map codeIn (fieldsAt (drop (b + 2) s)) ≡ lineCode (rule v u (opIn (getD s b 10 ∷ [])) (map literalIn (fieldsAt (drop (b + 2) s))))
     rule-codes = let hs = fieldsAt (drop (b + 2) s) in rw (op-known (getD s b 10) an-op .1, length-map hs literalIn, map-map codeOf literalIn hs)
 
-  -- A line that begins with neither `F` nor `R` is a query.
-  pub must-query : (getD s at 10 ≡ 70 → ⊥) → (getD s at 10 ≡ 82 → ⊥) → getD s at 10 ≡ 81
-  must-query f r = go (ℕ-discrete (getD s at 10) 81)
+  -- A line that begins with neither `F`, `R` nor `Q` is a D line.
+  pub must-default : (getD s at 10 ≡ 70 → ⊥) → (getD s at 10 ≡ 82 → ⊥) → (getD s at 10 ≡ 81 → ⊥) → getD s at 10 ≡ 68
+  must-default f r q = go (ℕ-discrete (getD s at 10) 68)
     where
-      go : Dec (getD s at 10 ≡ 81) → getD s at 10 ≡ 81
+      go : Dec (getD s at 10 ≡ 68) → getD s at 10 ≡ 68
       go (yes e) = e
-      go (no n) = absurd (never (other-line s at f r n))
+      go (no n) = absurd (never (other-line s at f r q n))
 
   -- The reading and the condition of a query.
   module _ (x : getD s at 10 ≡ 81) where
@@ -150,6 +150,42 @@ module _ (s : List ℕ) (at : ℕ) (w : Formed s at) where
 
       pub known-codes : v ∷ 6 ∷ readingAt (getD s (at + 2) 10) ∷ 0 ∷ [] ≡ lineCode (query (readingIn (getD s (at + 2) 10 ∷ [])) v)
       known-codes = query-codes s at query-letter reading-letter a-reading the-condition
+
+  -- The condition of a D line.
+  module _ (x : getD s at 10 ≡ 68) where
+    default-letter : LetterThen s at 68
+    default-letter = first-letter x (plain 68 (omega arith))
+
+    pub default-place : InText s (at + 2)
+    default-place = default-letter .place
+
+    pub default-number : (isNumber (fieldAt s (at + 2)) ≡ true) × (length (fieldsAt (drop (at + 2) s)) ≡ 1 → ⊥)
+    default-number = neither (no-default s at default-letter) (w .form)
+
+    module _ {v e : ℕ} (n : NumberTo s (at + 2) v e) where
+      default-condition : NumberThen s (at + 2) v (e + 1)
+      default-condition =
+          let m : length (fieldsAt (drop (at + 2) s)) ≡ 1 → ⊥ = default-number .1 in
+          number-more s (at + 2) default-place n (omega (arith, some-field (drop (at + 2) s)))
+
+      unknown-here : (getD s (e + 1) 10 ≡ 85) × (getD s (e + 1 + 1) 10 ≡ 10)
+      unknown-here = go (ℕ-discrete (getD s (e + 1) 10) 85) (ℕ-discrete (getD s (e + 1 + 1) 10) 10)
+        where
+          not-so : (getD s (e + 1) 10 ≡ 85 → getD s (e + 1 + 1) 10 ≡ 10 → ⊥) → ⊥
+          not-so z = never (no-unknown s at default-letter default-condition (no-letter-last s (e + 1) 85 z))
+
+          go : Dec (getD s (e + 1) 10 ≡ 85) → Dec (getD s (e + 1 + 1) 10 ≡ 10) → (getD s (e + 1) 10 ≡ 85) × (getD s (e + 1 + 1) 10 ≡ 10)
+          go (yes p) (yes q) = (p, q)
+          go (yes p) (no q) = absurd (not-so (λ y z. q z))
+          go (no p) q = absurd (not-so (λ y z. p y))
+
+      pub default-inside : e + 2 < length s
+      default-inside = omega (arith, letter-next s (e + 1) (default-condition .place) (unknown-here .0) (plain 85 (omega arith)) .inside)
+
+      pub default-known : Says s at (default v) (e + 3)
+      default-known =
+          let k : e + 1 + 2 ≡ e + 3 = omega arith in
+          rw k at (a-default s at default-letter default-condition (letter-last s (e + 1) (unknown-here .0) (plain 85 (omega arith)) (unknown-here .1)))
 
 -- The entry of a line.
 pub put-line : {s : List ℕ} {at : ℕ} {line : Line} {next : ℕ} → Says s at line next → {area : List ℕ} {start : ℕ} {area′ : List ℕ} {end : ℕ}

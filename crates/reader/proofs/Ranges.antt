@@ -1,24 +1,29 @@
 -- The ranges of a line, and its refusal. Assumes nothing.
 use mathlib.Core.Path.{_≡_, refl, sym, _∙_, ap, subst}
-use mathlib.Core.Bool.{Bool, true, false, not, cond}
+use mathlib.Core.Bool.{Bool, true, false, not, cond, _||_, or-true, or-false}
 use mathlib.Core.List.{List, [], _∷_}
 use mathlib.Core.Option.{Option, none, some}
-use Prim.Native.Nat.{ℕ, suc, _+_, _≤_}
+use Prim.Native.Nat.{ℕ, suc, _+_, _≤_, _<_}
 use native.Mathlib.Omega.{arith}
 use lib.Dec.{eqb, leb, ltb}
 use lib.ListN.{length, drop, length-map}
-use borrow.Author.Tests.{ne-eqb, le-leb, lt-leb, ltb-true, ltb-false}
+use borrow.Author.Tests.{eq-eqb, ne-eqb, eqb-true, eqb-false, le-leb, lt-leb, leb-false, ltb-true, ltb-false}
+use Rattle.fixpoint.specs.Sum.{bit}
 use Rattle.semantics.specs.Grade.{Op}
-use Rattle.semantics.specs.Page.{Literal, conditionOf, Line, fact, rule}
+use Rattle.semantics.specs.Page.{Literal, conditionOf, Line, fact, rule, default, defaults}
 use Rattle.semantics.specs.Area.{codeOf, lineCode}
 use Rattle.semantics.specs.Call.{cause, firstOf}
 use Rattle.semantics.specs.Text.{hasForm}
-use Rattle.semantics.specs.ReadPage.{Fault, placed, orElse, outside, conditionRange, literalRanges, lineRanges, leftmost, lineFault}
+use Rattle.semantics.specs.ReadPage.{Fault, placed, orElse, outside, conditionRange, literalRanges, lineRanges, leftmost, repeatCauses, lineFault}
+use Rattle.semantics.proofs.FieldRanges.{some-none}
 use Rattle.fields.specs.Cursor.{fieldsAt}
 use Rattle.lines.specs.declared.Parsed.{Parsed}
-use Rattle.lines.specs.declared.Parsed.the-variants.{Fact, Rule, Query, Form}
+use Rattle.lines.specs.declared.Parsed.the-variants.{Fact, Rule, Query, Default, Form}
 use Rattle.lines.specs.Lines.{farIn, Says, RuleSays, QuerySays, ParsedAs}
-use Rattle.reader.specs.Checks.{ruleFault, queryFault, lineBy, faultIn, LineGood, LineAs}
+use Rattle.bits.specs.Words.{has, Inserted, InsertedNew}
+use Rattle.reader.specs.declared.check.Fault.{Fault as Answer}
+use Rattle.reader.specs.declared.check.Fault.the-variants.{None, At}
+use Rattle.reader.specs.Checks.{faultOf, ruleFault, queryFault, DefaultAs, Seen, lineBy, faultIn, LineAs, CheckedLine}
 use Rattle.lines.proofs.Forms.{query-size, form-size}
 
 -- the leftmost literal of a rule that is out of range, from the place j on, is the first that is
@@ -65,38 +70,84 @@ module _ (s : List ℕ) (at n : ℕ) {r : Parsed} (q : ParsedAs s at n r) where
   pub query-told : {c next : ℕ} → r ≡ Query c next → QuerySays s at c next
   query-told e = subst (ParsedAs s at n) e q
 
+  pub default-told : {c next : ℕ} → r ≡ Default c next → Says s at (default c) next
+  default-told e = subst (ParsedAs s at n) e q
+
   -- a line of no form
-  pub formless : r ≡ Form → (top : ℕ) → faultIn top n (fieldsAt (drop at s)) ≡ some (record { number = 3; place = 0 })
+  pub formless : r ≡ Form → (top : ℕ) (before : List Line) → faultIn top n before (fieldsAt (drop at s)) ≡ some (record { number = 3; place = 0 })
   unfolding lineFault
-  formless e top = let f : hasForm (fieldsAt (drop at s)) ≡ false = subst (ParsedAs s at n) e q in rw f
+  formless e top before = let f : hasForm (fieldsAt (drop at s)) ≡ false = subst (ParsedAs s at n) e q in rw f
+
+else-nothing : {A : Type 0} (o : Option A) → orElse o none ≡ o
+else-nothing none = refl
+else-nothing (some r) = refl
 
 -- the longest entry has 12 numbers
 entry-few : (s : List ℕ) (at : ℕ) {l : Line} {next : ℕ} → Says s at l next → length (lineCode l) ≤ 12
 entry-few s at h = omega (arith, form-size (fieldsAt (drop at s)) (h .form), ap (λ (l : Line). length (lineCode l)) (h .is))
 
+-- The fields of a D line, and whether it is a second one.
+module _ (n c : ℕ) {words words′ : List ℕ} where
+  pub default-far : n ≤ c → DefaultAs n c words words′ (At 4 2)
+  unfolding leftmost
+  default-far h = record { told = rw (le-leb n c h); inserted = λ e. some-none e }
+
+  module _ (h : c < n) {new : ℕ} (i : InsertedNew c words words′ new) where
+    pub default-again : new ≡ 0 → DefaultAs n c words words′ (At 24 0)
+    unfolding leftmost
+    default-again z = record { told = rw (lt-leb n c h, there (has words c) (sym (i .1) ∙ z)); inserted = λ e. some-none e }
+      where
+        there : (t : Bool) → _≡_ {A = ℕ} (cond t 0 1) 0 → t ≡ true
+        there true e = refl
+        there false e = absurd (omega (arith, e))
+
+    pub default-first : (new ≡ 0 → ⊥) → DefaultAs n c words words′ None
+    unfolding leftmost
+    default-first z = record { told = rw (lt-leb n c h, fresh (has words c) (λ e. z (i .1 ∙ e))); inserted = λ e. i .0 }
+      where
+        fresh : (t : Bool) → (_≡_ {A = ℕ} (cond t 0 1) 0 → ⊥) → t ≡ false
+        fresh true e = absurd (e refl)
+        fresh false e = refl
+
+-- The set with the condition of a D line.
+pub seen-more : (before : List Line) (c : ℕ) {words words′ : List ℕ} → Seen before words → Inserted c words words′ → Seen (default c ∷ before) words′
+unfolding defaults
+seen-more before c {words} {words′} w i = record { size = i .0; are = λ k l. i .1 k l ∙ rw (w .are k l) (go k (eqb k c) refl) }
+  where
+    go : (k : ℕ) (t : Bool) → eqb k c ≡ t → (leb 1 (defaults before k) || t) ≡ leb 1 (bit (eqb c k) + defaults before k)
+    go k true e = let z : k ≡ c = eqb-true k c e in rw (or-true, eq-eqb c k (sym z), le-leb 1 (1 + defaults before k) (omega arith))
+    go k false e = let z : k ≡ c → ⊥ = eqb-false k c e in let d : 0 + defaults before k ≡ defaults before k = omega arith in rw (or-false, ne-eqb c k (λ y. z (sym y)), d)
+
 -- A line that has a form, by what its fields come to.
 module _ (s : List ℕ) (at top n : ℕ) where
-  ranged : {l : Line} {next : ℕ} → Says s at l next → {size : ℕ} → size ≡ length (lineCode l) → {f : Option Fault} → f ≡ leftmost 1 (lineRanges top n l)
-      → LineAs s at top n (lineBy f next size)
-  unfolding lineFault
-  ranged {l} {next} h {size} z {f} e = go f e
-    where
-      here : faultIn top n (fieldsAt (drop at s)) ≡ leftmost 1 (lineRanges top n l)
-      here = rw (h .form, h .is)
+  -- the fault of a line that says l, whose ranges and D lines come to f
+  module _ {l : Line} {next : ℕ} (h : Says s at l next) {size : ℕ} (z : size ≡ length (lineCode l)) (before : List Line) where
+    here : faultIn top n before (fieldsAt (drop at s)) ≡ orElse (leftmost 1 (lineRanges top n l)) (placed 0 (firstOf (repeatCauses before l)))
+    unfolding lineFault
+    here = rw (h .form, h .is)
 
-      go : (f : Option Fault) → f ≡ leftmost 1 (lineRanges top n l) → LineAs s at top n (lineBy f next size)
-      go none d =
-          record {
-            good = here ∙ sym d;
-            entry = z ∙ ap (λ (y : Line). length (lineCode y)) (sym (h .is));
-            few = omega (arith, entry-few s at h);
-            ends = h .ends;
-          }
-      go (some f) d = here ∙ sym d
+    told : (words : List ℕ) (f : Option Fault) → f ≡ orElse (leftmost 1 (lineRanges top n l)) (placed 0 (firstOf (repeatCauses before l))) → (f ≡ none → Seen (l ∷ before) words)
+        → LineAs s at top n before words (lineBy f next size)
+    told words none d v =
+        record {
+          good = here ∙ sym d;
+          seen = rw (h .is) (v refl);
+          entry = z ∙ ap (λ (y : Line). length (lineCode y)) (sym (h .is));
+          few = omega (arith, entry-few s at h);
+          ends = h .ends;
+        }
+    told words (some f) d v = here ∙ sym d
 
-  pub fact-line : {c l h next : ℕ} → Says s at (fact c l h) next → {f : Option Fault} → f ≡ leftmost 1 (lineRanges top n (fact c l h))
-      → LineAs s at top n (lineBy f next 4)
-  fact-line h e = ranged h refl e
+  ranged : {l : Line} {next : ℕ} → Says s at l next → {size : ℕ} → size ≡ length (lineCode l) → (words : List ℕ) → ((before : List Line) → repeatCauses before l ≡ [])
+      → ((before : List Line) → Seen before words → Seen (l ∷ before) words)
+      → {f : Option Fault} → f ≡ leftmost 1 (lineRanges top n l) → CheckedLine s at top n words words (lineBy f next size)
+  ranged {l} h z words none-repeated more {f} e before w =
+      told h z before words f (e ∙ sym (rw (none-repeated before) (else-nothing (leftmost 1 (lineRanges top n l))))) (λ q. more before w)
+
+  pub fact-line : {c l h next : ℕ} → Says s at (fact c l h) next → (words : List ℕ) {f : Option Fault} → f ≡ leftmost 1 (lineRanges top n (fact c l h))
+      → CheckedLine s at top n words words (lineBy f next 4)
+  unfolding defaults
+  fact-line h words e = ranged h refl words (λ b. refl) (λ b w. record { size = w .size; are = w .are }) e
 
   pub rule-few : {c w k far next : ℕ} → RuleSays s at n c w k far next → k ≤ 8
   rule-few h = omega (arith, entry-few s at (h .says), length-map (h .literals) codeOf, h .count)
@@ -104,10 +155,26 @@ module _ (s : List ℕ) (at top n : ℕ) where
   pub rule-far : {c w k far next : ℕ} → RuleSays s at n c w k far next → far ≤ 8
   rule-far h = omega (arith, rule-few h, far-most n 0 (h .literals), h .first, h .count)
 
-  pub rule-line : {c w k far next : ℕ} → RuleSays s at n c w k far next → {f : Option Fault} → f ≡ ruleFault top n c w far
-      → LineAs s at top n (lineBy f next (4 + k))
-  rule-line {c} {w} {k} {far} h e =
-      ranged (h .says) (omega (arith, h .count, length-map (h .literals) codeOf)) (e ∙ rule-range top n c w far (h .op) (h .literals) (h .first))
+  pub rule-line : {c w k far next : ℕ} → RuleSays s at n c w k far next → (words : List ℕ) {f : Option Fault} → f ≡ ruleFault top n c w far
+      → CheckedLine s at top n words words (lineBy f next (4 + k))
+  unfolding defaults
+  rule-line {c} {w} {k} {far} h words e =
+      ranged (h .says) (omega (arith, h .count, length-map (h .literals) codeOf)) words (λ b. refl) (λ b v. record { size = v .size; are = v .are })
+      (e ∙ rule-range top n c w far (h .op) (h .literals) (h .first))
 
-  pub query-line : {c next : ℕ} → QuerySays s at c next → {f : Option Fault} → f ≡ queryFault n c → LineAs s at top n (lineBy f next 4)
-  query-line {c} h e = ranged (h .says) (sym (query-size (h .reading) c)) e
+  pub query-line : {c next : ℕ} → QuerySays s at c next → (words : List ℕ) {f : Option Fault} → f ≡ queryFault n c → CheckedLine s at top n words words (lineBy f next 4)
+  unfolding defaults
+  query-line {c} h words e = ranged (h .says) (sym (query-size (h .reading) c)) words (λ b. refl) (λ b w. record { size = w .size; are = w .are }) e
+
+  -- a D line, whose condition is below 512 where it is in range
+  pub default-line : n ≤ 512 → {c next : ℕ} → Says s at (default c) next → {words words′ : List ℕ} {r : Answer} → DefaultAs n c words words′ r
+      → CheckedLine s at top n words words′ (lineBy (faultOf r) next 4)
+  unfolding leftmost
+  default-line m {c} h {words} {words′} {r} d before w =
+      told h refl before words′ (faultOf r) (d .told ∙ again (leb n c) refl) (λ e. seen-more before c w (d .inserted e))
+    where
+      again : (t : Bool) → leb n c ≡ t
+          → orElse (leftmost 1 ([] ∷ (cause t 4 ∷ []) ∷ [] ∷ [])) (placed 0 (firstOf (cause (has words c) 24 ∷ [])))
+          ≡ orElse (leftmost 1 ([] ∷ (cause t 4 ∷ []) ∷ [] ∷ [])) (placed 0 (firstOf (cause (leb 1 (defaults before c)) 24 ∷ [])))
+      again true e = refl
+      again false e = rw (w .are c (omega (arith, leb-false n c e)))

@@ -1,6 +1,6 @@
 -- A text as a whole: the refusals of the text, of its first line and of the others. Assumes nothing.
-use mathlib.Core.Path.{_≡_, refl, sym, _∙_, subst}
-use mathlib.Core.List.{List, [], _∷_}
+use mathlib.Core.Path.{_≡_, sym, _∙_, subst}
+use mathlib.Core.List.{List, []}
 use mathlib.Core.Option.{Option, none, some}
 use Prim.Native.Nat.{ℕ, _-_, _≤_, _<_}
 use native.Mathlib.Omega.{arith}
@@ -8,6 +8,7 @@ use lib.ListN.{length, getD, drop}
 use borrow.Author.Tests.{eq-eqb, ne-eqb, lt-ltb, le-ltb}
 use Rattle.semantics.specs.Text.{textLines, topIn, conditionsIn}
 use Rattle.semantics.specs.ReadPage.{Fault, toldAt, orElse, headRanges, leftmost, headFault, badLine, badLineOf, textRefusal}
+use Rattle.semantics.proofs.FieldRanges.{no-fault, inside}
 use Rattle.reader.specs.declared.check.Head.{Head}
 use Rattle.reader.specs.declared.check.Head.the-variants as head-as
 use Rattle.reader.specs.declared.check.Tally.{Tally}
@@ -41,7 +42,7 @@ module _ (s : List ℕ) {t n next : ℕ} (w : HeadSays s t n next) {f : Option F
   unfolding linesAfter
   rest = w .lines
 
-  by-head : badLineOf (textLines s) ≡ orElse (toldAt 1 f) (badLine t n 2 (textLines (drop next s)))
+  by-head : badLineOf (textLines s) ≡ orElse (toldAt 1 f) (badLine t n 2 [] (textLines (drop next s)))
   unfolding badLineOf headFault fieldsAt
   by-head = rw (w .form, ← tops, ← counts) (rw (← r, rest))
 
@@ -50,17 +51,20 @@ module _ (s : List ℕ) {t n next : ℕ} (w : HeadSays s t n next) {f : Option F
   far-head e = by-head ∙ rw e
 
   module _ (m : f ≡ none) where
-    good-head : badLineOf (textLines s) ≡ badLine t n 2 (textLines (drop next s))
+    good-head : badLineOf (textLines s) ≡ badLine t n 2 [] (textLines (drop next s))
     good-head = by-head ∙ rw m
 
-    module _ {y : Tally} (q : Tallied s next t n y) where
-      pub accepted : {k u : ℕ} → y ≡ Good k u → CheckedAs (badLineOf (textLines s)) s (Page t n k u)
+    pub conditions-few : n ≤ 512
+    conditions-few = inside 1 512 n (no-fault 1 (headRanges t n) (sym r ∙ m) .1 .1 .0 .0) .1
+
+    module _ (words : List ℕ) {y : Tally} (q : Tallied s next t n words y) where
+      pub accepted : {k u : ℕ} → y ≡ Good k u → CheckedAs (badLineOf (textLines s)) s words (Page t n k u)
       accepted d =
-          let a = subst (Tallied s next t n) d q in
+          let a = subst (Tallied s next t n words) d q in
           (good-head ∙ a .good, record { top = tops; conditions = counts; from = next; lines = rest; all = a })
 
-      pub refused : {number line place : ℕ} → y ≡ Bad number line place → CheckedAs (badLineOf (textLines s)) s (Refused number line place)
-      refused d = good-head ∙ subst (Tallied s next t n) d q
+      pub refused : {number line place : ℕ} → y ≡ Bad number line place → CheckedAs (badLineOf (textLines s)) s words (Refused number line place)
+      refused d = good-head ∙ subst (Tallied s next t n words) d q
 
 -- The text before its lines.
 module _ (s : List ℕ) where
@@ -87,5 +91,5 @@ module _ (s : List ℕ) where
           let l : length s - 1 < length s = omega arith in
           record { inside = omega arith; ended = sym (byte-here s (length s - 1) l) ∙ sym b ∙ m }
 
-      pub checked : x ≡ 10 → (r : Checked) → CheckedAs (badLineOf (textLines s)) s r → CheckedAs (textRefusal s) s r
-      checked m r q = rw (ended m) q
+      pub checked : x ≡ 10 → (words : List ℕ) (r : Checked) → CheckedAs (badLineOf (textLines s)) s words r → CheckedAs (textRefusal s) s words r
+      checked m words r q = rw (ended m) q

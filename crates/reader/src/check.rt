@@ -1,12 +1,16 @@
-// The first pass over a text: each line is parsed and its fields are checked, and the used length is summed.
+// The first pass over a text: each line is parsed and its fields are checked, the used length is summed, and the conditions of the D lines
+// are put into a set.
 ghost use mathlib.Core.Path.{_≡_};
+ghost use mathlib.Core.List.{[]};
 ghost use Prim.Native.Nat.{_≤_};
+ghost use lib.ListN.{length};
 ghost use Rattle.semantics.specs.Page.{fact};
 ghost use Rattle.semantics.specs.Area.{headLength};
 ghost use Rattle.semantics.specs.Text.{textLines};
 ghost use Rattle.semantics.specs.ReadPage.{headRanges, lineRanges, leftmost, badLineOf, textRefusal};
 ghost use Rattle.fields.specs.Cursor.{InText};
-ghost use Rattle.reader.specs.Checks.{faultOf, ruleFault, queryFault, lineBy, LineAs, HeadAt, Tallied, CheckedAs};
+ghost use Rattle.reader.specs.Checks.{faultOf, ruleFault, queryFault, DefaultAs, lineBy, Seen, CheckedLine, HeadAt, Tallied, CheckedAs};
+use bits::insert_new;
 use fields::Field;
 use fields::number_before;
 use lines::Parsed;
@@ -69,6 +73,21 @@ fn query_fault(condition: u16, conditions: u16) -> Fault
     Fault::None
 }
 
+// The fields of a D line, and then whether it is a second one for its condition, where `seen` has the conditions of those before it. That
+// refusal has no place. The condition of a line that is in order is put into the set.
+fn default_fault(condition: u16, conditions: u16, seen: &mut [u64]) -> Fault
+    requires { ⌜ (length (now seen) ≡ 8) × (conditions ≤ 512) ⌝ }
+    ensures { λ r. ⌜ DefaultAs conditions condition (now (seen .entry)) (now (seen .exit)) r ⌝ }
+{
+    if conditions <= condition {
+        return Fault::At(4, 2);
+    }
+    if insert_new(seen, condition) == 0 {
+        return Fault::At(24, 0);
+    }
+    Fault::None
+}
+
 // What a line comes to: the place of the next line and the numbers of its entry, or the number of its refusal and the field's place.
 pub enum Line {
     Good { next: usize, size: usize },
@@ -85,11 +104,11 @@ fn by_fault(fault: Fault, next: usize, size: usize) -> Line
     }
 }
 
-// The line at a place, and its refusal: its form first, then its fields in their order. No other function refuses a line by what it says.
-// A refusal for the form has no place.
-fn check_line(bytes: &[u8], at: usize, top: u16, conditions: u16) -> Line
-    requires { ⌜ InText (now bytes) at ⌝ }
-    ensures { λ r. ⌜ LineAs (now (bytes .entry)) at top conditions r ⌝ }
+// The line at a place, and its refusal: its form first, then its fields in their order, then whether it is a second D line. No other
+// function refuses a line by what it says. A refusal for the form has no place.
+fn check_line(bytes: &[u8], at: usize, top: u16, conditions: u16, seen: &mut [u64]) -> Line
+    requires { ⌜ InText (now bytes) at × (length (now seen) ≡ 8) × (conditions ≤ 512) ⌝ }
+    ensures { λ r. ⌜ CheckedLine (now (bytes .entry)) at top conditions (now (seen .entry)) (now (seen .exit)) r ⌝ }
 {
     let parsed = parse_line(bytes, at, conditions);
     match parsed {
@@ -111,6 +130,9 @@ fn check_line(bytes: &[u8], at: usize, top: u16, conditions: u16) -> Line
             4 + count,
         ),
         Parsed::Query { condition, next } => by_fault(query_fault(condition, conditions), next, 4),
+        Parsed::Default { condition, next } => {
+            by_fault(default_fault(condition, conditions, seen), next, 4)
+        }
         Parsed::Form => Line::Bad(3, 0),
     }
 }
@@ -165,13 +187,13 @@ pub enum Tally {
 pub fn head_length(conditions: u16) -> usize
     ensures { λ r. ⌜ r ≡ headLength conditions ⌝ }
 {
-    4
+    4 + conditions as usize
 }
 
-// The lines from a place on, which is where line 2 begins.
-fn check_lines(bytes: &[u8], from: usize, top: u16, conditions: u16) -> Tally
-    requires { ⌜ InText (now bytes) 0 ⌝ }
-    ensures { λ r. ⌜ Tallied (now (bytes .entry)) from top conditions r ⌝ }
+// The lines from a place on, which is where line 2 begins. The conditions of their D lines are put into the set `seen`, which is empty.
+fn check_lines(bytes: &[u8], from: usize, top: u16, conditions: u16, seen: &mut [u64]) -> Tally
+    requires { ⌜ InText (now bytes) 0 × (conditions ≤ 512) × Seen [] (now seen) ⌝ }
+    ensures { λ r. ⌜ Tallied (now (bytes .entry)) from top conditions (now (seen .exit)) r ⌝ }
 {
     let mut at = from;
     let mut line: usize = 2;
@@ -184,7 +206,7 @@ fn check_lines(bytes: &[u8], from: usize, top: u16, conditions: u16) -> Tally
                 place: 0,
             };
         }
-        let checked = check_line(bytes, at, top, conditions);
+        let checked = check_line(bytes, at, top, conditions, seen);
         match checked {
             Line::Good { next, size } => {
                 at = next;
@@ -239,9 +261,9 @@ pub enum Checked {
 }
 
 // The lines of a text.
-fn check_all(bytes: &[u8]) -> Checked
-    requires { ⌜ InText (now bytes) 0 ⌝ }
-    ensures { λ r. ⌜ CheckedAs (badLineOf (textLines (now (bytes .entry)))) (now (bytes .entry)) r ⌝ }
+fn check_all(bytes: &[u8], seen: &mut [u64]) -> Checked
+    requires { ⌜ InText (now bytes) 0 × Seen [] (now seen) ⌝ }
+    ensures { λ r. ⌜ CheckedAs (badLineOf (textLines (now (bytes .entry)))) (now (bytes .entry)) (now (seen .exit)) r ⌝ }
 {
     let Head::Good {
         top,
@@ -266,7 +288,7 @@ fn check_all(bytes: &[u8]) -> Checked
             };
         }
     }
-    let tally = check_lines(bytes, next, top, conditions);
+    let tally = check_lines(bytes, next, top, conditions, seen);
     match tally {
         Tally::Good { count, used } => Checked::Page {
             top,
@@ -286,9 +308,10 @@ fn check_all(bytes: &[u8]) -> Checked
     }
 }
 
-// The text as a whole.
-pub fn check_page(bytes: &[u8]) -> Checked
-    ensures { λ r. ⌜ CheckedAs (textRefusal (now (bytes .entry))) (now (bytes .entry)) r ⌝ }
+// The text as a whole. The conditions of the D lines of a page are put into the set `seen`, which is empty.
+pub fn check_page(bytes: &[u8], seen: &mut [u64]) -> Checked
+    requires { ⌜ Seen [] (now seen) ⌝ }
+    ensures { λ r. ⌜ CheckedAs (textRefusal (now (bytes .entry))) (now (bytes .entry)) (now (seen .exit)) r ⌝ }
 {
     let n = bytes.len();
     if 65535 < n {
@@ -312,5 +335,5 @@ pub fn check_page(bytes: &[u8]) -> Checked
             place: 0,
         };
     }
-    check_all(bytes)
+    check_all(bytes, seen)
 }

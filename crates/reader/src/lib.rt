@@ -27,12 +27,14 @@ pub enum ReadAnswer {
     },
 }
 
-// Read a page, in two passes: the area is written when no refusal can follow.
+// Read a page, in two passes: the area is written when no refusal can follow. The first pass finds the set of the conditions that are
+// unknown by default.
 pub fn read_page(bytes: &[u8], area: &mut [u16]) -> ReadAnswer
     ensures answer { λ r. ⌜ answerOf r ≡ readOf (now (bytes .entry)) (now (area .entry)) .answer ⌝ }
     ensures area { λ _. ⌜ now (area .exit) ≡ readOf (now (bytes .entry)) (now (area .entry)) .area ⌝ }
 {
-    let checked = check_page(bytes);
+    let mut seen = [0u64; 8];
+    let checked = check_page(bytes, &mut seen);
     match checked {
         Checked::Refused {
             number,
@@ -57,7 +59,7 @@ pub fn read_page(bytes: &[u8], area: &mut [u16]) -> ReadAnswer
                 };
             }
             let from = next_line(bytes, 0);
-            let start = put_head(area, top, conditions, count as u16, used as u16);
+            let start = put_head(area, top, conditions, count as u16, used as u16, &seen);
             write_lines(bytes, from, area, start);
             ReadAnswer::Read(used)
         }

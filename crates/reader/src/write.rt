@@ -6,13 +6,17 @@ ghost use mathlib.Core.List.{[], _∷_};
 ghost use Prim.Native.Nat.{_+_, _≤_};
 ghost use lib.ListN.{length, getD, drop};
 ghost use lib.Seq.{sets};
+ghost use Rattle.fixpoint.specs.Sum.{bit};
 ghost use Rattle.semantics.specs.Area.{headLength};
+ghost use Rattle.semantics.specs.Table.{table};
 ghost use Rattle.semantics.specs.Text.{allLiterals};
+ghost use Rattle.bits.specs.Words.{has};
 ghost use Rattle.fields.specs.Cursor.{InText, fieldsAt};
 ghost use Rattle.lines.specs.Lines.{PairLetter, PairThen};
 ghost use Rattle.reader.specs.Checks.{LinesFit, entriesOf};
 ghost use Rattle.reader.specs.Entries.{Formed, LineFits, LinePut, LiteralsPut};
 use crate::check::head_length;
+use bits::contains;
 use fields::checked_literal;
 use fields::checked_number;
 use lines::op_kind;
@@ -29,12 +33,33 @@ fn put_four(area: &mut [u16], at: usize, a: u16, b: u16, c: u16, d: u16)
     area[at + 3] = d;
 }
 
-// The head of a page area; answers where the lines begin.
-pub fn put_head(area: &mut [u16], top: u16, conditions: u16, count: u16, used: u16) -> usize
-    requires { ⌜ headLength conditions ≤ length (now area) ⌝ }
-    ensures { λ r. ⌜ (now (area .exit) ≡ sets (now (area .entry)) 0 (top ∷ conditions ∷ count ∷ used ∷ [])) × (r ≡ headLength conditions) ⌝ }
+// The D numbers: 1 for the conditions of the set, 0 for the others.
+fn put_defaults(area: &mut [u16], conditions: u16, unknown: &[u64])
+    requires { ⌜ (headLength conditions ≤ length (now area)) × (conditions ≤ 512) × (length (now unknown) ≡ 8) ⌝ }
+    ensures { λ _. ⌜ now (area .exit) ≡ sets (now (area .entry)) 4 (table conditions (λ c. bit (has (now (unknown .entry)) c))) ⌝ }
+{
+    let mut c: u16 = 0;
+    while c < conditions {
+        area[4 + c as usize] = contains(unknown, c) as u16;
+        c += 1;
+    }
+}
+
+// The head of a page area, where `unknown` are the conditions that are unknown by default; answers where the lines begin.
+pub fn put_head(
+    area: &mut [u16],
+    top: u16,
+    conditions: u16,
+    count: u16,
+    used: u16,
+    unknown: &[u64],
+) -> usize
+    requires { ⌜ (headLength conditions ≤ length (now area)) × (conditions ≤ 512) × (length (now unknown) ≡ 8) ⌝ }
+    ensures head { λ _. ⌜ now (area .exit) ≡ sets (now (area .entry)) 0 (top ∷ conditions ∷ count ∷ used ∷ table conditions (λ c. bit (has (now (unknown .entry)) c))) ⌝ }
+    ensures start { λ r. ⌜ r ≡ headLength conditions ⌝ }
 {
     put_four(area, 0, top, conditions, count, used);
+    put_defaults(area, conditions, unknown);
     head_length(conditions)
 }
 
@@ -128,6 +153,19 @@ fn write_query(bytes: &[u8], at: usize, area: &mut [u16], end: usize) -> Place
     }
 }
 
+// The line at a place that begins with `D`.
+fn write_default(bytes: &[u8], at: usize, area: &mut [u16], end: usize) -> Place
+    requires { ⌜ LineFits (now bytes) at (now area) end × (getD (now bytes) at 10 ≡ 68) ⌝ }
+    ensures { λ r. ⌜ LinePut (now (bytes .entry)) at (now (area .entry)) end (now (area .exit)) (r .next) (r .end) ⌝ }
+{
+    let condition = checked_number(bytes, at + 2);
+    put_four(area, end, condition.value, 7, 0, 0);
+    Place {
+        next: condition.end + 3,
+        end: end + 4,
+    }
+}
+
 // The line at a place.
 fn write_line(bytes: &[u8], at: usize, area: &mut [u16], end: usize) -> Place
     requires { ⌜ LineFits (now bytes) at (now area) end ⌝ }
@@ -137,7 +175,8 @@ fn write_line(bytes: &[u8], at: usize, area: &mut [u16], end: usize) -> Place
     match letter {
         b'F' => write_fact(bytes, at, area, end),
         b'R' => write_rule(bytes, at, area, end),
-        _ => write_query(bytes, at, area, end),
+        b'Q' => write_query(bytes, at, area, end),
+        _ => write_default(bytes, at, area, end),
     }
 }
 

@@ -126,7 +126,7 @@ module _ (a s : List ℕ) (ok : sound a ≡ true) {at : ℕ} (x : LineIn a at) w
   pub over-searched : 5 < getD a (at + 1) 0 → Searched a s (LinesHave (lineAt (drop at a) ∷ [])) false
   unfolding linesRead
   over-searched l =
-      searched-none a s (λ c q. absurd (⊎-elim (λ e. false≢true (rw (line-at a at, e) at (q .1))) (λ e. false≢true (rw (line-at a at, e) at (q .1))) (over-five (getD a (at + 1) 0) l)))
+      searched-none a s (λ c q. absurd (⊎-elim (λ e. false≢true (rw (line-at a at, e) at (q .1))) (⊎-elim (λ e. false≢true (rw (line-at a at, e) at (q .1))) (λ e. false≢true (rw (line-at a at, e) at (q .1)))) (over-five (getD a (at + 1) 0) l)))
 
 -- the lines: if those still to come are fresh, all are
 pub record Searching (a s : List ℕ) (at k : ℕ) : Type 0 where

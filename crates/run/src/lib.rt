@@ -120,8 +120,9 @@ fn line_now(page: &[u16], run: &[u16], c: u16) -> u16
 {
     let mut values = [0u8; 1024];
     ends::fill(run, page[1], page[0], &mut values);
-    let best = body::by_scan(page, &values, c);
-    body::first_line(page, &values, c, best.low)
+    let none = &page[0..0];
+    let body = body::body(page, none, &values, c);
+    body::first_line(page, &values, c, body.low)
 }
 
 // Line held: 10 page area not sound, 14 run area too short or not sound, 15 condition C or more, 17 it is not reached.

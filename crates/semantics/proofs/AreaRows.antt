@@ -32,7 +32,8 @@ AllHoldOn (r ∷ rs) = HoldsOn r × AllHoldOn rs
 -- the page of row 1, and the same with a kind 7
 unfoldable pub area1 : List ℕ
 area1 =
-    10 ∷ 2 ∷ 6 ∷ 30
+    10 ∷ 2 ∷ 6 ∷ 32
+    ∷ 0 ∷ 0
     ∷ 0 ∷ 0 ∷ 2 ∷ 2
     ∷ 1 ∷ 0 ∷ 3 ∷ 3
     ∷ 0 ∷ 1 ∷ 10 ∷ 1 ∷ 3
@@ -41,27 +42,51 @@ area1 =
     ∷ 1 ∷ 6 ∷ 1 ∷ 0
     ∷ []
 
-unfoldable pub area7 : List ℕ
-area7 = 10 ∷ 2 ∷ 1 ∷ 8 ∷ 0 ∷ 7 ∷ 0 ∷ 0 ∷ []
+unfoldable pub areaNoKind : List ℕ
+areaNoKind = 10 ∷ 2 ∷ 1 ∷ 10 ∷ 0 ∷ 0 ∷ 0 ∷ 8 ∷ 0 ∷ 0 ∷ []
 
 -- G,10,1 F,0,5,5 R,0,10,B,0,0
 unfoldable pub areaTwice : List ℕ
-areaTwice = 10 ∷ 1 ∷ 2 ∷ 14 ∷ 0 ∷ 0 ∷ 5 ∷ 5 ∷ 0 ∷ 4 ∷ 10 ∷ 2 ∷ 0 ∷ 0 ∷ []
+areaTwice = 10 ∷ 1 ∷ 2 ∷ 15 ∷ 0 ∷ 0 ∷ 0 ∷ 5 ∷ 5 ∷ 0 ∷ 4 ∷ 10 ∷ 2 ∷ 0 ∷ 0 ∷ []
 
 -- G,10,2 Q,K,0 F,0,0,4 Q,K,1
 unfoldable pub areaAsked : List ℕ
-areaAsked = 10 ∷ 2 ∷ 3 ∷ 16 ∷ 0 ∷ 6 ∷ 0 ∷ 0 ∷ 0 ∷ 0 ∷ 0 ∷ 4 ∷ 1 ∷ 6 ∷ 0 ∷ 0 ∷ []
+areaAsked = 10 ∷ 2 ∷ 3 ∷ 18 ∷ 0 ∷ 0 ∷ 0 ∷ 6 ∷ 0 ∷ 0 ∷ 0 ∷ 0 ∷ 0 ∷ 4 ∷ 1 ∷ 6 ∷ 0 ∷ 0 ∷ []
 
 -- weight 5 over grade 5, and a weight of 9 on itself (row 7)
 unfoldable pub areaHalf : List ℕ
-areaHalf = 10 ∷ 2 ∷ 2 ∷ 13 ∷ 1 ∷ 0 ∷ 5 ∷ 5 ∷ 0 ∷ 1 ∷ 5 ∷ 1 ∷ 2 ∷ []
+areaHalf = 10 ∷ 2 ∷ 2 ∷ 15 ∷ 0 ∷ 0 ∷ 1 ∷ 0 ∷ 5 ∷ 5 ∷ 0 ∷ 1 ∷ 5 ∷ 1 ∷ 2 ∷ []
 
 unfoldable pub areaNine : List ℕ
-areaNine = 10 ∷ 1 ∷ 1 ∷ 9 ∷ 0 ∷ 1 ∷ 9 ∷ 1 ∷ 0 ∷ []
+areaNine = 10 ∷ 1 ∷ 1 ∷ 10 ∷ 0 ∷ 0 ∷ 1 ∷ 9 ∷ 1 ∷ 0 ∷ []
 
 -- `G,10,3 / R,0,10,M,1 / R,1,10,M,2`
 unfoldable pub chain : List ℕ
-chain = 10 ∷ 3 ∷ 2 ∷ 14 ∷ 0 ∷ 1 ∷ 10 ∷ 1 ∷ 2 ∷ 1 ∷ 1 ∷ 10 ∷ 1 ∷ 4 ∷ []
+chain = 10 ∷ 3 ∷ 2 ∷ 17 ∷ 0 ∷ 0 ∷ 0 ∷ 0 ∷ 1 ∷ 10 ∷ 1 ∷ 2 ∷ 1 ∷ 1 ∷ 10 ∷ 1 ∷ 4 ∷ []
+
+-- `G,10,2 / D,0,U / R,1,10,M,0`: a camera that is not fitted, and a rule that asks it
+unfoldable pub areaCamera : List ℕ
+areaCamera = 10 ∷ 2 ∷ 2 ∷ 15 ∷ 1 ∷ 0 ∷ 0 ∷ 7 ∷ 0 ∷ 0 ∷ 1 ∷ 1 ∷ 10 ∷ 1 ∷ 0 ∷ []
+
+-- `G,10,1 / D,0,U / R,0,10,M,0`, and the same without the D line
+unfoldable pub areaDoubt : List ℕ
+areaDoubt = 10 ∷ 1 ∷ 2 ∷ 14 ∷ 1 ∷ 0 ∷ 7 ∷ 0 ∷ 0 ∷ 0 ∷ 1 ∷ 10 ∷ 1 ∷ 0 ∷ []
+
+unfoldable pub areaLoop : List ℕ
+areaLoop = 10 ∷ 1 ∷ 1 ∷ 10 ∷ 0 ∷ 0 ∷ 1 ∷ 10 ∷ 1 ∷ 0 ∷ []
+
+-- D numbers that tell another count of D lines, or two
+unfoldable pub areaNoEntry : List ℕ
+areaNoEntry = 10 ∷ 1 ∷ 0 ∷ 5 ∷ 1 ∷ []
+
+unfoldable pub areaNoNumber : List ℕ
+areaNoNumber = 10 ∷ 1 ∷ 1 ∷ 9 ∷ 0 ∷ 0 ∷ 7 ∷ 0 ∷ 0 ∷ []
+
+unfoldable pub areaTwoEntries : List ℕ
+areaTwoEntries = 10 ∷ 1 ∷ 2 ∷ 13 ∷ 1 ∷ 0 ∷ 7 ∷ 0 ∷ 0 ∷ 0 ∷ 7 ∷ 0 ∷ 0 ∷ []
+
+unfoldable pub areaNumberTwo : List ℕ
+areaNumberTwo = 10 ∷ 1 ∷ 2 ∷ 13 ∷ 2 ∷ 0 ∷ 7 ∷ 0 ∷ 0 ∷ 0 ∷ 7 ∷ 0 ∷ 0 ∷ []
 
 -- seven numbers: the last lies past 3 × C
 unfoldable pub opened1 : List ℕ
@@ -97,14 +122,14 @@ areaRows =
     ∷ opensOn chain (0 ∷ []) ten9s (openedWith 3 2 23 3) (0 ∷ 10 ∷ 2 ∷ 0 ∷ 10 ∷ 2 ∷ 0 ∷ 10 ∷ 2 ∷ 9 ∷ [])
     ∷ opensOn chain (1 ∷ []) ten9s (openedWith 2 1 12 2) (0 ∷ 10 ∷ 0 ∷ 0 ∷ 10 ∷ 2 ∷ 0 ∷ 10 ∷ 2 ∷ 9 ∷ [])
     ∷ opensOn chain (2 ∷ []) ten9s (openedWith 1 0 1 1) (0 ∷ 10 ∷ 0 ∷ 0 ∷ 10 ∷ 0 ∷ 0 ∷ 10 ∷ 2 ∷ 9 ∷ [])
-    ∷ opensOn area7 (0 ∷ []) nines (refusedOpening 10) nines
+    ∷ opensOn areaNoKind (0 ∷ []) nines (refusedOpening 10) nines
     ∷ opensOn area1 [] nines (refusedOpening 11) nines
     ∷ opensOn area1 (0 ∷ many) nines (refusedOpening 11) nines
     ∷ opensOn area1 (0 ∷ 2 ∷ []) nines (refusedOpening 12) nines
     ∷ opensOn area1 (0 ∷ []) (9 ∷ 9 ∷ 9 ∷ 9 ∷ 9 ∷ []) (refusedOpening 13) (9 ∷ 9 ∷ 9 ∷ 9 ∷ 9 ∷ [])
     ∷ callsOn area1 opened1 (evaluate 0) (changed 2) (2 ∷ 10 ∷ 1 ∷ 0 ∷ 10 ∷ 2 ∷ 9 ∷ [])
     ∷ callsOn area1 (2 ∷ 7 ∷ 1 ∷ 3 ∷ 8 ∷ 2 ∷ 9 ∷ []) (evaluate 1) (unchanged 3) rested1
-    ∷ callsOn area7 opened1 (evaluate 0) (refused 10) opened1
+    ∷ callsOn areaNoKind opened1 (evaluate 0) (refused 10) opened1
     ∷ callsOn area1 spoilt1 (evaluate 0) (refused 14) spoilt1
     ∷ callsOn area1 opened1 (evaluate 2) (refused 15) opened1
     ∷ callsOn area1 rested1 (evaluate 0) (refused 16) rested1
@@ -113,7 +138,7 @@ areaRows =
     ∷ callsOn area1 opened1 (drive 4) (drove 4 3 rest) rested1
     ∷ callsOn area1 opened1 (drive 4294967295) (drove 4 3 rest) rested1
     ∷ callsOn area1 rested1 (drive 0) (drove 0 0 rest) rested1
-    ∷ callsOn area7 opened1 (drive 1) (refused 10) opened1
+    ∷ callsOn areaNoKind opened1 (drive 1) (refused 10) opened1
     ∷ callsOn area1 spoilt1 (drive 1) (refused 14) spoilt1
     ∷ callsOn area1 opened1 (value 0) (valued (interval 0 10) spent) opened1
     ∷ callsOn area1 rested1 (value 1) (valued (interval 3 8) rest) rested1
@@ -140,26 +165,37 @@ areaRows =
     ∷ callsOn areaNine (0 ∷ 10 ∷ 2 ∷ []) (evaluate 0) (changed 2) (0 ∷ 9 ∷ 2 ∷ [])
     ∷ callsOn areaNine (0 ∷ 9 ∷ 2 ∷ []) (evaluate 0) (unchanged 2) (0 ∷ 9 ∷ 1 ∷ [])
     ∷ closesOn areaHalf (0 ∷ []) scratch1 (9 ∷ 9 ∷ 9 ∷ []) 2 (0 ∷ 0 ∷ 0 ∷ 0 ∷ 0 ∷ 0 ∷ 0 ∷ 0 ∷ 9 ∷ 9 ∷ 9 ∷ 9 ∷ 9 ∷ []) (2 ∷ 3 ∷ 9 ∷ [])
-    ∷ refusesOn area7 (1 ∷ []) scratch1 nines 10
+    ∷ refusesOn areaNoKind (1 ∷ []) scratch1 nines 10
     ∷ refusesOn area1 [] scratch1 nines 11
     ∷ refusesOn area1 (2 ∷ []) scratch1 nines 12
     ∷ refusesOn area1 (1 ∷ []) nines nines 18
     ∷ refusesOn area1 (1 ∷ []) scratch1 (9 ∷ []) 19
+    -- a condition that is unknown by default: no line holds its low end; with a rule on itself it stays unknown in the closed reading too
+    ∷ opensOn areaCamera (1 ∷ []) nines (openedWith 2 1 12 2) opened1
+    ∷ callsOn areaCamera opened1 (evaluate 0) (unchanged 0) (0 ∷ 10 ∷ 1 ∷ 0 ∷ 10 ∷ 2 ∷ 9 ∷ [])
+    ∷ callsOn areaCamera opened1 (evaluate 1) (unchanged 3) (0 ∷ 10 ∷ 2 ∷ 0 ∷ 10 ∷ 1 ∷ 9 ∷ [])
+    ∷ closesOn areaCamera (0 ∷ 1 ∷ []) (9 ∷ nines) (9 ∷ 9 ∷ 9 ∷ 9 ∷ []) 0 (0 ∷ 0 ∷ 0 ∷ 0 ∷ 0 ∷ 0 ∷ 0 ∷ 0 ∷ []) (0 ∷ 10 ∷ 0 ∷ 10 ∷ [])
+    ∷ closesOn areaDoubt (0 ∷ []) (9 ∷ 9 ∷ 9 ∷ 9 ∷ []) (9 ∷ 9 ∷ []) 0 (0 ∷ 0 ∷ 0 ∷ 0 ∷ []) (0 ∷ 10 ∷ [])
+    ∷ closesOn areaLoop (0 ∷ []) (9 ∷ 9 ∷ 9 ∷ 9 ∷ []) (9 ∷ 9 ∷ []) 1 (0 ∷ 0 ∷ 0 ∷ 0 ∷ []) (0 ∷ 0 ∷ [])
+    ∷ opensOn areaNoEntry (0 ∷ []) nines (refusedOpening 10) nines
+    ∷ opensOn areaNoNumber (0 ∷ []) nines (refusedOpening 10) nines
+    ∷ opensOn areaTwoEntries (0 ∷ []) nines (refusedOpening 10) nines
+    ∷ opensOn areaNumberTwo (0 ∷ []) nines (refusedOpening 10) nines
     -- the order of the causes: of two neighbours that hold at once the first tells
-    ∷ opensOn area7 [] nines (refusedOpening 10) nines
+    ∷ opensOn areaNoKind [] nines (refusedOpening 10) nines
     ∷ opensOn area1 (2 ∷ many) nines (refusedOpening 11) nines
     ∷ opensOn area1 (2 ∷ []) [] (refusedOpening 12) []
-    ∷ callsOn area7 spoilt1 (evaluate 0) (refused 10) spoilt1
+    ∷ callsOn areaNoKind spoilt1 (evaluate 0) (refused 10) spoilt1
     ∷ callsOn area1 spoilt1 (evaluate 2) (refused 14) spoilt1
     ∷ callsOn area1 rested1 (evaluate 2) (refused 15) rested1
-    ∷ callsOn area7 spoilt1 (drive 1) (refused 10) spoilt1
-    ∷ callsOn area7 spoilt1 (value 0) (refused 10) spoilt1
+    ∷ callsOn areaNoKind spoilt1 (drive 1) (refused 10) spoilt1
+    ∷ callsOn areaNoKind spoilt1 (value 0) (refused 10) spoilt1
     ∷ callsOn area1 spoilt1 (value 2) (refused 14) spoilt1
     ∷ callsOn area1 unreached1 (value 2) (refused 15) unreached1
-    ∷ callsOn area7 spoilt1 (lineHeld 0) (refused 10) spoilt1
+    ∷ callsOn areaNoKind spoilt1 (lineHeld 0) (refused 10) spoilt1
     ∷ callsOn area1 spoilt1 (lineHeld 2) (refused 14) spoilt1
     ∷ callsOn area1 unreached1 (lineHeld 2) (refused 15) unreached1
-    ∷ refusesOn area7 [] scratch1 nines 10
+    ∷ refusesOn areaNoKind [] scratch1 nines 10
     ∷ refusesOn area1 (2 ∷ many) scratch1 nines 11
     ∷ refusesOn area1 (2 ∷ []) nines nines 12
     ∷ refusesOn area1 (1 ∷ []) nines [] 18

@@ -28,7 +28,7 @@ use Rattle.semantics.proofs.Closure.{closure-length}
 use Rattle.semantics.proofs.Invariant.{Invariant}
 use Rattle.semantics.proofs.Readings.{plain-is}
 use Rattle.semantics.proofs.Soundness.{both-true, sound-proper, Every, every-true}
-use Rattle.semantics.proofs.Table.{length-from, getD-table, or-cases}
+use Rattle.semantics.proofs.Table.{length-from, getD-table, or-cases, all-true, all-at}
 use native.Mathlib.Decide.{ℕ-discrete}
 
 length-cells : (n k : ℕ) (I : Assign) (mk : ℕ → ℕ) → length (cells n k I mk) ≡ 3 * n
@@ -68,11 +68,6 @@ module _ (n : ℕ) (I : Assign) (mk : ℕ → ℕ) (z : List ℕ) (i : ℕ) (l :
 
   mark-cell : markAt area i ≡ mk i
   mark-cell = at-cell 2
-
-pub all-true : (n : ℕ) (p : ℕ → Bool) → ((i : ℕ) → i < n → p i ≡ true) → allBelow n p ≡ true
-unfolding allBelow
-all-true zero p h = refl
-all-true (suc n) p h = rw (all-true n p (λ i l. h i (omega arith)), h n (omega arith))
 
 mark-two : (w r : Bool) → eqb (markOf w r) 2 ≡ w
 mark-two true r = refl
@@ -206,16 +201,6 @@ mark-back zero h = refl
 mark-back (suc zero) h = refl
 mark-back (suc (suc zero)) h = refl
 mark-back (suc (suc (suc m))) h = absurd (omega (arith, leb-true (suc (suc (suc m))) 2 h))
-
-pub all-at : (n : ℕ) (p : ℕ → Bool) → allBelow n p ≡ true → (i : ℕ) → i < n → p i ≡ true
-unfolding allBelow
-all-at zero p e i l = absurd (omega arith)
-all-at (suc n) p e i l =
-    let h = both-true (allBelow n p) (p n) e in
-    elim (ℕ-discrete i n) [
-      | yes q ↦ rw q (h .1)
-      | no q ↦ all-at n p (h .0) i (omega arith)
-    ]
 
 -- what a run area holds at a condition
 module _ (page : Page) (r : List ℕ) (c : ℕ) (l : c < page .conditions) where

@@ -1,19 +1,21 @@
 -- The covering rule of ticket 2 (`plain-covers`, `area-covers`): the plain reading covers the exact figures. Assumes nothing.
-use mathlib.Core.Path.{_≡_, refl, sym, subst}
-use mathlib.Core.Bool.{Bool, true, false, cond, _&&_}
+use mathlib.Core.Path.{_≡_, refl, sym, ap, subst}
+use mathlib.Core.Bool.{Bool, true, false, not, cond, _&&_, _||_, false≢true}
 use mathlib.Core.List.{List, [], _∷_, _++_, map, foldl, Forall₂, Forall₂·nil, Forall₂·cons}
 use Prim.Native.Nat.{ℕ, zero, suc, _+_, _*_, _≤_, _<_}
 use native.Mathlib.Omega.{arith}
 use lib.Dec.{eqb}
+use lib.ListN.{length}
+use Rattle.fixpoint.proofs.Cond.{by-bool}
 use borrow.Author.Tests.{eq-eqb}
 use Rattle.fixpoint.specs.Interval.{Interval, Assign}
-use Rattle.fixpoint.specs.KnowledgeOrder.{bottom}
+use Rattle.fixpoint.specs.KnowledgeOrder.{bottom, unknown, certainly-false}
 use Rattle.fixpoint.specs.LeastFixpoint.{iter, lfp}
 use Rattle.semantics.specs.Area.{sound, pageOf}
-use Rattle.semantics.specs.Body.{literalValue, ruleValue, onlyIf, bodies, bodyless, largestOf, T}
-use Rattle.semantics.specs.Exact.{Fraction, IsFraction, whole, Covers, exactCombine, exactFold, Figures, exactLiteral, exactRule, exactBodies, exactBody, ChosenFrom, Exact, PlainCovers}
+use Rattle.semantics.specs.Body.{literalValue, ruleValue, onlyIf, bodies, unknownByDefault, bodyless, largestOf, T}
+use Rattle.semantics.specs.Exact.{Fraction, IsFraction, whole, Covers, exactCombine, exactFold, Figures, exactLiteral, exactRule, exactBodies, exactBody, ChosenFrom, hasBody, mayTakeAny, Exact, PlainCovers}
 use Rattle.semantics.specs.Grade.{Op, X, combine, endwise, foldFrom, foldAll, largest}
-use Rattle.semantics.specs.Page.{Literal, positive, negative, conditionOf, mentions, Line, fact, rule, query, linesName, Page, names}
+use Rattle.semantics.specs.Page.{Literal, positive, negative, conditionOf, mentions, Line, fact, rule, query, default, linesName, Page, names}
 use Rattle.semantics.specs.Reading.{IsPlain, named}
 use Rattle.semantics.proofs.Closure.{reached-real}
 use Rattle.semantics.proofs.Fractions.{covers-equal, Covered, whole-covered, op-covered, largest-covered, negated-covered, weighted-covered}
@@ -64,28 +66,75 @@ module _ (top : ℕ) (pos : 1 ≤ top) (choice : ℕ → ℕ) (I : Assign) (x : 
       added (eqb d c) (λ e. rule-covered w op lits (λ b f. h b (left (eqb d c && mentions lits b) (linesName ls c b) (rw (e, f)))))
       (bodies-covered c (suc k) ls (g .1) (λ b f. h b (right (eqb d c && mentions lits b) (linesName ls c b) f)))
   bodies-covered c k (query r d ∷ ls) g h = bodies-covered c (suc k) ls (g .1) h
+  bodies-covered c k (default d ∷ ls) g h = bodies-covered c (suc k) ls (g .1) h
 
-  largest-of-covered : (d : Interval) → Covered d (whole 0) → {ps : List Interval} {xs : List Fraction} → Forall₂ Covered ps xs
+  largest-of-covered : (d : Interval) {ps : List Interval} {xs : List Fraction} → (ps ≡ [] → Covered d (whole 0)) → Forall₂ Covered ps xs
       → Covered (largestOf d ps) (exactFold (exactCombine top X) xs)
   unfolding largestOf exactFold
-  largest-of-covered d z Forall₂·nil = z
+  largest-of-covered d z Forall₂·nil = z refl
   largest-of-covered d z (Forall₂·cons {a = p} {b = y} r rs) = fold-covered largest (exactCombine top X) (largest-covered top pos) p y r rs
 
+-- a condition has an F or R line exactly if its body has a value
+added-none : (t : Bool) (p : Interval) (ps : List Interval) → onlyIf t p ++ ps ≡ [] → (t ≡ false) × (ps ≡ [])
+added-none true p ps e = absurd (omega (arith, ap length e))
+added-none false p ps e = (refl, e)
+
+body-none : (top : ℕ) (I : Assign) (c : ℕ) (ls : List Line) → bodies top I c ls ≡ [] → hasBody ls c ≡ false
+unfolding bodies hasBody
+body-none top I c [] e = refl
+body-none top I c (fact d l u ∷ ls) e = let z = added-none (eqb d c) _ (bodies top I c ls) e in rw (z .0) (body-none top I c ls (z .1))
+body-none top I c (rule d w op lits ∷ ls) e = let z = added-none (eqb d c) _ (bodies top I c ls) e in rw (z .0) (body-none top I c ls (z .1))
+body-none top I c (query r d ∷ ls) e = body-none top I c ls e
+body-none top I c (default d ∷ ls) e = body-none top I c ls e
+
+neither : (a b : Bool) → (a || b) ≡ false → (a ≡ false) × (b ≡ false)
+neither true b e = absurd (false≢true (sym e))
+neither false b e = (refl, e)
+
+none-body : (top : ℕ) (I : Assign) (c : ℕ) (ls : List Line) → hasBody ls c ≡ false → bodies top I c ls ≡ []
+unfolding bodies hasBody
+none-body top I c [] e = refl
+none-body top I c (fact d l u ∷ ls) e = let z = neither (eqb d c) (hasBody ls c) e in rw (z .0) (none-body top I c ls (z .1))
+none-body top I c (rule d w op lits ∷ ls) e = let z = neither (eqb d c) (hasBody ls c) e in rw (z .0) (none-body top I c ls (z .1))
+none-body top I c (query r d ∷ ls) e = none-body top I c ls e
+none-body top I c (default d ∷ ls) e = none-body top I c ls e
+
 module _ (page : Page) (proper : Proper page) (choice : ℕ → ℕ) where
-  pub T-covers : (I : Assign) (x : Figures) → ChosenFrom choice 0 (page .lines) → (c : ℕ) → ((b : ℕ) → names page c b ≡ true → Covered (I b) (x b))
+  bodyless-covers : (c : ℕ) → mayTakeAny page c ≡ false → hasBody (page .lines) c ≡ false → Covered (bodyless page c) (whole 0)
+  unfolding bodyless
+  bodyless-covers c m n = go (unknownByDefault page c) (hasBody (page .lines) c) m n
+    where
+      go : (t b : Bool) → (t && not b) ≡ false → b ≡ false → Covered (cond t (unknown (page .top)) certainly-false) (whole 0)
+      go t true m n = absurd (false≢true (sym n))
+      go true false m n = absurd (false≢true (sym m))
+      go false false m n = whole-covered 0 0 0 (omega arith) (omega arith)
+
+  pub T-covers : (I : Assign) (x : Figures) → ChosenFrom choice 0 (page .lines) → (c : ℕ) → mayTakeAny page c ≡ false
+      → ((b : ℕ) → names page c b ≡ true → Covered (I b) (x b))
       → Covered (T page I c) (exactBody page choice x c)
-  unfolding T exactBody bodyless
-  T-covers I x g c h =
-      largest-of-covered (page .top) (proper .top-least) choice I x _ (whole-covered 0 0 0 (omega arith) (omega arith))
+  unfolding T exactBody
+  T-covers I x g c m h =
+      largest-of-covered (page .top) (proper .top-least) choice I x (bodyless page c) (λ e. bodyless-covers c m (body-none (page .top) I c (page .lines) e))
       (bodies-covered (page .top) (proper .top-least) choice I x c 0 (page .lines) g h)
+
+  -- one that may take any fraction has the body value [0;top]
+  T-any : (I : Assign) (c : ℕ) → mayTakeAny page c ≡ true → T page I c ≡ unknown (page .top)
+  unfolding T bodyless largestOf
+  T-any I c m = go (unknownByDefault page c) (hasBody (page .lines) c) m (λ e. none-body (page .top) I c (page .lines) e)
+    where
+      go : (t b : Bool) → (t && not b) ≡ true → (b ≡ false → bodies (page .top) I c (page .lines) ≡ [])
+          → largestOf (cond t (unknown (page .top)) certainly-false) (bodies (page .top) I c (page .lines)) ≡ unknown (page .top)
+      go true true m z = absurd (false≢true m)
+      go true false m z = rw (z refl)
+      go false b m z = absurd (false≢true m)
 
   -- for a set of conditions that has all that its members name
   module _ {reached : ℕ → Type 0} (shut : (a b : ℕ) → reached a → names page a b ≡ true → reached b) {x : Figures} (E : Exact page choice reached x) where
     -- the exact body value of a reached condition is a fraction, so that "equal" says what it should
-    pub body-fraction : (c : ℕ) → reached c → IsFraction (exactBody page choice x c)
+    pub body-fraction : (c : ℕ) → reached c → mayTakeAny page c ≡ false → IsFraction (exactBody page choice x c)
     unfolding bottom
-    body-fraction c r =
-        T-covers (bottom (page .top)) x (E .chosen) c
+    body-fraction c r m =
+        T-covers (bottom (page .top)) x (E .chosen) c m
         (λ b e. record { fraction = E .fractions b (shut c b r e); covered = record { from-low = omega arith; to-high = E .to-top b (shut c b r e) } })
         .fraction
 
@@ -93,8 +142,11 @@ module _ (page : Page) (proper : Proper page) (choice : ℕ → ℕ) where
     unfolding iter bottom
     iter-covers zero c r = record { from-low = omega arith; to-high = E .to-top c r }
     iter-covers (suc k) c r =
-        let v = T-covers (iter (page .top) (T page) k) x (E .chosen) c (λ b e. record { fraction = E .fractions b (shut c b r e); covered = iter-covers k b (shut c b r e) }) in
-        covers-equal (v .fraction) (E .equal c r) (v .covered)
+        by-bool (mayTakeAny page c)
+        (λ m. rw (T-any (iter (page .top) (T page) k) c m) (record { from-low = omega arith; to-high = E .to-top c r }))
+        (λ m.
+        let v = T-covers (iter (page .top) (T page) k) x (E .chosen) c m (λ b e. record { fraction = E .fractions b (shut c b r e); covered = iter-covers k b (shut c b r e) }) in
+        covers-equal (v .fraction) (E .equal c r m) (v .covered))
 
     pub covers-shut : {P : Assign} → IsPlain page P → (c : ℕ) → c < page .conditions → reached c → Covers (P c) (x c)
     unfolding lfp

@@ -9,9 +9,9 @@ use native.Mathlib.Omega.{arith}
 use lib.Dec.{eqb}
 use borrow.Author.Tests.{eq-eqb}
 use Rattle.fixpoint.specs.Interval.{Interval, Assign}
-use Rattle.semantics.specs.Body.{literalValue, onlyIf, bodies, bodyless, largestOf, T}
+use Rattle.semantics.specs.Body.{literalValue, onlyIf, bodies, unknownByDefault, bodyless, largestOf, T}
 use Rattle.semantics.specs.Grade.{End, lower, upper, rounding, divided, Op, M, X, L, B, P, combine, endwise, foldFrom, foldAll, weighted, negated, largest}
-use Rattle.semantics.specs.Page.{Literal, positive, negative, mentions, Line, fact, rule, query, linesName, Page, names}
+use Rattle.semantics.specs.Page.{Literal, positive, negative, mentions, Line, fact, rule, query, default, linesName, Page, names, defaults}
 use Rattle.semantics.proofs.Proper.{LiteralsBelow, AllInRange, Proper}
 use Rattle.semantics.proofs.Ops.{combine-mono}
 use Rattle.semantics.specs.Layers.{denies, linesNegate, negates, CrispLines, Crisp}
@@ -114,10 +114,24 @@ module _ (n top : ℕ) (pos : 1 ≤ top) (I J : Assign) where
       (bodies-beneath ls (w .1) (s .1) c (λ b m e. h b m (or-right (eqb d c && mentions lits b) (linesName ls c b) e))
       (λ b m e. g b m (or-right (eqb d c && denies lits b) (linesNegate ls c b) e)))
   bodies-beneath (query r d ∷ ls) w s c h g = bodies-beneath ls (w .1) (s .1) c h g
+  bodies-beneath (default d ∷ ls) w s c h g = absurd (s .0)
 
-bodyless-beneath : (page : Page) (c : ℕ) → Beneath (bodyless page c) (bodyless page c)
+no-defaults : (top : ℕ) (ls : List Line) → CrispLines top ls → (c : ℕ) → defaults ls c ≡ 0
+unfolding defaults
+no-defaults top [] s c = refl
+no-defaults top (fact d l u ∷ ls) s c = no-defaults top ls (s .1) c
+no-defaults top (rule d v op lits ∷ ls) s c = no-defaults top ls (s .1) c
+no-defaults top (query r d ∷ ls) s c = no-defaults top ls (s .1) c
+no-defaults top (default d ∷ ls) s c = absurd (s .0)
+
+-- no condition of a crisp page is unknown by default
+pub none-unknown : (page : Page) → Crisp page → (c : ℕ) → unknownByDefault page c ≡ false
+unfolding unknownByDefault
+none-unknown page s c = rw (no-defaults (page .top) (page .lines) s c)
+
+bodyless-beneath : (page : Page) → Crisp page → (c : ℕ) → Beneath (bodyless page c) (bodyless page c)
 unfolding bodyless
-bodyless-beneath page c = omega arith
+bodyless-beneath page s c = rw (none-unknown page s c) (omega arith)
 
 -- T does not widen: where I lies below J in what c names, and J below I in what it negates, so does T I below T J
 pub T-beneath : (page : Page) → Proper page → Crisp page → (I J : Assign) (c : ℕ)
@@ -125,4 +139,4 @@ pub T-beneath : (page : Page) → Proper page → Crisp page → (I J : Assign) 
     → ((b : ℕ) → b < page .conditions → negates page c b ≡ true → J b .high ≤ I b .low) → T page I c .high ≤ T page J c .low
 unfolding T Plain Negated
 T-beneath page w s I J c h g =
-    largest-beneath (bodyless page c) (bodyless-beneath page c) (bodies-beneath (page .conditions) (page .top) (w .top-least) I J (page .lines) (w .ranged) s c h g)
+    largest-beneath (bodyless page c) (bodyless-beneath page s c) (bodies-beneath (page .conditions) (page .top) (w .top-least) I J (page .lines) (w .ranged) s c h g)

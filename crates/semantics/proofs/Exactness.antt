@@ -29,7 +29,7 @@ use Rattle.semantics.specs.Layers.{layered, layersCauses, LayersAs, Laye
 use Rattle.semantics.proofs.Walks.{LayersOn}
 use Rattle.semantics.proofs.LayersCheck.{sound-by}
 use Rattle.semantics.proofs.Layers.{layers-on, free-passed, loop-no-layers}
-use Rattle.semantics.proofs.CrispPages.{T-beneath}
+use Rattle.semantics.proofs.CrispPages.{T-beneath, none-unknown}
 
 -- T does not widen
 pub record Sharp (n : ℕ) (T : Assign → ℕ → Interval) (names negates : ℕ → ℕ → Bool) : Type 0 where
@@ -103,16 +103,11 @@ module _ {n top : ℕ} {T : Assign → ℕ → Interval} (O : Operator n top T) 
       subst (λ (p : Interval). p .low ≡ p .high) (closed-unique O free (closed-reading O free) d c l)
       (omega (arith, closed-ordered O free G c l, sharp-below (suc (lay c)) c l (omega arith)))
 
--- no condition is unknown by default
-none-unknown : (page : Page) (c : ℕ) → unknownByDefault page c ≡ false
-unfolding unknownByDefault
-none-unknown page c = refl
-
 -- "On a page that passes, .. every closed answer has low equal to high."
 pub closed-exact : (page : Page) → Proper page → Crisp page → ((c : ℕ) → ¬ Loops page c) → (C : Assign) → IsClosed page C
     → (c : ℕ) → c < page .conditions → C c .low ≡ C c .high
 closed-exact page w s free C d =
-    reading-exact (operator (page-system page w)) (unknownByDefault page) (λ c l. none-unknown page c)
+    reading-exact (operator (page-system page w)) (unknownByDefault page) (λ c l. none-unknown page s c)
     (record { sharp = λ I J c l h g. T-beneath page w s I J c h g }) (layers-on page w (free-passed page w free .is-least .layers)) (page-agrees page w) d
 
 -- the same, of a page area that the check passed

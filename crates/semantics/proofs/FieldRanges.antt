@@ -9,7 +9,7 @@ use lib.Dec.{leb, ltb}
 use lib.ListN.{length}
 use borrow.Author.Tests.{leb-false, ltb-true, ltb-false, lt-leb, le-ltb}
 use Rattle.semantics.specs.Call.{Cause, cause, firstOf}
-use Rattle.semantics.specs.Page.{Literal, conditionOf, Line, fact, rule, query}
+use Rattle.semantics.specs.Page.{Literal, conditionOf, Line, fact, rule, query, default}
 use Rattle.semantics.specs.ReadPage.{Fault, placed, orElse, outside, literalRanges, lineRanges, leftmost}
 use Rattle.semantics.proofs.Invariant.{NoCause, no-cause-holds}
 use Rattle.semantics.proofs.Proper.{LiteralsBelow, InRange}
@@ -67,6 +67,7 @@ abbrev pub Sized : Line → Type 0
 Sized (fact c l h) = Unit {0}
 Sized (rule c w op lits) = (1 ≤ length lits) × (length lits ≤ 8)
 Sized (query r c) = Unit {0}
+Sized (default c) = Unit {0}
 
 pub fields-in : (top n : ℕ) (line : Line) → Sized line → NoFault (lineRanges top n line) → InRange top n line
 fields-in top n (fact c l h) s w = (leb-false n c (w .1 .0 .0), ltb-false h l (w .1 .1 .1 .0 .1 .0), ltb-false top h (w .1 .1 .1 .0 .0))
@@ -74,12 +75,14 @@ fields-in top n (rule c v op lits) s w =
     let r = inside 1 top v (w .1 .1 .0 .0) in
     (leb-false n c (w .1 .0 .0), r .0, r .1, s .0, s .1, literals-below n lits (w .1 .1 .1 .1))
 fields-in top n (query r c) s w = leb-false n c (w .1 .1 .0 .0)
+fields-in top n (default c) s w = leb-false n c (w .1 .0 .0)
 
 pub range-passes : (top n : ℕ) (line : Line) → InRange top n line → leftmost 1 (lineRanges top n line) ≡ none
 unfolding leftmost
 range-passes top n (fact c l h) w = rw (lt-leb n c (w .0), le-ltb top l (omega (arith, w .1, w .2)), le-ltb top h (w .2), le-ltb h l (w .1))
 range-passes top n (rule c v op lits) w = rw (lt-leb n c (w .0), not-outside 1 top v (w .1) (w .2)) (literals-pass n 5 lits (w .5))
 range-passes top n (query r c) w = rw (lt-leb n c w)
+range-passes top n (default c) w = rw (lt-leb n c w)
 
 -- "23, .. told only if both are at most top", and at the high field
 pub crossed-within : (top n c l h : ℕ) {place : ℕ} → leftmost 1 (lineRanges top n (fact c l h)) ≡ some (record { number = 23; place = place })

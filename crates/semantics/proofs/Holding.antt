@@ -12,7 +12,7 @@ use Rattle.fixpoint.specs.Interval.{Interval, Assign}
 use Rattle.semantics.specs.Body.{ruleValue, lineBody, bodies, bodyless, largestOf, T}
 use Rattle.semantics.specs.Grade.{Op, foldFrom, largest}
 use Rattle.semantics.specs.Holding.{hasLow, firstWith, lineHolding}
-use Rattle.semantics.specs.Page.{Literal, Line, fact, rule, query, Page}
+use Rattle.semantics.specs.Page.{Literal, Line, fact, rule, query, default, Page}
 
 -- l has the number k among lines of which the first has the number j
 pub data Numbered : ℕ → List Line → ℕ → Line → Type 0 where
@@ -29,6 +29,7 @@ abbrev pub lowOf : ℕ → Assign → Line → ℕ
 lowOf top I (fact d l h) = l
 lowOf top I (rule d w op lits) = ruleValue top I w op lits .low
 lowOf top I (query r d) = 0
+lowOf top I (default d) = 0
 
 number-least : {j k : ℕ} {l : Line} {ls : List Line} → Numbered j ls k l → j ≤ k
 number-least here = omega arith
@@ -66,6 +67,7 @@ module _ (top : ℕ) (I : Assign) (c : ℕ) where
         | no n ↦ rw (ne-eqb d c n) (inl refl)
       ]
   adds (query r d) = inl refl
+  adds (default d) = inl refl
 
   own-adds : {l : Line} → BodyLine c l → (p : Interval) × (lineBody top I c l ≡ p ∷ []) × (lowOf top I l ≡ p .low)
   own-adds (fact-line {l} {h}) = (record { low = l; high = h }, rw (eq-eqb c c refl) refl, refl)

@@ -9,7 +9,7 @@ use native.Mathlib.Omega.{arith}
 use lib.Dec.{eqb}
 use borrow.Author.Tests.{eqb-true}
 use Rattle.fixpoint.specs.Sum.{bit}
-use Rattle.semantics.specs.Page.{Literal, positive, negative, mentions, Line, fact, rule, query, linesName, Page, names}
+use Rattle.semantics.specs.Page.{Literal, positive, negative, mentions, Line, fact, rule, query, default, linesName, Page, names}
 use Rattle.semantics.proofs.Proper.{AllInRange, Proper}
 use Rattle.semantics.proofs.Readings.{names-inside}
 use Rattle.semantics.proofs.Soundness.{both-true}
@@ -46,6 +46,7 @@ lines-negate-name (rule c w op lits ∷ ls) a b e =
       | inr h ↦ or-right (eqb c a && mentions lits b) (linesName ls a b) (lines-negate-name ls a b h)
     ]
 lines-negate-name (query r c ∷ ls) a b e = lines-negate-name ls a b e
+lines-negate-name (default c ∷ ls) a b e = lines-negate-name ls a b e
 
 pub negates-names : (page : Page) (a b : ℕ) → negates page a b ≡ true → names page a b ≡ true
 negates-names page = lines-negate-name (page .lines)
@@ -61,6 +62,7 @@ head-inside top n (rule c v op lits ∷ ls) w a b e =
       | inr h ↦ head-inside top n ls (w .1) a b h
     ]
 head-inside top n (query r c ∷ ls) w a b e = head-inside top n ls (w .1) a b e
+head-inside top n (default c ∷ ls) w a b e = head-inside top n ls (w .1) a b e
 
 -- layers fall along a chain, and more so through a negation
 chain-falls : {page : Page} {lay : ℕ → ℕ} → Layers page lay → {a b : ℕ} {t : Bool} → Chain page a b t → lay b + bit t ≤ lay a

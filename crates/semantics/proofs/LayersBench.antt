@@ -11,10 +11,10 @@ use lib.ListN.{drop}
 use borrow.Author.Tests.{ltb-true, not-true}
 use Rattle.fixpoint.specs.KnowledgeOrder.{bottom}
 use Rattle.fixpoint.specs.LeastFixpoint.{iter, lfp}
-use Rattle.semantics.specs.Area.{kind, span, linesOf, pageOf, every, allUnder, linesOk, sound}
+use Rattle.semantics.specs.Area.{kind, span, linesOf, pageOf, every, allUnder, linesOk, sound, defaultsOk}
 use Rattle.semantics.specs.Call.{firstOf}
 use Rattle.semantics.specs.Layers.{denies, linesNegate, negates, name, negate, empty, Loops, LowestLoop, LayersAnswer, refusedLayers, loopsAt, layered, layersCauses, LayersWritten, LayersOf}
-use Rattle.semantics.specs.Page.{mentions, linesName, Page, names}
+use Rattle.semantics.specs.Page.{mentions, linesName, Page, names, defaults}
 use Rattle.semantics.specs.Table.{tableFrom, allBelow}
 use Rattle.semantics.proofs.Proper.{Proper}
 use Rattle.semantics.proofs.Same.{sameList, sameNumbers, same-numbers, sameCause, same-cause}
@@ -80,7 +80,7 @@ law [] e = tt
 law (r ∷ rs) e = let h = both-true (every (tests r)) (test rs) e in passed r rs (every-true (tests r) (h .0)) (law rs (h .1))
 
 computed : test layersRows ≡ true
-unfolding layersRows areaBack areaSelf areaTwo areaThree areaPlain test sameList sameCause sound kind span linesOk allUnder pageOf linesOf allBelow mentions linesName denies linesNegate far spread lfp iter bottom largest raised raisePass tableFrom
+unfolding layersRows areaBack areaSelf areaTwo areaThree areaPlain test sameList sameCause sound kind span linesOk allUnder pageOf linesOf allBelow mentions linesName denies linesNegate far spread lfp iter bottom largest raised raisePass tableFrom defaultsOk defaults
 computed = refl
 
 pub layers-bench : LayersHold layersRows
@@ -88,7 +88,7 @@ layers-bench = law layersRows computed
 
 -- C passes need not show a layer of C: 0 names 1, 1 names !0. Pass 2 still changes something, and that shows the loop (`late-change`).
 unfoldable pub areaSlow : List ℕ
-areaSlow = 1 ∷ 2 ∷ 2 ∷ 14 ∷ 0 ∷ 1 ∷ 1 ∷ 1 ∷ 2 ∷ 1 ∷ 1 ∷ 1 ∷ 1 ∷ 1 ∷ []
+areaSlow = 1 ∷ 2 ∷ 2 ∷ 16 ∷ 0 ∷ 0 ∷ 0 ∷ 1 ∷ 1 ∷ 1 ∷ 2 ∷ 1 ∷ 1 ∷ 1 ∷ 1 ∷ 1 ∷ []
 
 pub slow-loop : (raised (pageOf areaSlow) 1 ≡ 0 ∷ 1 ∷ []) × (raised (pageOf areaSlow) 2 ≡ 1 ∷ 1 ∷ []) × Loops (pageOf areaSlow) 0
 unfolding areaSlow pageOf linesOf kind span mentions linesName denies linesNegate raised raisePass tableFrom largest

@@ -15,7 +15,8 @@ LayersHold (checks a s o left ∷ rs) = LayersOf o a s left × LayersHold rs
 -- 0 names 1; 1 names 0 and !2; 2 names 1: the chain 0, 1, 2, 1, 0 repeats 1
 unfoldable pub areaBack : List ℕ
 areaBack =
-    1 ∷ 3 ∷ 3 ∷ 20
+    1 ∷ 3 ∷ 3 ∷ 23
+    ∷ 0 ∷ 0 ∷ 0
     ∷ 0 ∷ 1 ∷ 1 ∷ 1 ∷ 2
     ∷ 1 ∷ 1 ∷ 1 ∷ 2 ∷ 0 ∷ 5
     ∷ 2 ∷ 1 ∷ 1 ∷ 1 ∷ 2
@@ -24,7 +25,8 @@ areaBack =
 -- 0 names 1, 1 names !1: 0 reaches a loop and is on none
 unfoldable pub areaSelf : List ℕ
 areaSelf =
-    1 ∷ 2 ∷ 2 ∷ 14
+    1 ∷ 2 ∷ 2 ∷ 16
+    ∷ 0 ∷ 0
     ∷ 0 ∷ 1 ∷ 1 ∷ 1 ∷ 2
     ∷ 1 ∷ 1 ∷ 1 ∷ 1 ∷ 3
     ∷ []
@@ -32,7 +34,8 @@ areaSelf =
 -- 0 names 1, 1 names 0, 1 names !2, 2 names 3, 3 names !2: {2, 3} is a loop through a negation, {0, 1} is one without
 unfoldable pub areaTwo : List ℕ
 areaTwo =
-    1 ∷ 4 ∷ 4 ∷ 25
+    1 ∷ 4 ∷ 4 ∷ 29
+    ∷ 0 ∷ 0 ∷ 0 ∷ 0
     ∷ 0 ∷ 1 ∷ 1 ∷ 1 ∷ 2
     ∷ 1 ∷ 1 ∷ 1 ∷ 2 ∷ 0 ∷ 5
     ∷ 2 ∷ 1 ∷ 1 ∷ 1 ∷ 6
@@ -42,7 +45,8 @@ areaTwo =
 -- 0 names !1, 1 names !2, 3 names 1 and 3: layers 2, 1, 0, 1
 unfoldable pub areaThree : List ℕ
 areaThree =
-    1 ∷ 4 ∷ 3 ∷ 20
+    1 ∷ 4 ∷ 3 ∷ 24
+    ∷ 0 ∷ 0 ∷ 0 ∷ 0
     ∷ 0 ∷ 1 ∷ 1 ∷ 1 ∷ 3
     ∷ 1 ∷ 1 ∷ 1 ∷ 1 ∷ 5
     ∷ 3 ∷ 1 ∷ 1 ∷ 2 ∷ 2 ∷ 6
@@ -51,7 +55,8 @@ areaThree =
 -- 0 names 1 and 2, 1 and 2 name 0: a loop without a negation; 1 names !3, and a fact and a query add nothing
 unfoldable pub areaPlain : List ℕ
 areaPlain =
-    1 ∷ 4 ∷ 5 ∷ 29
+    1 ∷ 4 ∷ 5 ∷ 33
+    ∷ 0 ∷ 0 ∷ 0 ∷ 0
     ∷ 0 ∷ 1 ∷ 1 ∷ 2 ∷ 2 ∷ 4
     ∷ 1 ∷ 1 ∷ 1 ∷ 2 ∷ 0 ∷ 7
     ∷ 2 ∷ 1 ∷ 1 ∷ 1 ∷ 0

@@ -12,6 +12,7 @@ pub mod UsedLength
 -- the text of a page
 pub mod TestLists
 pub mod FieldRanges
+pub mod Repeats
 pub mod ReadLines
 pub mod ReadProper
 -- what is read is what was written

@@ -4,7 +4,7 @@ use mathlib.Core.List.{List, [], _∷_}
 use Prim.Native.Nat.{ℕ}
 use native.Mathlib.Omega.{arith}
 use Rattle.fixpoint.specs.Interval.{Interval}
-use Rattle.semantics.specs.Page.{K, W}
+use Rattle.semantics.specs.Page.{K, W, defaults}
 use Rattle.semantics.proofs.Proper.{Proper}
 use Rattle.semantics.specs.Fields.{numberWithin, numberText}
 use Rattle.semantics.specs.Written.{textOf}
@@ -15,7 +15,7 @@ use Rattle.semantics.proofs.Outputs.{answers-exist}
 use Rattle.semantics.proofs.WrittenPages.{page-written, text-accepted}
 
 proper1 : Proper page1
-unfolding page1
+unfolding page1 defaults
 proper1 =
     record {
       top-least = omega arith;
@@ -24,6 +24,7 @@ proper1 =
       conditions-most = omega arith;
       few-lines = omega arith;
       ranged = ((omega arith, omega arith, omega arith), ((omega arith, omega arith, omega arith), ((omega arith, omega arith, omega arith, omega arith, omega arith, (omega arith, tt)), ((omega arith, omega arith, omega arith, omega arith, omega arith, (omega arith, tt)), (omega arith, (omega arith, tt))))));
+      single = λ c. omega arith;
     }
 
 -- `top,10`, `K,0,2,7`, `W,1,3,8`, `end,2`

@@ -11,7 +11,7 @@ use Rattle.fixpoint.specs.Interval.{Interval, Within}
 use Rattle.fixpoint.specs.LeastFixpoint.{lfp}
 use Rattle.fixpoint.specs.WellFounded.{closed}
 use Rattle.semantics.specs.Body.{T, unknownByDefault}
-use Rattle.semantics.specs.Page.{Reading, K, W, Line, fact, rule, query, Page}
+use Rattle.semantics.specs.Page.{Reading, K, W, Line, fact, rule, query, default, Page}
 use Rattle.semantics.proofs.Proper.{AllInRange, Proper}
 use Rattle.semantics.specs.Area.{sound, pageOf, areaOf}
 use Rattle.semantics.specs.ReadPage.{Refusal, textRefusal, pageRead, usedBy, refusalOf, refusedPage, readPage, readAs, readOf}
@@ -20,7 +20,7 @@ use Rattle.semantics.proofs.Readings.{plain-is, closed-is, plain-one, c
 use Rattle.semantics.proofs.ReadProper.{accepted-proper, SmallRefusal, read-small}
 use Rattle.semantics.proofs.ExactAreas.{proper-sound}
 use Rattle.semantics.proofs.RoundTrip.{page-area}
-use Rattle.semantics.proofs.UsedLength.{used-most}
+use Rattle.semantics.proofs.UsedLength.{mostUsed, used-most}
 use Rattle.semantics.proofs.TextNumbers.{number-short, number-four}
 use Rattle.semantics.specs.Output.{Query, queriesOf, Answers, AreAnswers, topFields, answerFields, endFields, refusalFields, printed, answerLines, pageOutput, PrintedAs, IsOutput}
 
@@ -40,6 +40,7 @@ queries-append [] ys = refl
 queries-append (fact c x y ∷ xs) ys = queries-append xs ys
 queries-append (rule c w op lits ∷ xs) ys = queries-append xs ys
 queries-append (query r c ∷ xs) ys = ap (λ (qs : List Query). record { reading = r; condition = c } ∷ qs) (queries-append xs ys)
+queries-append (default c ∷ xs) ys = queries-append xs ys
 
 -- the readings of a proper page
 module _ (page : Page) (w : Proper page) where
@@ -73,6 +74,7 @@ module _ (page : Page) (w : Proper page) where
   same-lines {A} {B} a b (query r c ∷ ls) h =
       ap₂ {C = List (List (List ℕ))} (λ (p : Interval) (more : List (List (List ℕ))). answerFields (record { reading = r; condition = c }) p ∷ more)
       (answers-one a b r c (h .0)) (same-lines a b ls (h .1))
+  same-lines {A} {B} a b (default c ∷ ls) h = same-lines a b ls (h .1)
 
   pub same-output : {A B : Answers} → AreAnswers page A → AreAnswers page B → pageOutput page A ≡ pageOutput page B
   unfolding pageOutput
@@ -148,6 +150,7 @@ queries-most [] = omega arith
 queries-most (fact c x y ∷ ls) = omega (arith, queries-most ls)
 queries-most (rule c v op lits ∷ ls) = omega (arith, queries-most ls)
 queries-most (query r c ∷ ls) = omega (arith, queries-most ls)
+queries-most (default c ∷ ls) = omega (arith, queries-most ls)
 
 module _ (page : Page) (w : Proper page) {A : Answers} (a : AreAnswers page A) where
   lines-short : (ls : List Line) → AllInRange (page .top) (page .conditions) ls → length (printed (answerLines A (queriesOf ls))) ≤ 14 * length (queriesOf ls)
@@ -166,6 +169,7 @@ module _ (page : Page) (w : Proper page) {A : Answers} (a : AreAnswers page A) w
         answer-short q (A r c) (omega (arith, h .0, w .conditions-most)) (omega (arith, i .low-in, w .top-most)) (omega (arith, i .high-in, w .top-most)),
         lines-short ls (h .1),
       )
+  lines-short (default c ∷ ls) h = lines-short ls (h .1)
 
   page-short : length (pageOutput page A) ≤ 14353
   page-short =
@@ -199,7 +203,7 @@ output-short text output p = go (textRefusal text) refl p
     go none e p = omega (arith, ap length (p .is), page-short (pageRead text) (accepted-proper text e) (p .are))
 
 -- Reading into an area that is long enough for every page: it is refused exactly if the text is.
-module _ (text area : List ℕ) (long : 12292 ≤ length area) where
+module _ (text area : List ℕ) (long : mostUsed ≤ length area) where
   no-cause : textRefusal text ≡ none → refusalOf text area ≡ none
   unfolding refusalOf areaOf
   no-cause e =

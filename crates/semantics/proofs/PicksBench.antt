@@ -9,23 +9,23 @@ use lib.Dec.{ltb, eqb}
 use lib.ListN.{length}
 use borrow.Author.Tests.{eqb-true, ltb-true, not-true}
 use Rattle.fixpoint.specs.Interval.{same}
-use Rattle.semantics.specs.Area.{kind, span, linesOf, pageOf, every, allUnder, linesOk, sound}
+use Rattle.semantics.specs.Area.{kind, span, linesOf, pageOf, every, allUnder, linesOk, sound, defaultsOk}
 use Rattle.semantics.specs.Body.{bodies, unknownByDefault, bodyless, largestOf, T}
 use Rattle.semantics.specs.Call.{firstOf, outcome}
 use Rattle.semantics.specs.Demand.{performFrom}
 use Rattle.semantics.specs.Grade.{rounding, divided, combine, foldFrom, foldAll, weighted, negated}
 use Rattle.semantics.specs.Operation.{queryCauses, ends}
-use Rattle.semantics.specs.Page.{mentions, linesName, Page}
+use Rattle.semantics.specs.Page.{mentions, linesName, Page, defaults}
 use Rattle.semantics.specs.Picks.{bookAfter, pickWaits, AllWait, PicksAnswer, refusedQueries, notWaiting, notAtRest, wrongFigures, acceptedPicks, PicksAs, PicksOf}
 use Rattle.semantics.specs.Reading.{pass, passes, closure}
 use Rattle.semantics.specs.Table.{tableFrom, allUnknown, anyBelow, allBelow, listed, intervalOf}
 use Rattle.semantics.specs.Worklist.{start, changes, waitingAfter, evaluated, lowestFrom, rest, spent, status}
-use Rattle.semantics.proofs.Areas.{all-at}
-use Rattle.semantics.proofs.AreaRows.{area1, area7, areaNine, chain, many}
+use Rattle.semantics.proofs.AreaRows.{area1, areaNoKind, areaNine, chain, many}
 use Rattle.semantics.proofs.Picks.{plain-figures}
 use Rattle.semantics.proofs.PicksRows.{PicksRow, checks, PicksHold, picksRows}
 use Rattle.semantics.proofs.Same.{sameList, sameNumbers, same-numbers, differ-numbers, sameCause, same-cause, sameStatus, same-status}
 use Rattle.semantics.proofs.Soundness.{both-true, Every, every-true}
+use Rattle.semantics.proofs.Table.{all-at}
 
 -- all picks wait
 abbrev waits? : Page → (qs picks : List ℕ) → Bool
@@ -99,7 +99,7 @@ law (checks a qs picks figures o ∷ rs) e =
     (passed a qs picks figures o (every-true (tests (checks a qs picks figures o)) (h .0)), law rs (h .1))
 
 computed : test picksRows ≡ true
-unfolding picksRows area1 area7 areaNine chain many test sameList sameCause sameStatus sound kind span linesOk allUnder pageOf linesOf allBelow same performFrom outcome pickWaits start changes waitingAfter evaluated lowestFrom closure pass passes listed tableFrom anyBelow allUnknown mentions linesName rounding divided combine foldFrom foldAll weighted negated bodies unknownByDefault bodyless largestOf T
+unfolding picksRows area1 areaNoKind areaNine chain many test sameList sameCause sameStatus sound kind span linesOk allUnder pageOf linesOf allBelow same performFrom outcome pickWaits start changes waitingAfter evaluated lowestFrom closure pass passes listed tableFrom anyBelow allUnknown mentions linesName rounding divided combine foldFrom foldAll weighted negated bodies unknownByDefault bodyless largestOf T defaultsOk defaults
 computed = refl
 
 pub picks-bench : PicksHold picksRows

@@ -3,7 +3,7 @@
 use mathlib.Core.List.{List, [], _∷_}
 use Prim.Native.Nat.{ℕ}
 use Rattle.semantics.specs.Picks.{PicksAnswer, refusedQueries, notWaiting, notAtRest, wrongFigures, acceptedPicks, PicksOf}
-use Rattle.semantics.proofs.AreaRows.{area1, area7, areaNine, chain, many}
+use Rattle.semantics.proofs.AreaRows.{area1, areaNoKind, areaNine, chain, many}
 
 -- a call and its answer
 pub data PicksRow : Type 0 where
@@ -41,8 +41,8 @@ picksRows =
     ∷ checks areaNine (0 ∷ []) (0 ∷ 0 ∷ []) (0 ∷ 9 ∷ []) acceptedPicks
     ∷ checks areaNine (0 ∷ []) (0 ∷ []) (0 ∷ 9 ∷ []) notAtRest
     -- 10, 11 and 12, and the order of the causes: of those that hold at once the first tells
-    ∷ checks area7 (0 ∷ []) [] [] (refusedQueries 10)
-    ∷ checks area7 [] (9 ∷ []) [] (refusedQueries 10)
+    ∷ checks areaNoKind (0 ∷ []) [] [] (refusedQueries 10)
+    ∷ checks areaNoKind [] (9 ∷ []) [] (refusedQueries 10)
     ∷ checks area1 [] (9 ∷ []) [] (refusedQueries 11)
     ∷ checks area1 (2 ∷ many) (9 ∷ []) [] (refusedQueries 11)
     ∷ checks area1 (0 ∷ 2 ∷ []) (9 ∷ []) [] (refusedQueries 12)

@@ -7,7 +7,8 @@ use Prim.Native.Nat.{ℕ, suc, _-_}
 use lib.ListN.{length, getD, drop}
 use borrow.Author.Tests.{eqb-true, eqb-false}
 use Rattle.semantics.specs.Area.{sound, pageOf, areaOf}
-use Rattle.semantics.specs.Text.{textLines, fieldsOf, topIn, conditionsIn, linesIn, pageIn}
+use Rattle.semantics.specs.Page.{Line}
+use Rattle.semantics.specs.Text.{textLines, fieldsOf, lineIn, topIn, conditionsIn, linesIn, pageIn}
 use Rattle.semantics.specs.ReadPage.{badLine, textRefusal, pageRead, usedBy, refusalOf, readOf}
 use Rattle.semantics.specs.Fields.{joined, endedLines}
 use Rattle.semantics.specs.Written.{lineTexts, textOf}
@@ -24,12 +25,13 @@ unfolding readOf
 read-sound bytes area e = rw e (proper-sound (pageRead bytes) (drop (usedBy bytes) area) (accepted-proper bytes (good-read bytes area e .text)))
 
 -- What is read is what was written: an accepted text is the text of its page.
-texts-back : (top n k : ℕ) (ls : List (List ℕ)) → badLine top n k ls ≡ none → lineTexts (linesIn ls) ≡ ls
+texts-back : (top n k : ℕ) (before : List Line) (ls : List (List ℕ)) → badLine top n k before ls ≡ none → lineTexts (linesIn ls) ≡ ls
 unfolding linesIn
-texts-back top n k [] e = refl
-texts-back top n k (l ∷ ls) e =
-    let w = good-line top n k l ls e in
-    ap₂ {C = List (List ℕ)} (λ x xs. x ∷ xs) (ap joined (line-back (fieldsOf l) (w .form)) ∙ joined-fields-of l) (texts-back top n (suc k) ls (w .others))
+texts-back top n k before [] e = refl
+texts-back top n k before (l ∷ ls) e =
+    let w = good-line top n k before l ls e in
+    ap₂ {C = List (List ℕ)} (λ x xs. x ∷ xs) (ap joined (line-back (fieldsOf l) (w .form)) ∙ joined-fields-of l)
+    (texts-back top n (suc k) (lineIn (fieldsOf l) ∷ before) ls (w .others))
 
 lines-cons : (s : List ℕ) → (length s ≡ 0 → ⊥) → textLines s ≡ getD (textLines s) 0 [] ∷ drop 1 (textLines s)
 lines-cons [] n = absurd (n refl)
@@ -45,7 +47,7 @@ read-written bytes e =
     ap endedLines
     (ap₂ {C = List (List ℕ)} (λ x xs. x ∷ xs)
     (ap joined (head-back (fieldsOf (getD ls 0 [])) (w .form)) ∙ joined-fields-of (getD ls 0 []))
-    (texts-back (topIn ls) (conditionsIn ls) 2 (drop 1 ls) (w .others))
+    (texts-back (topIn ls) (conditionsIn ls) 2 [] (drop 1 ls) (w .others))
     ∙ sym (lines-cons bytes n))
     ∙ ended-lines-of bytes n (eqb-true (getD bytes (length bytes - 1) 0) 10 (t .ended))
 

@@ -13,7 +13,7 @@ use Rattle.fixpoint.specs.LeastFixpoint.{lfp}
 use Rattle.fixpoint.specs.System.{System, Agrees}
 use Rattle.fixpoint.specs.WellFounded.{closed}
 use Rattle.semantics.specs.Body.{T, unknownByDefault}
-use Rattle.semantics.specs.Page.{Literal, conditionOf, mentions, Line, fact, rule, query, linesName, Page, names}
+use Rattle.semantics.specs.Page.{Literal, conditionOf, mentions, Line, fact, rule, query, default, linesName, Page, names}
 use Rattle.semantics.proofs.Proper.{LiteralsBelow, AllInRange, Proper}
 use Rattle.semantics.specs.Reading.{IsPlain, IsSupportOf, IsClosed}
 use Rattle.fixpoint.proofs.LeastFixpoint.{least-unique, ext}
@@ -45,6 +45,7 @@ named-inside top n (rule c v op lits ∷ ls) w a b e =
       | inr h ↦ named-inside top n ls (w .1) a b h
     ]
 named-inside top n (query r c ∷ ls) w a b e = named-inside top n ls (w .1) a b e
+named-inside top n (default c ∷ ls) w a b e = named-inside top n ls (w .1) a b e
 
 module _ (page : Page) (w : Proper page) where
   pub names-inside : (a b : ℕ) → names page a b ≡ true → b < page .conditions

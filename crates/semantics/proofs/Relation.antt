@@ -8,10 +8,10 @@ use native.Mathlib.Omega.{arith}
 use lib.Dec.{eqb}
 use borrow.Author.Tests.{eq-eqb}
 use Rattle.fixpoint.specs.Interval.{Interval, Within, Assign}
-use Rattle.fixpoint.specs.KnowledgeOrder.{Under}
-use Rattle.semantics.specs.Body.{literalValue, ruleValue, onlyIf, lineBody, bodies, bodyless, largestOf, T}
+use Rattle.fixpoint.specs.KnowledgeOrder.{Under, unknown, certainly-false}
+use Rattle.semantics.specs.Body.{literalValue, ruleValue, onlyIf, lineBody, bodies, unknownByDefault, bodyless, largestOf, T}
 use Rattle.semantics.specs.Grade.{lower, upper, divided, Op, combine, endwise, foldFrom, foldAll, weighted, negated, largest}
-use Rattle.semantics.specs.Page.{Literal, positive, negative, conditionOf, mentions, Line, fact, rule, query, linesName, Page, names}
+use Rattle.semantics.specs.Page.{Literal, positive, negative, conditionOf, mentions, Line, fact, rule, query, default, linesName, Page, names}
 use Rattle.semantics.proofs.Proper.{LiteralsBelow, InRange, AllInRange, Proper}
 use Rattle.semantics.proofs.Ops.{divided-mono, divided-ends, divided-bounded, combine-mono, combine-ends, combine-bounded}
 
@@ -69,6 +69,7 @@ module _ (n : ℕ) {top : ℕ} {R : Interval → Interval → Type 0} (k : Respe
       chosen (eqb d c) (λ e. rule-kept v op lits (w .0 .2) (w .0 .5) (λ b m f. h b m (left (eqb d c && mentions lits b) (linesName ls c b) (rw (e, f)))))
       (bodies-kept ls (w .1) c (λ b m f. h b m (right (eqb d c && mentions lits b) (linesName ls c b) f)))
   bodies-kept (query r d ∷ ls) w c h = bodies-kept ls (w .1) c h
+  bodies-kept (default d ∷ ls) w c h = bodies-kept ls (w .1) c h
 
   greatest-kept : (d : Interval) → R d d → {ps qs : List Interval} → Forall₂ R ps qs → R (largestOf d ps) (largestOf d qs)
   unfolding largestOf
@@ -77,7 +78,11 @@ module _ (n : ℕ) {top : ℕ} {R : Interval → Interval → Type 0} (k : Respe
 
 bodyless-kept : {R : Interval → Interval → Type 0} (page : Page) → Respected (page .top) R → (c : ℕ) → R (bodyless page c) (bodyless page c)
 unfolding bodyless
-bodyless-kept page k c = k .facts 0 0 (omega arith) (omega arith)
+bodyless-kept {R} page k c = go (unknownByDefault page c)
+  where
+    go : (t : Bool) → R (cond t (unknown (page .top)) certainly-false) (cond t (unknown (page .top)) certainly-false)
+    go true = k .facts 0 (page .top) (omega arith) (omega arith)
+    go false = k .facts 0 0 (omega arith) (omega arith)
 
 -- if R holds between I and J wherever the condition looks, it holds between the body values
 pub T-kept : {R : Interval → Interval → Type 0} (page : Page) → Proper page → Respected (page .top) R → (I J : Assign) (c : ℕ)

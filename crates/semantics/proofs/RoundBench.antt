@@ -11,10 +11,10 @@ use Rattle.fixpoint.specs.KnowledgeOrder.{Alike}
 use Rattle.fixpoint.specs.LeastFixpoint.{iter}
 use Rattle.fixpoint.specs.Support.{roof, raise, close}
 use Rattle.fixpoint.specs.Reachable.{IsCount}
-use Rattle.semantics.specs.Area.{areaOf, pageOf, sound, kind, span, linesOf, allUnder, linesOk, lineCodes, every}
+use Rattle.semantics.specs.Area.{areaOf, pageOf, sound, kind, span, linesOf, allUnder, linesOk, lineCodes, every, defaultsOk}
 use Rattle.semantics.specs.Body.{bodies, unknownByDefault, bodyless, largestOf, T}
 use Rattle.semantics.specs.Grade.{rounding, divided, combine, foldFrom, foldAll, weighted, negated}
-use Rattle.semantics.specs.Page.{mentions, linesName, Page}
+use Rattle.semantics.specs.Page.{mentions, linesName, Page, defaults}
 use Rattle.semantics.proofs.Proper.{Proper}
 use Rattle.semantics.specs.Reading.{pass, passes, closure, reached}
 use Rattle.semantics.proofs.Rows.{page1, page3, page4, page5, page6}
@@ -22,7 +22,6 @@ use Rattle.semantics.specs.Table.{intervalOf, member, tableFrom, anyBelo
 use Rattle.semantics.proofs.RoundRows.{CountRow, counts, Counts, AllCount, chain, open0, loops, countRows}
 use Rattle.semantics.specs.Rounds.{IsRounds}
 use Rattle.fixpoint.proofs.Evaluation.{same-true}
-use Rattle.semantics.proofs.Areas.{all-true, all-at}
 use Rattle.semantics.proofs.Bench.{proper}
 use Rattle.semantics.proofs.Closure.{reached-closed}
 use Rattle.semantics.proofs.Computed.{rounds-iter}
@@ -30,6 +29,7 @@ use Rattle.semantics.proofs.Readings.{page-system}
 use Rattle.semantics.proofs.Soundness.{both-true, Every, every-true, sound-proper}
 use Rattle.semantics.proofs.Sweeps.{sweep, sweeps, supportList, closeList, rounds}
 use Rattle.semantics.proofs.RoundsReached.{count-counted}
+use Rattle.semantics.proofs.Table.{all-true, all-at}
 
 -- I and J are the same on the members of m
 unfoldable pub likeAt : List Bool → Assign → Assign → ℕ → Bool
@@ -101,7 +101,7 @@ law [] e = tt
 law (r ∷ rs) e = let h = both-true (every (tests r)) (test rs) e in (passed r (every-true (tests r) (h .0)), law rs (h .1))
 
 computed : test countRows ≡ true
-unfolding countRows chain open0 loops page1 page3 page4 page5 page6 test stillAt at like likeAt allBelow same rounding divided combine foldFrom foldAll weighted negated mentions linesName bodies unknownByDefault bodyless largestOf T tableFrom anyBelow listed pass passes closure sweep sweeps allUnknown supportList closeList rounds roof raise areaOf sound kind span allUnder linesOk lineCodes
+unfolding countRows chain open0 loops page1 page3 page4 page5 page6 test stillAt at like likeAt allBelow same rounding divided combine foldFrom foldAll weighted negated mentions linesName bodies unknownByDefault bodyless largestOf T tableFrom anyBelow listed pass passes closure sweep sweeps allUnknown supportList closeList rounds roof raise areaOf sound kind span allUnder linesOk lineCodes defaultsOk defaults pageOf linesOf
 computed = refl
 
 pub count-bench : AllCount countRows

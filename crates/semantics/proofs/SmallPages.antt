@@ -9,7 +9,7 @@ use native.Mathlib.Omega.{arith}
 use lib.Dec.{eqb, ltb, leb}
 use lib.ListN.{length, getD, drop}
 use borrow.Author.Tests.{eqb-true, eq-eqb, ltb-true, lt-ltb, leb-true}
-use Rattle.semantics.specs.Page.{Literal, positive, negative, conditionOf, Line, fact, Page}
+use Rattle.semantics.specs.Page.{Literal, positive, negative, conditionOf, Line, fact, Page, defaults}
 use Rattle.semantics.specs.Area.{usedOf, areaOf}
 use Rattle.semantics.specs.ReadPage.{readPage, readOf}
 use Rattle.semantics.specs.Fields.{numberWithin, numberText}
@@ -297,6 +297,17 @@ lines-ranged : (n : ℕ) (ls : List Line) → SmallLines n ls → AllInRange 1 n
 lines-ranged n [] h = tt
 lines-ranged n (l ∷ ls) h = (line-ranged n (h .0), lines-ranged n ls (h .1))
 
+-- none has a D line
+line-single : (n : ℕ) (l : Line) (ls : List Line) → SmallLine n l → (c : ℕ) → defaults (l ∷ ls) c ≡ defaults ls c
+unfolding defaults
+line-single n l ls (smallFact i j k) c = refl
+line-single n l ls (smallRule i j) c = refl
+
+lines-single : (n : ℕ) (ls : List Line) → SmallLines n ls → (c : ℕ) → defaults ls c ≡ 0
+unfolding defaults
+lines-single n [] h c = refl
+lines-single n (l ∷ ls) h c = line-single n l ls (h .0) c ∙ lines-single n ls (h .1) c
+
 pub small-proper : (p : Page) → SmallPage p → Proper p
 small-proper p w =
     record {
@@ -306,6 +317,7 @@ small-proper p w =
       conditions-most = omega (arith, w .conditions-most);
       few-lines = omega (arith, w .few-lines);
       ranged = rw (w .top-is) (lines-ranged (p .conditions) (p .lines) (w .each));
+      single = λ c. omega (arith, lines-single (p .conditions) (p .lines) (w .each) c);
     }
 
 -- "the reader, lent a page area long enough, accepts each", and reads the page that was written

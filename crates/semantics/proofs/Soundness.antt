@@ -3,27 +3,33 @@ use mathlib.Core.Path.{_≡_, refl, sym, ap, subst}
 use mathlib.Core.Bool.{Bool, true, false, cond, _&&_, false≢true}
 use mathlib.Core.List.{List, [], _∷_, map}
 use Prim.Native.Nat.{ℕ, zero, suc, _+_, _*_, _-_, _/_, _%_, _≤_, _<_, min}
+use native.Mathlib.Decide.{decLt}
 use native.Mathlib.Omega.{arith}
 use lib.Dec.{eqb, leb, ltb}
 use lib.ListN.{length, getD, take, drop, length-take, length-drop, length-map}
-use borrow.Author.Tests.{leb-true, ltb-true, eqb-true}
-use Rattle.semantics.specs.Area.{Kind, factKind, ruleKind, queryKind, noKind, kind, spanAs, span, literalOf, literalsAt, lineAs, linesOf, pageOf, every, allUnder, fieldTests, lineTests, headTests, linesOk, sound, firstLine, topOf, conditionsOf, countOf, usedOf}
-use Rattle.semantics.specs.Page.{Literal, positive, negative, conditionOf, Line, Page}
+use borrow.Author.Tests.{leb-true, ltb-true, eqb-true, ne-eqb}
+use Rattle.semantics.specs.Area.{Kind, factKind, ruleKind, queryKind, defaultKind, noKind, kind, spanAs, span, literalOf, literalsAt, lineAs, linesOf, pageOf, every, allUnder, fieldTests, lineTests, headTests, linesOk, defaultTests, defaultsOk, sound, firstLine, defaultOf, topOf, conditionsOf, countOf, usedOf}
+use Rattle.semantics.specs.Page.{Literal, positive, negative, conditionOf, Line, fact, rule, query, default, Page, defaults}
 use Rattle.semantics.proofs.Proper.{LiteralsBelow, InRange, AllInRange, Proper}
+use Rattle.semantics.proofs.Table.{all-at}
 
 -- all tests of a list hold
 abbrev pub Every : List Bool → Type 0
 Every [] = Unit {0}
 Every (t ∷ ts) = (t ≡ true) × Every ts
 
-pub every-true : (ts : List Bool) → every ts ≡ true → Every ts
-every-true [] e = tt
-every-true (true ∷ ts) e = (refl, every-true ts e)
-every-true (false ∷ ts) e = absurd (false≢true e)
+pub every-of : (ts : List Bool) → Every ts → every ts ≡ true
+every-of [] h = refl
+every-of (t ∷ ts) h = rw (h .0) (every-of ts (h .1))
 
 pub both-true : (a b : Bool) → (a && b) ≡ true → (a ≡ true) × (b ≡ true)
 both-true true b e = (refl, e)
 both-true false b e = absurd (false≢true e)
+
+pub every-true : (ts : List Bool) → every ts ≡ true → Every ts
+every-true [] e = tt
+every-true (true ∷ ts) e = (refl, every-true ts e)
+every-true (false ∷ ts) e = absurd (false≢true e)
 
 -- the condition of a literal's number
 pub subject-of : (k : ℕ) → conditionOf (literalOf k) ≡ k / 2
@@ -50,6 +56,7 @@ in-range top n (ruleKind op) p s c h =
     let z = sizes p s in
     (c, omega (arith, leb-true), omega (arith, leb-true), omega (arith, leb-true), omega (arith, leb-true), below n (literalsAt p) (h .1 .1 .1 .1 .0))
 in-range top n queryKind p s c h = c
+in-range top n defaultKind p s c h = c
 in-range top n noKind p s c h = absurd (false≢true (h .0))
 
 all-in-range : (top n k left : ℕ) (p : List ℕ) → left ≤ length p → linesOk top n k left p ≡ true → AllInRange top n (linesOf k p)
@@ -67,16 +74,49 @@ unfolding linesOf
 length-lines zero p = refl
 length-lines (suc k) p = ap suc (length-lines k (drop (span p) p))
 
+-- what soundness says, test by test
+pub record Sound (a : List ℕ) : Type 0 where
+  pub head : Every (headTests a)
+  pub lines : linesOk (topOf a) (conditionsOf a) (countOf a) (usedOf a - firstLine a) (drop (firstLine a) a) ≡ true
+  pub single : (c : ℕ) → c < conditionsOf a → defaultOf a c ≤ 1
+  pub told : (c : ℕ) → c < conditionsOf a → defaultOf a c ≡ defaults (pageOf a .lines) c
+
+pub sound-parts : (a : List ℕ) → sound a ≡ true → Sound a
+unfolding sound defaultsOk
+sound-parts a e =
+    let s = every-true (every (headTests a) ∷ linesOk (topOf a) (conditionsOf a) (countOf a) (usedOf a - firstLine a) (drop (firstLine a) a) ∷ defaultsOk a ∷ []) e in
+    let d : (c : ℕ) → c < conditionsOf a → Every (defaultTests a c) = λ c l. every-true (defaultTests a c) (all-at (conditionsOf a) (λ c. every (defaultTests a c)) (s .1 .1 .0) c l) in
+    record {
+      head = every-true (headTests a) (s .0);
+      lines = s .1 .0;
+      single = λ c l. leb-true (defaultOf a c) 1 (d c l .0);
+      told = λ c l. eqb-true (defaultOf a c) (defaults (pageOf a .lines) c) (d c l .1 .0);
+    }
+
+-- no D line of a condition at or over C is in range
+none-over : (top n : ℕ) (ls : List Line) → AllInRange top n ls → (c : ℕ) → n ≤ c → defaults ls c ≡ 0
+unfolding defaults
+none-over top n [] w c h = refl
+none-over top n (fact d l u ∷ ls) w c h = none-over top n ls (w .1) c h
+none-over top n (rule d v op lits ∷ ls) w c h = none-over top n ls (w .1) c h
+none-over top n (query r d ∷ ls) w c h = none-over top n ls (w .1) c h
+none-over top n (default d ∷ ls) w c h = rw (ne-eqb d c (λ e. omega (arith, w .0))) (omega (arith, none-over top n ls (w .1) c h))
+
 pub sound-proper : (a : List ℕ) → sound a ≡ true → Proper (pageOf a)
-unfolding sound pageOf
+unfolding pageOf
 sound-proper a e =
-    let b = both-true (every (headTests a)) (linesOk (topOf a) (conditionsOf a) (countOf a) (usedOf a - firstLine a) (drop (firstLine a) a)) e in
-    let h = every-true (headTests a) (b .0) in
+    let s = sound-parts a e in
+    let h = s .head in
+    let r = all-in-range (topOf a) (conditionsOf a) (countOf a) (usedOf a - firstLine a) (drop (firstLine a) a) (simp length-drop (omega (arith, leb-true))) (s .lines) in
     record {
       top-least = omega (arith, leb-true);
       top-most = omega (arith, leb-true);
       conditions-least = omega (arith, leb-true);
       conditions-most = omega (arith, leb-true);
       few-lines = rw length-lines (omega (arith, leb-true));
-      ranged = all-in-range (topOf a) (conditionsOf a) (countOf a) (usedOf a - firstLine a) (drop (firstLine a) a) (simp length-drop (omega (arith, leb-true))) (b .1);
+      ranged = r;
+      single = λ c. elim (decLt c (conditionsOf a)) [
+        | yes l ↦ omega (arith, s .single c l, s .told c l)
+        | no l ↦ omega (arith, none-over (topOf a) (conditionsOf a) (linesOf (countOf a) (drop (firstLine a) a)) r c (omega arith))
+      ];
     }

@@ -6,7 +6,7 @@ use Prim.Native.Nat.{ℕ}
 use Rattle.semantics.specs.Worklist.{Status, rest, spent}
 use Rattle.semantics.specs.Call.{Answer, refused, changed}
 use Rattle.semantics.specs.Operation.{Opening, refusedOpening, openedWith}
-use Rattle.semantics.proofs.AreaRows.{area1, area7, spoilt1, nines}
+use Rattle.semantics.proofs.AreaRows.{area1, areaNoKind, spoilt1, nines}
 use Rattle.semantics.specs.Stalls.{Stall, first, second, openStall, evaluateStall, Told, TurnAnswer, refusedTurn, turned, turnOf}
 
 pub data StallRow : Type 0 where
@@ -56,18 +56,18 @@ stallRows =
     ∷ turnsOn area1 (both after0 after3) 4 (turned (tell 3 spent) (tell 1 rest)) (both after3 after4)
     ∷ turnsOn area1 (both after4 after0) 3 (turned (tell 0 rest) (tell 3 spent)) (both after4 after3)
     ∷ turnsOn area1 (both after0 after4) 3 (turned (tell 3 spent) (tell 0 rest)) (both after3 after4)
-    ∷ turnsOn area7 (both after0 []) 3 (refusedTurn 10 0) (both after0 [])
+    ∷ turnsOn areaNoKind (both after0 []) 3 (refusedTurn 10 0) (both after0 [])
     ∷ turnsOn area1 (after0 ++ (9 ∷ 9 ∷ 9 ∷ 9 ∷ 9 ∷ [])) 3 (refusedTurn 60 0) (after0 ++ (9 ∷ 9 ∷ 9 ∷ 9 ∷ 9 ∷ []))
     ∷ turnsOn area1 (both spoilt1 spoilt1) 3 (refusedTurn 14 1) (both spoilt1 spoilt1)
     ∷ turnsOn area1 (both after0 spoilt1) 3 (refusedTurn 14 2) (both after0 spoilt1)
     ∷ opensOn area1 first (0 ∷ []) (both spoilt1 spoilt1) (openedWith 2 2 22 2) (both after0 spoilt1)
     ∷ opensOn area1 second (0 ∷ []) (both spoilt1 spoilt1) (openedWith 2 2 22 2) (both spoilt1 after0)
-    ∷ opensOn area7 second [] nines (refusedOpening 10) nines
+    ∷ opensOn areaNoKind second [] nines (refusedOpening 10) nines
     ∷ opensOn area1 second [] nines (refusedOpening 60) nines
     ∷ opensOn area1 second [] (both after0 after0) (refusedOpening 11) (both after0 after0)
     ∷ opensOn area1 second (2 ∷ []) (both after0 after0) (refusedOpening 12) (both after0 after0)
     ∷ evaluatesOn area1 second (both spoilt1 after0) 0 (changed 2) (both spoilt1 after1)
-    ∷ evaluatesOn area7 second nines 0 (refused 10) nines
+    ∷ evaluatesOn areaNoKind second nines 0 (refused 10) nines
     ∷ evaluatesOn area1 first (after0 ++ (9 ∷ [])) 0 (refused 60) (after0 ++ (9 ∷ []))
     ∷ evaluatesOn area1 second (both after0 spoilt1) 2 (refused 14) (both after0 spoilt1)
     ∷ evaluatesOn area1 second (both spoilt1 after0) 2 (refused 15) (both spoilt1 after0)

@@ -6,12 +6,15 @@ use Prim.Native.Nat.{ℕ}
 use lib.Dec.{eqb}
 use borrow.Author.Tests.{eqb-true}
 use lib.ListN.{replicate}
+use Rattle.semantics.specs.Page.{defaults}
+use Rattle.semantics.specs.Body.{unknownByDefault}
+use Rattle.semantics.specs.Table.{tableFrom}
 use Rattle.semantics.specs.Area.{every, areaOf, lineCodes}
 use Rattle.semantics.specs.ReadPage.{ReadAnswer, refusedPage, readPage, ReadOutcome, leftmost, headFault, lineFault, badLine, badLineOf, textRefusal, refusalOf, readOf, lineOf, startFrom, startOf}
-use Rattle.semantics.specs.Text.{textLines, fieldsOf, isNumber, numberIn, isLiteral, literalIn, allLiterals, isOp, opIn, isReading, readingIn, isHead, isFact, isRule, isQuery, hasForm, lineIn, linesIn, pageIn}
+use Rattle.semantics.specs.Text.{textLines, fieldsOf, isNumber, numberIn, isLiteral, literalIn, allLiterals, isOp, opIn, isReading, readingIn, isHead, isFact, isRule, isQuery, isDefault, hasForm, lineIn, linesIn, pageIn}
 use Rattle.semantics.proofs.Same.{sameList, sameNumbers, same-numbers}
 use Rattle.semantics.proofs.Soundness.{both-true, Every, every-true}
-use Rattle.semantics.proofs.TextRows.{TextRow, reads, answers, shows, HoldsIn, AllHoldIn, textRows, head, noEnd, fact34, zeroFirst, fact43, fact44, last, past, top200, top201, eight, nine, example, query, three, top1000, conditions512, conditions513, weight3, weight4, weight0, letters, formAndRange, ten, farFact, lowOver, highOver, full, farCrossed, farLowOver, overCrossed, farRule, farWeight0, weight0Literal, weight11Literal, negationFar, literalsFar, farQuery, zeros, farAfter, top0, conditions0, bothOver, noLine, queries, noForm, nines}
+use Rattle.semantics.proofs.TextRows.{TextRow, reads, answers, shows, HoldsIn, AllHoldIn, textRows, head, noEnd, fact34, zeroFirst, fact43, fact44, last, past, top200, top201, eight, nine, example, query, three, top1000, conditions512, conditions513, weight3, weight4, weight0, letters, formAndRange, ten, farFact, lowOver, highOver, full, farCrossed, farLowOver, overCrossed, farRule, farWeight0, weight0Literal, weight11Literal, negationFar, literalsFar, farQuery, zeros, farAfter, top0, conditions0, bothOver, noLine, queries, noForm, tenThree, unknown0, unknown2, unknown5, unknown511, otherLetter, farOtherLetter, noLetter, emptyLetter, twoLetters, fourFields, letterFirst, smallLetter, nines}
 
 sameRead : ReadAnswer → ReadAnswer → Bool
 sameRead (refusedPage k l i) (refusedPage n m j) = every (eqb k n ∷ eqb l m ∷ eqb i j ∷ [])
@@ -48,7 +51,7 @@ law [] e = tt
 law (r ∷ rs) e = let h = both-true (every (tests r)) (test rs) e in (passed r (every-true (tests r) (h .0)), law rs (h .1))
 
 computed : test textRows ≡ true
-unfolding textRows head noEnd fact34 zeroFirst fact43 fact44 last past top200 top201 eight nine example query three top1000 conditions512 conditions513 weight3 weight4 weight0 letters formAndRange ten farFact lowOver highOver full farCrossed farLowOver overCrossed farRule farWeight0 weight0Literal weight11Literal negationFar literalsFar farQuery zeros farAfter top0 conditions0 bothOver noLine queries noForm nines test sameList sameRead readOf refusalOf textRefusal badLineOf badLine headFault lineFault leftmost lineOf startFrom textLines fieldsOf isNumber numberIn isLiteral literalIn allLiterals isOp opIn isReading readingIn isHead isFact isRule isQuery hasForm lineIn linesIn pageIn areaOf lineCodes
+unfolding textRows head noEnd fact34 zeroFirst fact43 fact44 last past top200 top201 eight nine example query three top1000 conditions512 conditions513 weight3 weight4 weight0 letters formAndRange ten farFact lowOver highOver full farCrossed farLowOver overCrossed farRule farWeight0 weight0Literal weight11Literal negationFar literalsFar farQuery zeros farAfter top0 conditions0 bothOver noLine queries noForm tenThree unknown0 unknown2 unknown5 unknown511 otherLetter farOtherLetter noLetter emptyLetter twoLetters fourFields letterFirst smallLetter nines test sameList sameRead readOf refusalOf textRefusal badLineOf badLine headFault lineFault leftmost lineOf startFrom textLines fieldsOf isNumber numberIn isLiteral literalIn allLiterals isOp opIn isReading readingIn isHead isFact isRule isQuery isDefault hasForm lineIn linesIn pageIn defaults unknownByDefault tableFrom areaOf lineCodes
 computed = refl
 
 pub text-bench : AllHoldIn textRows

@@ -9,10 +9,10 @@ use lib.Dec.{eqb, leb}
 use lib.ListN.{length, getD, drop, length-map}
 use borrow.Author.Tests.{eqb-true, leb-true, le-leb}
 use Rattle.semantics.specs.Grade.{Op, M, X, L, B, P}
-use Rattle.semantics.specs.Page.{Literal, positive, negative, conditionOf, Reading, K, W, Line, fact, rule, query}
+use Rattle.semantics.specs.Page.{Literal, positive, negative, conditionOf, Reading, K, W, Line, fact, rule, query, default}
 use Rattle.semantics.proofs.Proper.{LiteralsBelow, InRange}
 use Rattle.semantics.specs.Area.{every}
-use Rattle.semantics.specs.Text.{field, isNumber, numberIn, isNegated, isLiteral, literalIn, allLiterals, isLetter, isOp, opIn, isReading, readingIn, headForm, isHead, factForm, isFact, ruleForm, isRule, queryForm, isQuery, hasForm, lineIn}
+use Rattle.semantics.specs.Text.{field, isNumber, numberIn, isNegated, isLiteral, literalIn, allLiterals, isLetter, isOp, opIn, isReading, readingIn, headForm, isHead, factForm, isFact, ruleForm, isRule, queryForm, isQuery, defaultForm, isDefault, hasForm, lineIn}
 use Rattle.semantics.specs.ReadPage.{literalRanges, lineRanges}
 use Rattle.semantics.specs.Fields.{numberText, readingLetter}
 use Rattle.semantics.specs.Written.{literalText, opLetter, lineFields, headFields}
@@ -153,20 +153,34 @@ query-back fs e = let h = every-true (queryForm fs) e in go fs (eqb-true (length
     go (f ∷ g ∷ h ∷ []) l p a b = rw (reading-back g a, number-back h b, letter-back 81 f p)
     go (f ∷ g ∷ h ∷ i ∷ fs) l p a b = absurd (omega arith)
 
+default-back : (fs : List (List ℕ)) → isDefault fs ≡ true → lineFields (default (numberIn (field fs 1))) ≡ fs
+unfolding isDefault
+default-back fs e = let h = every-true (defaultForm fs) e in go fs (eqb-true (length fs) 3 (h .1 .0)) (h .0) (h .1 .1 .0) (h .1 .1 .1 .0)
+  where
+    go : (fs : List (List ℕ)) → length fs ≡ 3 → isLetter 68 (field fs 0) ≡ true → isNumber (field fs 1) ≡ true → isLetter 85 (field fs 2) ≡ true
+        → lineFields (default (numberIn (field fs 1))) ≡ fs
+    go [] l p a b = absurd (omega arith)
+    go (f ∷ []) l p a b = absurd (omega arith)
+    go (f ∷ g ∷ []) l p a b = absurd (omega arith)
+    go (f ∷ g ∷ h ∷ []) l p a b = rw (number-back g a, letter-back 68 f p, letter-back 85 h b)
+    go (f ∷ g ∷ h ∷ i ∷ fs) l p a b = absurd (omega arith)
+
 -- Which form a line has.
 pub data Form (fs : List (List ℕ)) : Type 0 where
   a-fact : isFact fs ≡ true → lineIn fs ≡ fact (numberIn (field fs 1)) (numberIn (field fs 2)) (numberIn (field fs 3)) → Form fs
   a-rule : isRule fs ≡ true → lineIn fs ≡ rule (numberIn (field fs 1)) (numberIn (field fs 2)) (opIn (field fs 3)) (map literalIn (drop 4 fs)) → Form fs
   a-query : isQuery fs ≡ true → lineIn fs ≡ query (readingIn (field fs 1)) (numberIn (field fs 2)) → Form fs
+  a-default : isDefault fs ≡ true → lineIn fs ≡ default (numberIn (field fs 1)) → Form fs
 
 form-of : (fs : List (List ℕ)) → hasForm fs ≡ true → Form fs
 unfolding hasForm lineIn
-form-of fs = go (isFact fs) (isRule fs) refl refl
+form-of fs = go (isFact fs) (isRule fs) (isQuery fs) refl refl refl
   where
-    go : (t u : Bool) → isFact fs ≡ t → isRule fs ≡ u → (t || (u || isQuery fs)) ≡ true → Form fs
-    go true u p q h = a-fact p (rw p)
-    go false true p q h = a-rule q (rw (p, q))
-    go false false p q h = a-query h (rw (p, q))
+    go : (t u v : Bool) → isFact fs ≡ t → isRule fs ≡ u → isQuery fs ≡ v → (t || (u || (v || isDefault fs))) ≡ true → Form fs
+    go true u v p q r h = a-fact p (rw p)
+    go false true v p q r h = a-rule q (rw (p, q))
+    go false false true p q r h = a-query r (rw (p, q, r))
+    go false false false p q r h = a-default h (rw (p, q, r))
 
 pub line-back : (fs : List (List ℕ)) → hasForm fs ≡ true → lineFields (lineIn fs) ≡ fs
 line-back fs e = go (form-of fs e)
@@ -175,6 +189,7 @@ line-back fs e = go (form-of fs e)
     go (a-fact h l) = rw l (fact-back fs h)
     go (a-rule h l) = rw l (rule-back fs h)
     go (a-query h l) = rw l (query-back fs h)
+    go (a-default h l) = rw l (default-back fs h)
 
 -- A line in range that is written has its form and says what was written.
 pub head-written : (top n : ℕ) → top < 1000 → n < 1000 → isHead (headFields top n) ≡ true
@@ -186,7 +201,7 @@ pub record Says (l : Line) : Type 0 where
   pub line : lineIn (lineFields l) ≡ l
 
 pub line-written : (top n : ℕ) → top < 1000 → n ≤ 1000 → (l : Line) → InRange top n l → Says l
-unfolding hasForm lineIn isFact isRule isQuery
+unfolding hasForm lineIn isFact isRule isQuery isDefault
 line-written top n t m (fact c l h) w =
     let c′ : c < 1000 = omega (arith, w .0) in
     let l′ : l < 1000 = omega (arith, w .1, w .2) in
@@ -210,7 +225,13 @@ line-written top n t m (query r c) w =
     let c′ : c < 1000 = omega (arith, w) in
     record {
       form = rw (reading-written r .0, written-number c c′);
-      line = rw (reading-written r .1, written-value c c′);
+      line = rw (reading-written r .0, written-number c c′, reading-written r .1, written-value c c′);
+    }
+line-written top n t m (default c) w =
+    let c′ : c < 1000 = omega (arith, w) in
+    record {
+      form = rw (written-number c c′);
+      line = rw (written-value c c′);
     }
 
 -- A line of a form whose fields are in range.
@@ -227,6 +248,7 @@ sized fs e = go (form-of fs e)
     go (a-fact h l) = rw l tt
     go (a-rule h l) = rw l (rule-size fs h)
     go (a-query h l) = rw l tt
+    go (a-default h l) = rw l tt
 
 pub in-range : (top n : ℕ) (fs : List (List ℕ)) → hasForm fs ≡ true → NoFault (lineRanges top n (lineIn fs)) → InRange top n (lineIn fs)
 in-range top n fs e r = fields-in top n (lineIn fs) (sized fs e) r
@@ -240,6 +262,7 @@ ranges-covered : (top n : ℕ) (line : Line) → length (lineRanges top n line) 
 ranges-covered top n (fact c l h) = refl
 ranges-covered top n (rule c w op lits) = ap (λ (k : ℕ). suc (suc (suc (suc k)))) (literals-covered n lits)
 ranges-covered top n (query r c) = refl
+ranges-covered top n (default c) = refl
 
 pub fields-covered : (top n : ℕ) (fs : List (List ℕ)) → hasForm fs ≡ true → length (lineRanges top n (lineIn fs)) ≡ length fs
 fields-covered top n fs e = ranges-covered top n (lineIn fs) ∙ ap length (line-back fs e)

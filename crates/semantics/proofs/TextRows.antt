@@ -1,6 +1,6 @@
 -- Worked rows of our own on texts, in literal bytes: what reading answers and leaves in the area, and what showing a line hands back. One
 -- list, one claim (`text-bench`). For each refusal its nearest neighbour that is accepted, and the order
--- of the causes; each range fault at each field that it can stand at, with its place; rows 9 to 12 of the bench figures.
+-- of the causes; each range fault at each field that it can stand at, with its place; D lines; rows 9 to 12 of the bench figures.
 -- Assumes nothing.
 use mathlib.Core.Path.{_≡_}
 use mathlib.Core.List.{List, [], _∷_, _++_}
@@ -210,6 +210,58 @@ queries (suc k) = query ++ queries k
 unfoldable pub noForm : List ℕ
 noForm = 120 ∷ 10 ∷ []
 
+-- `G,10,3\n`, and lines behind it
+unfoldable pub tenThree : List ℕ
+tenThree = 71 ∷ 44 ∷ 49 ∷ 48 ∷ 44 ∷ 51 ∷ 10 ∷ []
+
+-- `D,0,U\n`
+unfoldable pub unknown0 : List ℕ
+unknown0 = 68 ∷ 44 ∷ 48 ∷ 44 ∷ 85 ∷ 10 ∷ []
+
+-- `D,2,U\n`
+unfoldable pub unknown2 : List ℕ
+unknown2 = 68 ∷ 44 ∷ 50 ∷ 44 ∷ 85 ∷ 10 ∷ []
+
+-- `D,5,U\n`
+unfoldable pub unknown5 : List ℕ
+unknown5 = 68 ∷ 44 ∷ 53 ∷ 44 ∷ 85 ∷ 10 ∷ []
+
+-- `D,511,U\n`
+unfoldable pub unknown511 : List ℕ
+unknown511 = 68 ∷ 44 ∷ 53 ∷ 49 ∷ 49 ∷ 44 ∷ 85 ∷ 10 ∷ []
+
+-- `D,0,V\n`
+unfoldable pub otherLetter : List ℕ
+otherLetter = 68 ∷ 44 ∷ 48 ∷ 44 ∷ 86 ∷ 10 ∷ []
+
+-- `D,5,V\n`
+unfoldable pub farOtherLetter : List ℕ
+farOtherLetter = 68 ∷ 44 ∷ 53 ∷ 44 ∷ 86 ∷ 10 ∷ []
+
+-- `D,0\n`
+unfoldable pub noLetter : List ℕ
+noLetter = 68 ∷ 44 ∷ 48 ∷ 10 ∷ []
+
+-- `D,0,\n`
+unfoldable pub emptyLetter : List ℕ
+emptyLetter = 68 ∷ 44 ∷ 48 ∷ 44 ∷ 10 ∷ []
+
+-- `D,0,UU\n`
+unfoldable pub twoLetters : List ℕ
+twoLetters = 68 ∷ 44 ∷ 48 ∷ 44 ∷ 85 ∷ 85 ∷ 10 ∷ []
+
+-- `D,0,U,U\n`
+unfoldable pub fourFields : List ℕ
+fourFields = 68 ∷ 44 ∷ 48 ∷ 44 ∷ 85 ∷ 44 ∷ 85 ∷ 10 ∷ []
+
+-- `D,U,0\n`
+unfoldable pub letterFirst : List ℕ
+letterFirst = 68 ∷ 44 ∷ 85 ∷ 44 ∷ 48 ∷ 10 ∷ []
+
+-- `d,0,U\n`
+unfoldable pub smallLetter : List ℕ
+smallLetter = 100 ∷ 44 ∷ 48 ∷ 44 ∷ 85 ∷ 10 ∷ []
+
 unfoldable pub nines : ℕ → List ℕ
 nines k = replicate k 9
 
@@ -223,36 +275,36 @@ textRows =
     -- 2: empty, or the last byte is not 10
     ∷ reads [] (nines 5) (refusedPage 2 0 0) (nines 5)
     ∷ reads noEnd (nines 5) (refusedPage 2 0 0) (nines 5)
-    ∷ reads head (nines 5) (readPage 4) (1 ∷ 1 ∷ 0 ∷ 4 ∷ 9 ∷ [])
+    ∷ reads head (nines 6) (readPage 5) (1 ∷ 1 ∷ 0 ∷ 5 ∷ 0 ∷ 9 ∷ [])
     -- .. before 3
     ∷ reads noLine [] (refusedPage 2 0 0) []
     -- 3, and row 12: a leading zero
-    ∷ reads zeroFirst (nines 9) (refusedPage 3 2 0) (nines 9)
-    ∷ reads fact34 (nines 9) (readPage 8) (10 ∷ 1 ∷ 1 ∷ 8 ∷ 0 ∷ 0 ∷ 3 ∷ 4 ∷ 9 ∷ [])
+    ∷ reads zeroFirst (nines 10) (refusedPage 3 2 0) (nines 10)
+    ∷ reads fact34 (nines 10) (readPage 9) (10 ∷ 1 ∷ 1 ∷ 9 ∷ 0 ∷ 0 ∷ 0 ∷ 3 ∷ 4 ∷ 9 ∷ [])
     -- .. before 4
-    ∷ reads formAndRange (nines 9) (refusedPage 3 2 0) (nines 9)
+    ∷ reads formAndRange (nines 10) (refusedPage 3 2 0) (nines 10)
     -- 23, and row 12: low above high
-    ∷ reads fact43 (nines 9) (refusedPage 23 2 4) (nines 9)
-    ∷ reads fact44 (nines 9) (readPage 8) (10 ∷ 1 ∷ 1 ∷ 8 ∷ 0 ∷ 0 ∷ 4 ∷ 4 ∷ 9 ∷ [])
+    ∷ reads fact43 (nines 10) (refusedPage 23 2 4) (nines 10)
+    ∷ reads fact44 (nines 10) (readPage 9) (10 ∷ 1 ∷ 1 ∷ 9 ∷ 0 ∷ 0 ∷ 0 ∷ 4 ∷ 4 ∷ 9 ∷ [])
     -- .. before 6
     ∷ reads fact43 (nines 3) (refusedPage 23 2 4) (nines 3)
     -- 6: the area is shorter than the used length
-    ∷ reads fact44 (nines 7) (refusedPage 6 0 0) (nines 7)
-    ∷ reads fact44 (nines 8) (readPage 8) (10 ∷ 1 ∷ 1 ∷ 8 ∷ 0 ∷ 0 ∷ 4 ∷ 4 ∷ [])
+    ∷ reads fact44 (nines 8) (refusedPage 6 0 0) (nines 8)
+    ∷ reads fact44 (nines 9) (readPage 9) (10 ∷ 1 ∷ 1 ∷ 9 ∷ 0 ∷ 0 ∷ 0 ∷ 4 ∷ 4 ∷ [])
     -- row 9
-    ∷ reads last (nines 8) (readPage 8) (1 ∷ 512 ∷ 1 ∷ 8 ∷ 511 ∷ 0 ∷ 0 ∷ 1 ∷ [])
-    ∷ reads past (nines 8) (refusedPage 4 2 2) (nines 8)
+    ∷ reads last (nines 520) (readPage 520) (1 ∷ 512 ∷ 1 ∷ 520 ∷ (replicate 512 0 ++ (511 ∷ 0 ∷ 0 ∷ 1 ∷ [])))
+    ∷ reads past (nines 520) (refusedPage 4 2 2) (nines 520)
     -- row 10
-    ∷ reads top200 (nines 4) (readPage 4) (200 ∷ 1 ∷ 0 ∷ 4 ∷ [])
-    ∷ reads top201 (nines 4) (refusedPage 4 1 2) (nines 4)
-    ∷ reads top1000 (nines 4) (refusedPage 3 1 0) (nines 4)
-    ∷ reads conditions512 (nines 4) (readPage 4) (1 ∷ 512 ∷ 0 ∷ 4 ∷ [])
-    ∷ reads conditions513 (nines 4) (refusedPage 4 1 3) (nines 4)
-    ∷ reads weight3 (nines 9) (readPage 9) (3 ∷ 1 ∷ 1 ∷ 9 ∷ 0 ∷ 1 ∷ 3 ∷ 1 ∷ 0 ∷ [])
-    ∷ reads weight4 (nines 9) (refusedPage 21 2 3) (nines 9)
-    ∷ reads weight0 (nines 9) (refusedPage 21 2 3) (nines 9)
-    ∷ reads eight (nines 16) (readPage 16) (1 ∷ 1 ∷ 1 ∷ 16 ∷ 0 ∷ 1 ∷ 1 ∷ 8 ∷ 0 ∷ 0 ∷ 0 ∷ 0 ∷ 0 ∷ 0 ∷ 0 ∷ 1 ∷ [])
-    ∷ reads nine (nines 17) (refusedPage 3 2 0) (nines 17)
+    ∷ reads top200 (nines 5) (readPage 5) (200 ∷ 1 ∷ 0 ∷ 5 ∷ 0 ∷ [])
+    ∷ reads top201 (nines 5) (refusedPage 4 1 2) (nines 5)
+    ∷ reads top1000 (nines 5) (refusedPage 3 1 0) (nines 5)
+    ∷ reads conditions512 (nines 516) (readPage 516) (1 ∷ 512 ∷ 0 ∷ 516 ∷ replicate 512 0)
+    ∷ reads conditions513 (nines 517) (refusedPage 4 1 3) (nines 517)
+    ∷ reads weight3 (nines 10) (readPage 10) (3 ∷ 1 ∷ 1 ∷ 10 ∷ 0 ∷ 0 ∷ 1 ∷ 3 ∷ 1 ∷ 0 ∷ [])
+    ∷ reads weight4 (nines 10) (refusedPage 21 2 3) (nines 10)
+    ∷ reads weight0 (nines 10) (refusedPage 21 2 3) (nines 10)
+    ∷ reads eight (nines 17) (readPage 17) (1 ∷ 1 ∷ 1 ∷ 17 ∷ 0 ∷ 0 ∷ 1 ∷ 1 ∷ 8 ∷ 0 ∷ 0 ∷ 0 ∷ 0 ∷ 0 ∷ 0 ∷ 0 ∷ 1 ∷ [])
+    ∷ reads nine (nines 18) (refusedPage 3 2 0) (nines 18)
     -- 4 at each field that it can stand at: the first line,
     ∷ answers top0 [] (refusedPage 4 1 2)
     ∷ answers conditions0 [] (refusedPage 4 1 3)
@@ -273,7 +325,7 @@ textRows =
     -- 22: low, high
     ∷ answers (ten ++ lowOver) [] (refusedPage 22 2 3)
     ∷ answers (ten ++ highOver) [] (refusedPage 22 2 4)
-    ∷ answers (ten ++ full) (nines 8) (readPage 8)
+    ∷ answers (ten ++ full) (nines 9) (readPage 9)
     -- two bad fields in one line: the left one
     ∷ answers bothOver [] (refusedPage 4 1 2)
     ∷ answers (ten ++ farLowOver) [] (refusedPage 4 2 2)
@@ -284,17 +336,43 @@ textRows =
     ∷ answers (ten ++ weight11Literal) [] (refusedPage 21 2 3)
     ∷ answers (ten ++ literalsFar) [] (refusedPage 4 2 6)
     -- row 11, and 5: 1,025 lines in all are read, a 1,026th is refused, however it looks
-    ∷ answers (head ++ queries 1024) (nines 4100) (readPage 4100)
-    ∷ answers (head ++ queries 1025) (nines 4104) (refusedPage 5 1026 0)
-    ∷ answers (head ++ (queries 1024 ++ noForm)) (nines 4104) (refusedPage 5 1026 0)
-    ∷ answers (head ++ (queries 1024 ++ farQuery)) (nines 4104) (refusedPage 5 1026 0)
-    ∷ answers (head ++ (queries 1023 ++ noForm)) (nines 4104) (refusedPage 3 1025 0)
+    ∷ answers (head ++ queries 1024) (nines 4101) (readPage 4101)
+    ∷ answers (head ++ queries 1025) (nines 4105) (refusedPage 5 1026 0)
+    ∷ answers (head ++ (queries 1024 ++ noForm)) (nines 4105) (refusedPage 5 1026 0)
+    ∷ answers (head ++ (queries 1024 ++ farQuery)) (nines 4105) (refusedPage 5 1026 0)
+    ∷ answers (head ++ (queries 1023 ++ noForm)) (nines 4105) (refusedPage 3 1025 0)
+    ∷ answers (head ++ (unknown0 ++ (queries 1023 ++ unknown0))) (nines 4105) (refusedPage 5 1026 0)
+    -- D lines: the D numbers of their conditions are 1, in whatever order the lines come
+    ∷ reads (tenThree ++ (unknown2 ++ (query ++ unknown0))) (nines 20) (readPage 19)
+    (10 ∷ 3 ∷ 3 ∷ 19 ∷ 1 ∷ 0 ∷ 1 ∷ 2 ∷ 7 ∷ 0 ∷ 0 ∷ 0 ∷ 6 ∷ 0 ∷ 0 ∷ 0 ∷ 7 ∷ 0 ∷ 0 ∷ 9 ∷ [])
+    ∷ reads (tenThree ++ (unknown2 ++ (query ++ unknown0))) (nines 18) (refusedPage 6 0 0) (nines 18)
+    ∷ reads (conditions512 ++ unknown511) (nines 520) (readPage 520) (1 ∷ 512 ∷ 1 ∷ 520 ∷ (replicate 511 0 ++ (1 ∷ 511 ∷ 7 ∷ 0 ∷ 0 ∷ [])))
+    -- 24: a second D line for one condition, told at its line and without a place; before 6
+    ∷ reads (tenThree ++ (unknown2 ++ unknown2)) (nines 15) (refusedPage 24 3 0) (nines 15)
+    ∷ answers (tenThree ++ (unknown2 ++ (query ++ (unknown0 ++ (query ++ unknown2))))) [] (refusedPage 24 6 0)
+    ∷ answers (tenThree ++ (unknown0 ++ (unknown2 ++ unknown0))) [] (refusedPage 24 4 0)
+    -- .. the first bad line decides, and a condition out of range is 4, at its place, for the second D line as for the first
+    ∷ answers (tenThree ++ unknown5) [] (refusedPage 4 2 2)
+    ∷ answers (tenThree ++ (unknown5 ++ unknown5)) [] (refusedPage 4 2 2)
+    ∷ answers (tenThree ++ (unknown0 ++ (unknown5 ++ unknown0))) [] (refusedPage 4 3 2)
+    ∷ answers (tenThree ++ (unknown0 ++ (unknown0 ++ unknown5))) [] (refusedPage 24 3 0)
+    -- .. 3 before 4 and before 24
+    ∷ answers (tenThree ++ farOtherLetter) [] (refusedPage 3 2 0)
+    ∷ answers (tenThree ++ (unknown0 ++ otherLetter)) [] (refusedPage 3 3 0)
+    -- .. the forms next to it
+    ∷ answers (tenThree ++ otherLetter) [] (refusedPage 3 2 0)
+    ∷ answers (tenThree ++ noLetter) [] (refusedPage 3 2 0)
+    ∷ answers (tenThree ++ emptyLetter) [] (refusedPage 3 2 0)
+    ∷ answers (tenThree ++ twoLetters) [] (refusedPage 3 2 0)
+    ∷ answers (tenThree ++ fourFields) [] (refusedPage 3 2 0)
+    ∷ answers (tenThree ++ letterFirst) [] (refusedPage 3 2 0)
+    ∷ answers (tenThree ++ smallLetter) [] (refusedPage 3 2 0)
     -- the page of row 1
-    ∷ reads example (nines 31) (readPage 30)
-    (10 ∷ 2 ∷ 6 ∷ 30 ∷ 0 ∷ 0 ∷ 2 ∷ 2 ∷ 1 ∷ 0 ∷ 3 ∷ 3 ∷ 0 ∷ 1 ∷ 10 ∷ 1 ∷ 3 ∷ 1 ∷ 1 ∷ 10 ∷ 1 ∷ 1 ∷ 0 ∷ 6 ∷ 0 ∷ 0 ∷ 1 ∷ 6 ∷ 1 ∷ 0 ∷ 9 ∷ [])
+    ∷ reads example (nines 33) (readPage 32)
+    (10 ∷ 2 ∷ 6 ∷ 32 ∷ 0 ∷ 0 ∷ 0 ∷ 0 ∷ 2 ∷ 2 ∷ 1 ∷ 0 ∷ 3 ∷ 3 ∷ 0 ∷ 1 ∷ 10 ∷ 1 ∷ 3 ∷ 1 ∷ 1 ∷ 10 ∷ 1 ∷ 1 ∷ 0 ∷ 6 ∷ 0 ∷ 0 ∷ 1 ∷ 6 ∷ 1 ∷ 0 ∷ 9 ∷ [])
     -- the five op letters
-    ∷ reads letters (nines 30) (readPage 29)
-    (1 ∷ 2 ∷ 5 ∷ 29 ∷ 0 ∷ 1 ∷ 1 ∷ 1 ∷ 0 ∷ 0 ∷ 2 ∷ 1 ∷ 1 ∷ 2 ∷ 0 ∷ 3 ∷ 1 ∷ 1 ∷ 1 ∷ 0 ∷ 4 ∷ 1 ∷ 1 ∷ 3 ∷ 0 ∷ 5 ∷ 1 ∷ 1 ∷ 0 ∷ 9 ∷ [])
+    ∷ reads letters (nines 32) (readPage 31)
+    (1 ∷ 2 ∷ 5 ∷ 31 ∷ 0 ∷ 0 ∷ 0 ∷ 1 ∷ 1 ∷ 1 ∷ 0 ∷ 0 ∷ 2 ∷ 1 ∷ 1 ∷ 2 ∷ 0 ∷ 3 ∷ 1 ∷ 1 ∷ 1 ∷ 0 ∷ 4 ∷ 1 ∷ 1 ∷ 3 ∷ 0 ∷ 5 ∷ 1 ∷ 1 ∷ 0 ∷ 9 ∷ [])
     -- show a line: `G`, an empty line and a last line without byte 10; none with number 0 or 4
     ∷ shows three 0 [] 0
     ∷ shows three 1 (71 ∷ []) 0

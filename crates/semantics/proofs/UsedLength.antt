@@ -1,4 +1,4 @@
--- "The greatest used length is 12,292": no sound area uses more, and one uses as much. Assumes nothing.
+-- "The greatest used length" is 12,804 with the C numbers of ticket 7: no sound area uses more, and one uses as much. Assumes nothing.
 use mathlib.Core.Path.{_≡_, refl, ap}
 use mathlib.Core.Bool.{true}
 use mathlib.Core.List.{List, [], _∷_, _++_}
@@ -7,11 +7,11 @@ use native.Mathlib.Omega.{arith}
 use lib.ListN.{length, getD, drop}
 use borrow.Author.Needs.{needs}
 use borrow.Author.Tests.{leb-true, eqb-true}
-use Rattle.semantics.specs.Area.{Kind, factKind, ruleKind, queryKind, noKind, kind, spanAs, span, literalsAt, every, fieldTests, lineTests, headTests, linesOk, sound, firstLine, topOf, conditionsOf, countOf, usedOf, lineCodes, areaOf}
+use Rattle.semantics.specs.Area.{Kind, factKind, ruleKind, queryKind, defaultKind, noKind, kind, spanAs, span, literalsAt, every, fieldTests, lineTests, headTests, linesOk, sound, firstLine, topOf, conditionsOf, countOf, usedOf, lineCodes, areaOf}
 use Rattle.semantics.specs.Grade.{M}
-use Rattle.semantics.specs.Page.{positive, Line, rule, Page}
+use Rattle.semantics.specs.Page.{positive, Line, rule, Page, defaults}
 use Rattle.semantics.proofs.Proper.{AllInRange, Proper}
-use Rattle.semantics.proofs.Soundness.{both-true, Every, every-true}
+use Rattle.semantics.proofs.Soundness.{both-true, Every, every-true, sound-parts}
 use Rattle.semantics.proofs.ExactAreas.{proper-sound}
 
 -- an entry takes at most 12 numbers: four, and eight literals
@@ -19,6 +19,7 @@ short-span : (top n : ℕ) (t : Kind) (x y : ℕ) (lits : List ℕ) → Every (f
 short-span top n factKind x y lits h = omega arith
 short-span top n (ruleKind op) x y lits h = omega (arith, leb-true y 8 (h .1 .1 .1 .0))
 short-span top n queryKind x y lits h = omega arith
+short-span top n defaultKind x y lits h = omega arith
 short-span top n noKind x y lits h = omega arith
 
 short-lines : (top n k left : ℕ) (p : List ℕ) → linesOk top n k left p ≡ true → left ≤ 12 * k
@@ -33,15 +34,19 @@ short-lines top n (suc k) left p e =
       short-lines top n k (left - span p) (drop (span p) p) (b .1),
     )
 
-pub used-most : (a : List ℕ) → sound a ≡ true → usedOf a ≤ 12292
-unfolding sound
+-- four head numbers, 512 conditions, 1,024 entries of 12
+abbrev pub mostUsed : ℕ
+mostUsed = 12804
+
+pub used-most : (a : List ℕ) → sound a ≡ true → usedOf a ≤ mostUsed
 used-most a e =
-    let b = both-true (every (headTests a)) (linesOk (topOf a) (conditionsOf a) (countOf a) (usedOf a - firstLine a) (drop (firstLine a) a)) e in
-    let h = every-true (headTests a) (b .0) in
+    let s = sound-parts a e in
+    let h = s .head in
     omega (
       arith,
       leb-true (countOf a) 1024 (h .1 .1 .1 .1 .1 .1 .1 .0),
-      short-lines (topOf a) (conditionsOf a) (countOf a) (usedOf a - firstLine a) (drop (firstLine a) a) (b .1),
+      leb-true (conditionsOf a) 512 (h .1 .1 .1 .1 .1 .1 .0),
+      short-lines (topOf a) (conditionsOf a) (countOf a) (usedOf a - firstLine a) (drop (firstLine a) a) (s .lines),
     )
 
 -- as much: k rules of eight literals
@@ -64,13 +69,18 @@ unfolding lineCodes rules
 length-codes zero = omega arith
 length-codes (suc k) = omega (arith, length-codes k)
 
-ranged-rules : (k : ℕ) → AllInRange 1 1 (rules k)
+ranged-rules : (k : ℕ) → AllInRange 1 512 (rules k)
 unfolding rules
 ranged-rules zero = tt
 ranged-rules (suc k) = (search needs, ranged-rules k)
 
+no-defaults : (k c : ℕ) → defaults (rules k) c ≡ 0
+unfolding rules defaults
+no-defaults zero c = refl
+no-defaults (suc k) c = no-defaults k c
+
 abbrev rules-page : ℕ → Page
-rules-page k = record { top = 1; conditions = 1; lines = rules k }
+rules-page k = record { top = 1; conditions = 512; lines = rules k }
 
 proper-rules : (k : ℕ) → k ≤ 1024 → Proper (rules-page k)
 proper-rules k h =
@@ -81,11 +91,12 @@ proper-rules k h =
       conditions-most = omega arith;
       few-lines = omega (arith, length-rules k);
       ranged = ranged-rules k;
+      single = λ c. omega (arith, no-defaults k c);
     }
 
-used-rules : (k : ℕ) → usedOf (areaOf (rules-page k) ++ []) ≡ 4 + 12 * k
+used-rules : (k : ℕ) → usedOf (areaOf (rules-page k) ++ []) ≡ 516 + 12 * k
 unfolding areaOf
-used-rules k = ap (λ (n : ℕ). 4 + n) (length-codes k)
+used-rules k = ap (λ (n : ℕ). 516 + n) (length-codes k)
 
-pub used-attained : (a : List ℕ) × (sound a ≡ true) × (usedOf a ≡ 12292)
+pub used-attained : (a : List ℕ) × (sound a ≡ true) × (usedOf a ≡ mostUsed)
 used-attained = (areaOf (rules-page 1024) ++ [], proper-sound (rules-page 1024) [] (proper-rules 1024 (omega arith)), used-rules 1024)

@@ -8,7 +8,7 @@ use native.Mathlib.Omega.{arith}
 use lib.ListN.{length, getD, drop, length-append}
 use borrow.Author.Tests.{eq-eqb, ne-eqb, le-leb, le-ltb}
 use Rattle.semantics.specs.Grade.{Op, M, X, L, B, P}
-use Rattle.semantics.specs.Page.{Literal, positive, negative, Reading, K, W, Line, fact, rule, query, Page}
+use Rattle.semantics.specs.Page.{Literal, positive, negative, Reading, K, W, Line, fact, rule, query, default, Page, defaults}
 use Rattle.semantics.proofs.Proper.{LiteralsBelow, InRange, AllInRange, Proper}
 use Rattle.semantics.specs.Area.{usedOf, areaOf}
 use Rattle.semantics.specs.Text.{textLines, fieldsOf, isHead, lineIn, topIn, conditionsIn, linesIn, pageIn}
@@ -17,6 +17,7 @@ use Rattle.semantics.proofs.Rows.{page1}
 use Rattle.semantics.specs.Fields.{numberWithin, numberText, readingLetter, afterCommas, joined, endedLines}
 use Rattle.semantics.specs.Written.{literalText, opLetter, lineFields, headFields, lineTexts, textOf}
 use Rattle.semantics.proofs.FieldRanges.{not-outside, range-passes}
+use Rattle.semantics.proofs.Repeats.{defaults-pass, no-repeat}
 use Rattle.semantics.proofs.TextParts.{without, AllWithout, lines-of-ended, fields-of-joined, joined-without, ended-last}
 use Rattle.semantics.proofs.TextNumbers.{written-value, number-without, number-short}
 use Rattle.semantics.proofs.TextForms.{head-written, line-written}
@@ -49,6 +50,7 @@ module _ (m : ℕ) (h : m < 48) (n : 33 ≡ m → ⊥) where
     clean-line (rule c x op lits) w =
         (clean-letter 82 (omega arith), (number-without c (omega (arith, w .0)) m h, (number-without x (omega (arith, w .2)) m h, (clean-op op, clean-literals k l lits (w .5)))))
     clean-line (query r c) w = (clean-letter 81 (omega arith), (clean-reading r, (number-without c (omega (arith, w)) m h, tt)))
+    clean-line (default c) w = (clean-letter 68 (omega arith), (number-without c (omega (arith, w)) m h, (clean-letter 85 (omega arith), tt)))
 
     clean-head : k < 1000 → AllWithout m (headFields top k)
     clean-head q = (clean-letter 71 (omega arith), (number-without top t m h, (number-without k q m h, tt)))
@@ -61,6 +63,7 @@ module _ (top n : ℕ) (t : top < 1000) (l : n ≤ 1000) where
       fields-of-joined (82 ∷ []) (numberText c ∷ numberText x ∷ (opLetter op ∷ []) ∷ map literalText lits)
       (clean-line 44 (omega arith) (λ z. omega arith) top n t l (rule c x op lits) w)
   fields-back (query r c) w = fields-of-joined (81 ∷ []) ((readingLetter r ∷ []) ∷ numberText c ∷ []) (clean-line 44 (omega arith) (λ z. omega arith) top n t l (query r c) w)
+  fields-back (default c) w = fields-of-joined (68 ∷ []) (numberText c ∷ (85 ∷ []) ∷ []) (clean-line 44 (omega arith) (λ z. omega arith) top n t l (default c) w)
 
   clean-texts : (ls : List Line) → AllInRange top n ls → AllWithout 10 (lineTexts ls)
   clean-texts [] w = tt
@@ -73,10 +76,11 @@ module _ (top n : ℕ) (t : top < 1000) (l : n ≤ 1000) where
   lines-back (x ∷ ls) w =
       ap₂ {C = List Line} (λ y ys. y ∷ ys) (ap lineIn (fields-back x (w .0)) ∙ line-written top n t l x (w .0) .line) (lines-back ls (w .1))
 
-  none-bad : (k : ℕ) (ls : List Line) → AllInRange top n ls → k + length ls ≤ 1026 → badLine top n k (lineTexts ls) ≡ none
+  none-bad : (k : ℕ) (before ls : List Line) → AllInRange top n ls → ((c : ℕ) → defaults before c + defaults ls c ≤ 1) → k + length ls ≤ 1026
+      → badLine top n k before (lineTexts ls) ≡ none
   unfolding badLine lineFault
-  none-bad k [] w h = refl
-  none-bad k (x ∷ ls) w h =
+  none-bad k before [] w u h = refl
+  none-bad k before (x ∷ ls) w u h =
       let s = line-written top n t l x (w .0) in
       rw (
         ne-eqb k 1026 (λ z. omega arith),
@@ -84,8 +88,9 @@ module _ (top n : ℕ) (t : top < 1000) (l : n ≤ 1000) where
         s .form,
         s .line,
         range-passes top n x (w .0),
+        no-repeat before x ls u,
       )
-      (none-bad (suc k) ls (w .1) (omega arith))
+      (none-bad (suc k) (x ∷ before) ls (w .1) (λ c. omega (arith, u c, defaults-pass before x ls c)) (omega arith))
 
 -- The length of a line's text.
 literals-short : (k : ℕ) → k ≤ 1000 → (ls : List Literal) → LiteralsBelow k ls → length (afterCommas (map literalText ls)) ≤ 5 * length ls
@@ -119,6 +124,7 @@ module _ (top n : ℕ) (t : top < 1000) (l : n ≤ 1000) where
         w .4,
       )
   line-short (query r c) w = omega (arith, length-append (numberText c) [], number-short c (omega (arith, w)))
+  line-short (default c) w = omega (arith, length-append (numberText c) (44 ∷ 85 ∷ []), number-short c (omega (arith, w)))
 
   lines-short : (ls : List Line) → AllInRange top n ls → length (endedLines (lineTexts ls)) ≤ 52 * length ls
   lines-short [] w = omega arith
@@ -185,11 +191,11 @@ module _ (page : Page) (w : Proper page) where
   is-head = head-written (page .top) (page .conditions) top′ conditions′
 
   no-bad-line : badLineOf (textLines (textOf page)) ≡ none
-  unfolding badLineOf headFault
+  unfolding badLineOf headFault defaults
   no-bad-line =
       rw (top-read, conditions-read, text-lines, head-fields)
       (rw (is-head, head-passes)
-      (none-bad (page .top) (page .conditions) top′ some′ 2 (page .lines) (w .ranged) (omega (arith, w .few-lines))))
+      (none-bad (page .top) (page .conditions) top′ some′ 2 [] (page .lines) (w .ranged) (λ c. omega (arith, w .single c)) (omega (arith, w .few-lines))))
 
   -- it is at most 53,258 bytes long
   text-short : length (textOf page) ≤ 53258

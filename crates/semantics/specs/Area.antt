@@ -6,9 +6,12 @@ use Prim.Native.Nat.{ℕ, zero, suc, _+_, _*_, _-_, _/_, _%_}
 use lib.Dec.{eqb, ltb, leb}
 use lib.ListN.{length, getD, take, drop}
 use Rattle.semantics.specs.Grade.{Op, M, X, L, B, P}
-use Rattle.semantics.specs.Page.{Literal, positive, negative, Reading, K, W, Line, fact, rule, query, Page}
+use Rattle.semantics.specs.Page.{Literal, positive, negative, Reading, K, W, Line, fact, rule, query, default, Page, defaults}
+use Rattle.semantics.specs.Body.{unknownByDefault}
+use Rattle.semantics.specs.Table.{table, allBelow}
+use Rattle.fixpoint.specs.Sum.{bit}
 
--- "top, C, count of lines after the first, used length"; then the lines
+-- "top, C, count of lines after the first, used length"; then C numbers that say who is unknown by default; then the lines
 abbrev pub topOf : List ℕ → ℕ
 topOf a = getD a 0 0
 
@@ -23,26 +26,32 @@ usedOf a = getD a 3 0
 
 -- how many numbers stand before the lines of a page with n conditions, and where the lines of an area begin
 abbrev pub headLength : ℕ → ℕ
-headLength n = 4
+headLength n = 4 + n
 
 abbrev pub firstLine : List ℕ → ℕ
 firstLine a = headLength (conditionsOf a)
 
--- the kind of a line's entry: 0 a fact, 1 to 5 a rule with M, X, L, B, P, 6 a query; no other is a kind
+-- "0 false, 1 unknown": the D number of the condition c
+abbrev pub defaultOf : List ℕ → ℕ → ℕ
+defaultOf a c = getD a (4 + c) 0
+
+-- the kind of a line's entry: 0 a fact, 1 to 5 a rule with M, X, L, B, P, 6 a query, 7 a D line; no other is a kind
 pub data Kind : Type 0 where
   factKind : Kind
   ruleKind : Op → Kind
   queryKind : Kind
+  defaultKind : Kind
   noKind : Kind
 
 unfoldable pub kind : ℕ → Kind
-kind k = getD (factKind ∷ ruleKind M ∷ ruleKind X ∷ ruleKind L ∷ ruleKind B ∷ ruleKind P ∷ queryKind ∷ []) k noKind
+kind k = getD (factKind ∷ ruleKind M ∷ ruleKind X ∷ ruleKind L ∷ ruleKind B ∷ ruleKind P ∷ queryKind ∷ defaultKind ∷ []) k noKind
 
 -- An entry is four numbers, condition, kind, x and y; a rule's y literals follow. How many numbers that makes:
 abbrev pub spanAs : Kind → ℕ → ℕ
 spanAs factKind y = 4
 spanAs (ruleKind op) y = 4 + y
 spanAs queryKind y = 4
+spanAs defaultKind y = 4
 spanAs noKind y = 4
 
 -- of the entry at the front of p
@@ -57,11 +66,13 @@ abbrev pub literalsAt : List ℕ → List ℕ
 literalsAt p = take (getD p 3 0) (drop 4 p)
 
 -- "A fact is cond, 0, low, high. A rule is cond, kind, weight, n and n literals. A query is cond, 6, 0 for K or 1 for W, 0."
+-- "D lines are entries of kind 7 with two zeros after it."
 -- An entry of no kind, which no sound area has, reads as a query.
 abbrev pub lineAs : Kind → ℕ → ℕ → ℕ → List ℕ → Line
 lineAs factKind c x y lits = fact c x y
 lineAs (ruleKind op) c x y lits = rule c x op (map literalOf lits)
 lineAs queryKind c x y lits = query (cond (eqb x 0) K W) c
+lineAs defaultKind c x y lits = default c
 lineAs noKind c x y lits = query K c
 
 -- the line at the front of p
@@ -91,6 +102,7 @@ abbrev pub fieldTests : ℕ → ℕ → Kind → ℕ → ℕ → List ℕ → Li
 fieldTests top n factKind x y lits = leb x y ∷ leb y top ∷ []
 fieldTests top n (ruleKind op) x y lits = leb 1 x ∷ leb x top ∷ leb 1 y ∷ leb y 8 ∷ allUnder (2 * n) lits ∷ []
 fieldTests top n queryKind x y lits = leb x 1 ∷ eqb y 0 ∷ []
+fieldTests top n defaultKind x y lits = eqb x 0 ∷ eqb y 0 ∷ []
 fieldTests top n noKind x y lits = false ∷ []
 
 -- the entry at the front of p lies within the next `left` numbers, its condition is below C, its fields are in range
@@ -115,9 +127,22 @@ headTests a =
     ∷ leb (countOf a) 1024
     ∷ []
 
+-- "A D number of 1 needs exactly one such entry, and 0 needs none"; no other number is sound
+abbrev pub defaultTests : List ℕ → ℕ → List Bool
+defaultTests a c = leb (defaultOf a c) 1 ∷ eqb (defaultOf a c) (defaults (pageOf a .lines) c) ∷ []
+
+unfoldable pub defaultsOk : List ℕ → Bool
+defaultsOk a = allBelow (conditionsOf a) (λ c. every (defaultTests a c))
+
 -- "A page area is sound when .."
 unfoldable pub sound : List ℕ → Bool
-sound a = every (headTests a) && linesOk (topOf a) (conditionsOf a) (countOf a) (usedOf a - firstLine a) (drop (firstLine a) a)
+sound a =
+    every (
+    every (headTests a)
+    ∷ linesOk (topOf a) (conditionsOf a) (countOf a) (usedOf a - firstLine a) (drop (firstLine a) a)
+    ∷ defaultsOk a
+    ∷ []
+    )
 
 -- The area of a page: what the reader writes. Sound areas are exactly these, for proper pages, with anything behind them
 -- (`sound-proper`, `proper-sound`, `sound-exact`).
@@ -137,10 +162,16 @@ lineCode (fact c l h) = c ∷ 0 ∷ l ∷ h ∷ []
 lineCode (rule c w op lits) = c ∷ kindOf op ∷ w ∷ length lits ∷ map codeOf lits
 lineCode (query K c) = c ∷ 6 ∷ 0 ∷ 0 ∷ []
 lineCode (query W c) = c ∷ 6 ∷ 1 ∷ 0 ∷ []
+lineCode (default c) = c ∷ 7 ∷ 0 ∷ 0 ∷ []
 
 unfoldable pub lineCodes : List Line → List ℕ
 lineCodes [] = []
 lineCodes (l ∷ ls) = lineCode l ++ lineCodes ls
 
 unfoldable pub areaOf : Page → List ℕ
-areaOf page = page .top ∷ page .conditions ∷ length (page .lines) ∷ (headLength (page .conditions) + length (lineCodes (page .lines))) ∷ lineCodes (page .lines)
+areaOf page =
+    page .top
+    ∷ page .conditions
+    ∷ length (page .lines)
+    ∷ (headLength (page .conditions) + length (lineCodes (page .lines)))
+    ∷ (table (page .conditions) (λ c. bit (unknownByDefault page c)) ++ lineCodes (page .lines))

@@ -3,11 +3,11 @@
 use mathlib.Core.Bool.{Bool, true, false}
 use mathlib.Core.List.{List, [], _∷_, _++_, map}
 use Prim.Native.Nat.{ℕ}
-use lib.Dec.{eqb}
+use lib.Dec.{eqb, leb}
 use Rattle.fixpoint.specs.Interval.{Interval, Assign}
-use Rattle.fixpoint.specs.KnowledgeOrder.{certainly-false}
+use Rattle.fixpoint.specs.Support.{assumption}
 use Rattle.semantics.specs.Grade.{Op, combine, endwise, foldFrom, foldAll, weighted, negated, largest}
-use Rattle.semantics.specs.Page.{Literal, positive, negative, Line, fact, rule, query, Page}
+use Rattle.semantics.specs.Page.{Literal, positive, negative, Line, fact, rule, query, default, Page, defaults}
 
 abbrev pub literalValue : ℕ → Assign → Literal → Interval
 literalValue top I (positive c) = I c
@@ -17,7 +17,7 @@ literalValue top I (negative c) = negated top (I c)
 abbrev pub ruleValue : ℕ → Assign → ℕ → Op → List Literal → Interval
 ruleValue top I w op lits = weighted top w (foldAll (endwise (combine top op)) (map (literalValue top I) lits))
 
--- what a line adds to the body of c: the value of an F or R line of c; any other line, and every Q line, adds nothing
+-- what a line adds to the body of c: the value of an F or R line of c; any other line, every Q line and every D line add nothing
 abbrev pub onlyIf : Bool → Interval → List Interval
 onlyIf true p = p ∷ []
 onlyIf false p = []
@@ -26,18 +26,19 @@ abbrev pub lineBody : ℕ → Assign → ℕ → Line → List Interval
 lineBody top I c (fact d l h) = onlyIf (eqb d c) (record { low = l; high = h })
 lineBody top I c (rule d w op lits) = onlyIf (eqb d c) (ruleValue top I w op lits)
 lineBody top I c (query r d) = []
+lineBody top I c (default d) = []
 
 unfoldable pub bodies : ℕ → Assign → ℕ → List Line → List Interval
 bodies top I c [] = []
 bodies top I c (l ∷ ls) = lineBody top I c l ++ bodies top I c ls
 
--- the conditions that are unknown by default: none
+-- "A line `D,cond,U` makes a condition unknown by default" (document 02, ticket 7)
 unfoldable pub unknownByDefault : Page → ℕ → Bool
-unknownByDefault page c = false
+unknownByDefault page c = leb 1 (defaults (page .lines) c)
 
--- the body value of a condition without F and R lines
+-- the body value of a condition without F and R lines: [0;0], or [0;top] where it is unknown by default
 unfoldable pub bodyless : Page → Assign
-bodyless page c = certainly-false
+bodyless page = assumption (page .top) (unknownByDefault page)
 
 -- [largest low; largest high] of a list, or d of the empty one
 unfoldable pub largestOf : Interval → List Interval → Interval

@@ -1,12 +1,13 @@
 -- Ticket 2, "The plain answers must then cover the exact figures": fractions, the exact, unrounded body value, and the covering rule. Assumes nothing.
 use mathlib.Core.Path.{_≡_}
-use mathlib.Core.Bool.{true, cond}
+use mathlib.Core.Bool.{Bool, true, false, not, cond, _&&_, _||_}
 use mathlib.Core.List.{List, [], _∷_, _++_, map, foldl}
 use Prim.Native.Nat.{ℕ, suc, _+_, _*_, _-_, _≤_, _<_, min, max}
 use lib.Dec.{eqb}
 use Rattle.fixpoint.specs.Interval.{Interval, Assign}
 use Rattle.semantics.specs.Grade.{Op, M, X, L, B, P}
-use Rattle.semantics.specs.Page.{Literal, positive, negative, Line, fact, rule, query, Page}
+use Rattle.semantics.specs.Page.{Literal, positive, negative, Line, fact, rule, query, default, Page}
+use Rattle.semantics.specs.Body.{unknownByDefault}
 use Rattle.semantics.specs.Reading.{IsPlain, Reached}
 use Rattle.semantics.specs.Table.{listed}
 
@@ -78,6 +79,7 @@ abbrev pub exactLine : ℕ → ℕ → Figures → ℕ → Line → List Fractio
 exactLine top g x c (fact d l h) = cond (eqb d c) (whole g ∷ []) []
 exactLine top g x c (rule d w op lits) = cond (eqb d c) (exactRule top x w op lits ∷ []) []
 exactLine top g x c (query r d) = []
+exactLine top g x c (default d) = []
 
 -- choice k is the grade chosen in the line at place k, counted from 0
 unfoldable pub exactBodies : ℕ → (ℕ → ℕ) → Figures → ℕ → ℕ → List Line → List Fraction
@@ -93,10 +95,23 @@ abbrev pub ChosenIn : ℕ → Line → Type 0
 ChosenIn g (fact c l h) = (l ≤ g) × (g ≤ h)
 ChosenIn g (rule c w op lits) = Unit {0}
 ChosenIn g (query r c) = Unit {0}
+ChosenIn g (default c) = Unit {0}
 
 abbrev pub ChosenFrom : (ℕ → ℕ) → ℕ → List Line → Type 0
 ChosenFrom choice k [] = Unit {0}
 ChosenFrom choice k (l ∷ ls) = ChosenIn (choice k) l × ChosenFrom choice (suc k) ls
+
+-- c has an F or R line
+unfoldable pub hasBody : List Line → ℕ → Bool
+hasBody [] c = false
+hasBody (fact d l h ∷ ls) c = eqb d c || hasBody ls c
+hasBody (rule d w op lits ∷ ls) c = eqb d c || hasBody ls c
+hasBody (query r d ∷ ls) c = hasBody ls c
+hasBody (default d ∷ ls) c = hasBody ls c
+
+-- "a condition unknown by default without F and R lines may take any fraction from 0 to top" (ticket 7)
+abbrev pub mayTakeAny : Page → ℕ → Bool
+mayTakeAny page c = unknownByDefault page c && not (hasBody (page .lines) c)
 
 -- "exact fractions from 0 to top for all reached conditions, each equal to the exact, unrounded body value for some choice of one grade
 -- inside each F interval". No fraction lies below 0.
@@ -104,7 +119,7 @@ pub record Exact (page : Page) (choice : ℕ → ℕ) (reached : ℕ → Type 0)
   pub chosen : ChosenFrom choice 0 (page .lines)
   pub fractions : (c : ℕ) → reached c → IsFraction (x c)
   pub to-top : (c : ℕ) → reached c → AtMost (x c) (whole (page .top))
-  pub equal : (c : ℕ) → reached c → Equal (x c) (exactBody page choice x c)
+  pub equal : (c : ℕ) → reached c → mayTakeAny page c ≡ false → Equal (x c) (exactBody page choice x c)
 
 -- "Each such fraction lies within the plain interval of its condition." It speaks of the plain reading only: in row 6 the fraction 1 is exact, and the
 -- closed answer is [0;0].

@@ -8,7 +8,7 @@ use Prim.Native.Nat.{ℕ, _≤_, _<_}
 use lib.Dec.{eqb, leb}
 use lib.ListN.{length, drop}
 use Rattle.semantics.specs.Grade.{P}
-use Rattle.semantics.specs.Page.{Literal, positive, negative, Line, fact, rule, query, Page, names}
+use Rattle.semantics.specs.Page.{Literal, positive, negative, Line, fact, rule, query, default, Page, names}
 use Rattle.semantics.specs.Table.{table}
 use Rattle.semantics.specs.Area.{sound, pageOf}
 use Rattle.semantics.specs.Call.{Cause, cause, firstOf}
@@ -24,6 +24,7 @@ linesNegate [] a b = false
 linesNegate (fact c l h ∷ ls) a b = linesNegate ls a b
 linesNegate (rule c w op lits ∷ ls) a b = (eqb c a && denies lits b) || linesNegate ls a b
 linesNegate (query r c ∷ ls) a b = linesNegate ls a b
+linesNegate (default c ∷ ls) a b = linesNegate ls a b
 
 -- some R line with head a has !b among its literals; then a names b too (`negates-names`)
 abbrev pub negates : Page → ℕ → ℕ → Bool
@@ -54,11 +55,12 @@ pub record LeastLayers (page : Page) (layer : ℕ → ℕ) : Type 0 where
   pub layers : Layers page layer
   pub least : (other : ℕ → ℕ) → Layers page other → (c : ℕ) → c < page .conditions → layer c ≤ other c
 
--- "low equal to high in every F line, weight top in every R line and no P line": the pages of `passed-exact`
+-- "low equal to high in every F line, weight top in every R line and no P line", and (ticket 7) no D line: the pages of `passed-exact`
 abbrev pub CrispLine : ℕ → Line → Type 0
 CrispLine top (fact c l h) = l ≡ h
 CrispLine top (rule c w op lits) = (w ≡ top) × (op ≢ P)
 CrispLine top (query r c) = Unit {0}
+CrispLine top (default c) = ⊥
 
 abbrev pub CrispLines : ℕ → List Line → Type 0
 CrispLines top [] = Unit {0}

@@ -7,7 +7,7 @@ use Prim.Native.Nat.{ℕ}
 use lib.Dec.{leb}
 use lib.ListN.{length, drop}
 use Rattle.fixpoint.specs.Interval.{Interval, Assign}
-use Rattle.semantics.specs.Page.{Reading, K, W, Line, fact, rule, query, Page}
+use Rattle.semantics.specs.Page.{Reading, K, W, Line, fact, rule, query, default, Page}
 use Rattle.semantics.specs.Reading.{IsPlain, IsClosed}
 use Rattle.semantics.specs.ReadPage.{Refusal, textRefusal, pageRead}
 use Rattle.semantics.specs.Fields.{numberText, readingLetter, joined, endedLines}
@@ -23,6 +23,7 @@ queriesOf [] = []
 queriesOf (fact c l h ∷ ls) = queriesOf ls
 queriesOf (rule c w op lits ∷ ls) = queriesOf ls
 queriesOf (query r c ∷ ls) = record { reading = r; condition = c } ∷ queriesOf ls
+queriesOf (default c ∷ ls) = queriesOf ls
 
 -- The answers of a page: its plain and its closed reading.
 abbrev pub IsReading : Reading → Page → Assign → Type 0

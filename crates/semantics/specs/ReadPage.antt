@@ -5,7 +5,7 @@ use mathlib.Core.Option.{Option, none, some}
 use Prim.Native.Nat.{ℕ, zero, suc, _-_}
 use lib.Dec.{eqb, ltb, leb}
 use lib.ListN.{length, getD, drop}
-use Rattle.semantics.specs.Page.{Literal, conditionOf, Line, fact, rule, query, Page}
+use Rattle.semantics.specs.Page.{Literal, conditionOf, Line, fact, rule, query, default, Page, defaults}
 use Rattle.semantics.specs.Area.{usedOf, areaOf}
 use Rattle.semantics.specs.Call.{Cause, cause, firstOf}
 use Rattle.semantics.specs.Text.{textLines, fieldsOf, isHead, hasForm, lineIn, topIn, conditionsIn, pageIn}
@@ -65,6 +65,7 @@ abbrev pub lineRanges : ℕ → ℕ → Line → List (List Cause)
 lineRanges top n (fact c l h) = [] ∷ conditionRange n c ∷ (cause (ltb top l) 22 ∷ []) ∷ (cause (ltb top h) 22 ∷ cause (ltb h l) 23 ∷ []) ∷ []
 lineRanges top n (rule c w op lits) = [] ∷ conditionRange n c ∷ (cause (outside 1 top w) 21 ∷ []) ∷ [] ∷ literalRanges n lits
 lineRanges top n (query r c) = [] ∷ [] ∷ conditionRange n c ∷ []
+lineRanges top n (default c) = [] ∷ conditionRange n c ∷ [] ∷ []
 
 -- "Within a line the leftmost bad field decides": of the fields from place k on
 unfoldable pub leftmost : ℕ → List (List Cause) → Option Fault
@@ -78,22 +79,33 @@ headCauses fs = cause (not (isHead fs)) 3 ∷ []
 unfoldable pub headFault : ℕ → ℕ → List (List ℕ) → Option Fault
 headFault top n fs = orElse (placed 0 (firstOf (headCauses fs))) (leftmost 1 (headRanges top n))
 
--- "in a line, 5: it is line 1,026; 3: ..", then the ranges: line k, after the first
+-- "24, a second D line for one condition", where `before` are the lines before it
+abbrev pub repeatCauses : List Line → Line → List Cause
+repeatCauses before (fact c l h) = []
+repeatCauses before (rule c w op lits) = []
+repeatCauses before (query r c) = []
+repeatCauses before (default c) = cause (leb 1 (defaults before c)) 24 ∷ []
+
+-- "in a line, 5: it is line 1,026; 3: ..", then the ranges, and 24 "after every range fault in that line": line k, after the first
 abbrev pub lineCauses : ℕ → List (List ℕ) → List Cause
 lineCauses k fs = cause (eqb k 1026) 5 ∷ cause (not (hasForm fs)) 3 ∷ []
 
-unfoldable pub lineFault : ℕ → ℕ → ℕ → List (List ℕ) → Option Fault
-lineFault top n k fs = orElse (placed 0 (firstOf (lineCauses k fs))) (leftmost 1 (lineRanges top n (lineIn fs)))
+unfoldable pub lineFault : ℕ → ℕ → ℕ → List Line → List (List ℕ) → Option Fault
+lineFault top n k before fs =
+    orElse (placed 0 (firstOf (lineCauses k fs)))
+    (orElse (leftmost 1 (lineRanges top n (lineIn fs)))
+    (placed 0 (firstOf (repeatCauses before (lineIn fs)))))
 
--- "line by line, the first bad line and its number from 1": of the lines from line k on
-unfoldable pub badLine : ℕ → ℕ → ℕ → List (List ℕ) → Option Refusal
-badLine top n k [] = none
-badLine top n k (l ∷ ls) = orElse (toldAt k (lineFault top n k (fieldsOf l))) (badLine top n (suc k) ls)
+-- "line by line, the first bad line and its number from 1": of the lines from line k on, where `before` are those before it, the last one first
+unfoldable pub badLine : ℕ → ℕ → ℕ → List Line → List (List ℕ) → Option Refusal
+badLine top n k before [] = none
+badLine top n k before (l ∷ ls) =
+    orElse (toldAt k (lineFault top n k before (fieldsOf l))) (badLine top n (suc k) (lineIn (fieldsOf l) ∷ before) ls)
 
 unfoldable pub badLineOf : List (List ℕ) → Option Refusal
 badLineOf ls =
     orElse (toldAt 1 (headFault (topIn ls) (conditionsIn ls) (fieldsOf (getD ls 0 []))))
-    (badLine (topIn ls) (conditionsIn ls) 2 (drop 1 ls))
+    (badLine (topIn ls) (conditionsIn ls) 2 [] (drop 1 ls))
 
 -- what is wrong with a text, if anything; "For 1, 2 and 6 the line is 0."
 unfoldable pub textRefusal : List ℕ → Option Refusal

@@ -6,7 +6,7 @@ use Prim.Native.Nat.{ℕ, _+_, _*_, _-_}
 use lib.Dec.{eqb, leb}
 use lib.ListN.{length, getD, drop}
 use Rattle.semantics.specs.Grade.{Op, M, X, L, B, P}
-use Rattle.semantics.specs.Page.{Literal, positive, negative, Reading, K, W, Line, fact, rule, query, Page}
+use Rattle.semantics.specs.Page.{Literal, positive, negative, Reading, K, W, Line, fact, rule, query, default, Page}
 use Rattle.semantics.specs.Area.{every}
 
 -- a byte and the parts of what follows it: a separator ends an empty part, any other byte stands at the front of the first part
@@ -116,16 +116,24 @@ queryForm fs = isLetter 81 (field fs 0) ∷ eqb (length fs) 3 ∷ isReading (fie
 unfoldable pub isQuery : List (List ℕ) → Bool
 isQuery fs = every (queryForm fs)
 
+-- `D,cond,U`
+abbrev pub defaultForm : List (List ℕ) → List Bool
+defaultForm fs = isLetter 68 (field fs 0) ∷ eqb (length fs) 3 ∷ isNumber (field fs 1) ∷ isLetter 85 (field fs 2) ∷ []
+
+unfoldable pub isDefault : List (List ℕ) → Bool
+isDefault fs = every (defaultForm fs)
+
 -- a line after the first has one of the forms
 unfoldable pub hasForm : List (List ℕ) → Bool
-hasForm fs = isFact fs || (isRule fs || isQuery fs)
+hasForm fs = isFact fs || (isRule fs || (isQuery fs || isDefault fs))
 
 -- what such a line says
 unfoldable pub lineIn : List (List ℕ) → Line
 lineIn fs =
     cond (isFact fs) (fact (numberIn (field fs 1)) (numberIn (field fs 2)) (numberIn (field fs 3)))
     (cond (isRule fs) (rule (numberIn (field fs 1)) (numberIn (field fs 2)) (opIn (field fs 3)) (map literalIn (drop 4 fs)))
-    (query (readingIn (field fs 1)) (numberIn (field fs 2))))
+    (cond (isQuery fs) (query (readingIn (field fs 1)) (numberIn (field fs 2)))
+    (default (numberIn (field fs 1)))))
 
 -- The page of a text with these lines: top and C of the first line, and the lines after it.
 abbrev pub topIn : List (List ℕ) → ℕ

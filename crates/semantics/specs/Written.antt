@@ -2,7 +2,7 @@
 use mathlib.Core.List.{List, [], _∷_, map}
 use Prim.Native.Nat.{ℕ}
 use Rattle.semantics.specs.Grade.{Op, M, X, L, B, P}
-use Rattle.semantics.specs.Page.{Literal, positive, negative, Line, fact, rule, query, Page}
+use Rattle.semantics.specs.Page.{Literal, positive, negative, Line, fact, rule, query, default, Page}
 use Rattle.semantics.specs.Fields.{numberText, readingLetter, joined, endedLines}
 
 abbrev pub literalText : Literal → List ℕ
@@ -16,11 +16,12 @@ opLetter L = 76
 opLetter B = 66
 opLetter P = 80
 
--- `F,cond,low,high`, `R,cond,weight,op,literal,...`, `Q,reading,cond`, by their fields
+-- `F,cond,low,high`, `R,cond,weight,op,literal,...`, `Q,reading,cond`, `D,cond,U`, by their fields
 abbrev pub lineFields : Line → List (List ℕ)
 lineFields (fact c l h) = (70 ∷ []) ∷ numberText c ∷ numberText l ∷ numberText h ∷ []
 lineFields (rule c w op lits) = (82 ∷ []) ∷ numberText c ∷ numberText w ∷ (opLetter op ∷ []) ∷ map literalText lits
 lineFields (query r c) = (81 ∷ []) ∷ (readingLetter r ∷ []) ∷ numberText c ∷ []
+lineFields (default c) = (68 ∷ []) ∷ numberText c ∷ (85 ∷ []) ∷ []
 
 -- `G,top,C`
 abbrev pub headFields : ℕ → ℕ → List (List ℕ)

@@ -11,7 +11,7 @@ use lib.ListN.{length, getD, drop}
 use Rattle.fixpoint.proofs.Cond.{by-bool}
 use Rattle.semantics.specs.Area.{sound, lineAt, pageOf, topOf, conditionsOf, countOf}
 use Rattle.semantics.specs.Grade.{End}
-use Rattle.semantics.specs.Page.{Line, fact, rule, query}
+use Rattle.semantics.specs.Page.{Line, fact, rule, query, default}
 use Rattle.semantics.specs.Table.{member}
 use Rattle.page.specs.Places.{placeOf, LineIn, LineOf}
 use Rattle.page.proofs.Head.{head-of}
@@ -22,11 +22,10 @@ use Rattle.index.specs.Groups.{LinesByHead}
 use Rattle.index.specs.Parts.{Users}
 use Rattle.index.specs.Readers.{among, linesRead}
 use Rattle.value.specs.Table.{endOf, other}
-use Rattle.value.proofs.BodyEnds.{body-most}
 use Rattle.settle.specs.Scratch.{held, roomAt, Half, Lookable, Looked, RestsAt, Settled}
 use Rattle.settle.specs.Waiting.{WaitSet, Woken, Waiting}
 use Rattle.settle.proofs.Members.{waiters, few-wait, else-same, rest-in, fewer}
-use Rattle.settle.proofs.Raising.{E}
+use Rattle.settle.proofs.Raising.{E, rests-by}
 use Rattle.settle.proofs.Settling.{Settling, settling-first, settling-next, settling-last}
 use Rattle.index.proofs.Grouped.{group-within}
 
@@ -40,6 +39,7 @@ read-cons code (rule d w op lits) ls c = go (eqb d c && among code lits)
     go true = refl
     go false = refl
 read-cons code (query r d) ls c = refl
+read-cons code (default d) ls c = refl
 
 module _ (a : List ℕ) (ok : sound a ≡ true) (code c : ℕ) where
   read-from : (m k : ℕ) → k + m < countOf a → linesRead code (lineAt (drop (placeOf a (k + m)) a) ∷ []) c ≡ true → linesRead code (linesLeft a (placeOf a k) k) c ≡ true
@@ -89,7 +89,7 @@ module _ (a first places : List ℕ) (ok : sound a ≡ true) (g : LinesByHead a 
     -- and if c does not read itself, or did not rise, it rests
     pub group-rests : (linesRead (2 * c) (pageOf a .lines) c ≡ true → endOf e (held (conditionsOf a) s′ c) ≡ endOf e (held (conditionsOf a) s c)) → member m c ≡ true → RestsAt e a s′ c
     group-rests h q =
-        body-most e a ok (held (conditionsOf a) s′) c (endOf e (held (conditionsOf a) s′ c))
+        rests-by (r .half) c real q
         (λ j u p d.
         let y = g .every c (placeOf a j) real (line-of (topOf a) (held (conditionsOf a) s′) c a j u d) in
         let z : getD places (y .0) 0 ≡ placeOf a j = y .3 in

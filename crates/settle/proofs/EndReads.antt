@@ -11,7 +11,7 @@ use Rattle.semantics.specs.Area.{codeOf}
 use Rattle.fixpoint.specs.Interval.{Interval, Assign}
 use Rattle.semantics.specs.Body.{literalValue, onlyIf, lineBody, bodies, bodyless, largestOf, T}
 use Rattle.semantics.specs.Grade.{End, lower, upper, divided, combine, endwise, foldFrom, foldAll, weighted, negated}
-use Rattle.semantics.specs.Page.{Literal, positive, negative, conditionOf, mentions, Line, fact, rule, query, linesName, Page, names}
+use Rattle.semantics.specs.Page.{Literal, positive, negative, conditionOf, mentions, Line, fact, rule, query, default, linesName, Page, names}
 use Rattle.semantics.proofs.Proper.{LiteralsBelow, InRange, AllInRange, Proper}
 use Rattle.semantics.proofs.Soundness.{both-true}
 use Rattle.semantics.proofs.Table.{or-cases}
@@ -51,6 +51,7 @@ read-named g (rule d w op lits ∷ ls) a c h =
       | inr e ↦ right (eqb d a && mentions lits c) _ (read-named g ls a c e)
     ]
 read-named g (query r d ∷ ls) a c h = read-named g ls a c h
+read-named g (default d ∷ ls) a c h = read-named g ls a c h
 
 -- one end is the same
 abbrev Level : End → Interval → Interval → Type 0
@@ -125,6 +126,7 @@ module _ (n top : ℕ) (e : End) (I J : Assign) where
       (λ b m f. h b m (left (eqb d c && among (literalCode false b) lits) _ (rw (t, f)))) (λ b m f. g b m (left (eqb d c && among (literalCode true b) lits) _ (rw (t, f)))))))
       (bodies-level ls (w .1) c (λ b m f. h b m (right (eqb d c && among (literalCode false b) lits) _ f)) (λ b m f. g b m (right (eqb d c && among (literalCode true b) lits) _ f)))
   bodies-level (query r d ∷ ls) w c h g = bodies-level ls (w .1) c h g
+  bodies-level (default d ∷ ls) w c h g = bodies-level ls (w .1) c h g
 
 -- what a line adds at I and at J, where they are the same at what it reads
 only-pair : (e : End) {ps qs : List Interval} {p : Interval} → Forall₂ (Level e) ps qs → ps ≡ p ∷ [] → (q : Interval) × (qs ≡ q ∷ []) × Level e p q

@@ -9,10 +9,11 @@ use native.Mathlib.Omega.{arith}
 use lib.ListN.{length, getD, set, take, drop, length-set}
 use Rattle.fixpoint.specs.Interval.{Interval, Assign}
 use Rattle.fixpoint.specs.System.{System}
+use Rattle.fixpoint.proofs.Cond.{by-bool}
 use Rattle.fixpoint.proofs.Sum.{sum-le, sum-drop}
 use Rattle.semantics.specs.Area.{sound, lineAt, pageOf, topOf, conditionsOf, countOf}
-use Rattle.semantics.specs.Body.{lineBody, T, unknownByDefault}
-use Rattle.semantics.specs.Grade.{End}
+use Rattle.semantics.specs.Body.{lineBody, T, bodyless, unknownByDefault}
+use Rattle.semantics.specs.Grade.{End, lower, upper}
 use Rattle.semantics.specs.Page.{names}
 use Rattle.semantics.specs.Table.{member}
 use Rattle.semantics.proofs.Proper.{InRange, AllInRange}
@@ -26,11 +27,12 @@ use Rattle.page.proofs.Scanning.{linesLeft, lines-first, entry-ok, entry-here}
 use Rattle.page.proofs.LineNumbers.{scanning-at, lines-from, line-of}
 use Rattle.value.specs.Table.{endOf, other, Grades}
 use Rattle.value.specs.LineEnds.{LineEnd}
-use Rattle.value.proofs.BodyEnds.{body-has}
+use Rattle.value.proofs.BodyEnds.{body-most, body-has}
+use Rattle.value.proofs.Defaults.{bodyless-low, bodyless-kept}
 use Rattle.settle.specs.Ends.{reads, EndLocal, room}
-use Rattle.settle.specs.Scratch.{baseOf, tableOf, held, settledAt, roomAt, Half, Steady, Covered, Raised}
+use Rattle.settle.specs.Scratch.{baseOf, tableOf, held, staysAt, settledAt, roomAt, Half, Steady, Covered, Raised, RestsAt}
 use Rattle.settle.proofs.EndReads.{line-level, page-ends}
-use Rattle.settle.proofs.Halves.{ends-in, end-in, below-T, settled-others}
+use Rattle.settle.proofs.Halves.{ends-in, end-in, settled-stays, below-T, settled-others, settled-T}
 use Rattle.settle.proofs.Scratch.{end-at, base-in, part-is, half-table, half-grades, put-here, put-else, put-other, put-negated, put-rest, put-beyond}
 
 module _ (a : List ℕ) (ok : sound a ≡ true) where
@@ -65,19 +67,42 @@ pub room-less : (e : End) (a s s′ : List ℕ) → ((c : ℕ) → c < condition
 unfolding room
 room-less e a s s′ h = sum-le (conditionsOf a) _ _ (λ c l. omega (arith, h c l))
 
-pub steady-same : (e : End) (n : ℕ) (m : List Bool) (s : List ℕ) → Steady e n m s s
-steady-same e n m s = record { same-length = refl; others = λ c l. refl; apart = λ c l r. refl; rises = λ c l. omega arith; negations = λ c l. refl; beyond = refl }
+pub steady-same : (e : End) (a : List ℕ) (m : List Bool) (s : List ℕ) → Steady e a m s s
+steady-same e a m s =
+    record { same-length = refl; others = λ c l. refl; apart = λ c l r. refl; stayed = λ c l f. refl; rises = λ c l. omega arith; negations = λ c l. refl; beyond = refl }
 
-pub steady-on : {e : End} {n : ℕ} {m : List Bool} {s s′ s″ : List ℕ} → Steady e n m s s′ → Steady e n m s′ s″ → Steady e n m s s″
+pub steady-on : {e : End} {a : List ℕ} {m : List Bool} {s s′ s″ : List ℕ} → Steady e a m s s′ → Steady e a m s′ s″ → Steady e a m s s″
 steady-on u v =
     record {
       same-length = v .same-length ∙ u .same-length;
       others = λ c l. v .others c l ∙ u .others c l;
       apart = λ c l r. v .apart c l r ∙ u .apart c l r;
+      stayed = λ c l f. v .stayed c l f ∙ u .stayed c l f;
       rises = λ c l. omega (arith, u .rises c l, v .rises c l);
       negations = λ c l. v .negations c l ∙ u .negations c l;
       beyond = v .beyond ∙ u .beyond;
     }
+
+-- a condition without lines has no end but one that stays
+bodyless-end : (e : End) (a : List ℕ) (c : ℕ) → staysAt e a c ≡ false → endOf e (bodyless (pageOf a) c) ≡ 0
+bodyless-end lower a c f = bodyless-low a c
+bodyless-end upper a c f = ap (λ (p : Interval). p .high) (bodyless-kept a c f)
+
+-- whoever has an end that stays rests, and so does whoever no line gives more than it holds
+module _ {e : End} {a : List ℕ} {m : List Bool} {s : List ℕ} (H : Half e a m s) (c : ℕ) (l : c < conditionsOf a) (r : member m c ≡ true) where
+  pub T-below : endOf e (T (pageOf a) (held (conditionsOf a) s) c) ≤ settledAt e a s c
+  unfolding pageOf
+  T-below =
+      below-T (S a (H .page-sound)) (E a (H .page-sound)) (unknownByDefault (pageOf a)) e (held (conditionsOf a) s) (H .within) (held (conditionsOf a) s) (λ b i. refl) (H .below) c l
+      (H .capped c l r)
+
+  pub rests-by : ((j : ℕ) → j < countOf a → (p : Interval) → lineBody (topOf a) (held (conditionsOf a) s) c (lineAt (drop (placeOf a j) a)) ≡ p ∷ [] → endOf e p ≤ endOf e (held (conditionsOf a) s c))
+      → RestsAt e a s c
+  unfolding pageOf
+  rests-by b =
+      by-bool (staysAt e a c)
+      (λ f. omega (arith, T-below, settled-stays (conditionsOf a) (topOf a) (T (pageOf a)) (unknownByDefault (pageOf a)) e (held (conditionsOf a) s) c f))
+      (λ f. body-most e a (H .page-sound) (held (conditionsOf a) s) c (endOf e (held (conditionsOf a) s c)) b (λ z. omega (arith, bodyless-end e a c f)))
 
 -- the line at a place, whose head is h
 module _ (e : End) (a : List ℕ) (m : List Bool) (s : List ℕ) (at : ℕ) (H : Half e a m s) (x : LineIn a at) where
@@ -100,7 +125,7 @@ module _ (e : End) (a : List ℕ) (m : List Bool) (s : List ℕ) (at : ℕ) (H :
   nothing-done v =
       record {
         half = H;
-        steady = steady-same e n m s;
+        steady = steady-same e a m s;
         still = λ z. refl;
         moves = λ z. absurd (false≢true z);
         covered = v;
@@ -135,22 +160,22 @@ module _ (e : End) (a : List ℕ) (m : List Bool) (s : List ℕ) (at : ℕ) (H :
       s′ = set s (baseOf n e + 2 * h) v
 
       v-below : v ≤ settledAt e a s h
-      unfolding unknownByDefault pageOf
       v-below =
           let q = line-adds in
           omega (
             arith,
             q .2,
             body-has e a (H .page-sound) (held n s) h (x .number) (x .in-count) (q .0) (moved-to (held n s) h (q .0) (q .1)),
-            below-T (S a (H .page-sound)) (E a (H .page-sound)) e (held n s) (H .within) (held n s) (λ c l. refl) (H .below) h real,
+            T-below H h real reached,
           )
+
+      -- so its end is none that stays
+      goes : staysAt e a h ≡ true → ⊥
+      unfolding pageOf
+      goes f = omega (arith, v-below, settled-stays n (topOf a) (T (pageOf a)) (unknownByDefault (pageOf a)) e (held n s) h f)
 
       to-others : (c : ℕ) → c < n → endOf (other e) (held n s′ c) ≡ endOf (other e) (held n s c)
       to-others = put-other n s h v (H .long) real e
-
-      settled-same : (c : ℕ) → c < n → settledAt e a s′ c ≡ settledAt e a s c
-      unfolding unknownByDefault
-      settled-same c l = settled-others (S a (H .page-sound)) (E a (H .page-sound)) e (held n s′) (held n s) to-others c l
 
       by-head : (P : ℕ → Type 0) → P h → ((c : ℕ) → c < n → c ≢ h → P c) → (c : ℕ) → c < n → P c
       by-head P f g c l =
@@ -164,6 +189,12 @@ module _ (e : End) (a : List ℕ) (m : List Bool) (s : List ℕ) (at : ℕ) (H :
 
       else′ : (c : ℕ) → c ≢ h → endOf e (held n s′ c) ≡ endOf e (held n s c)
       else′ = put-else n s h v (H .long) real e
+
+      stayed′ : (c : ℕ) → c < n → staysAt e a c ≡ true → endOf e (held n s′ c) ≡ endOf e (held n s c)
+      stayed′ c l f = else′ c (λ z. goes (subst (λ (b : ℕ). staysAt e a b ≡ true) z f))
+
+      settled-same : (c : ℕ) → c < n → settledAt e a s′ c ≡ settledAt e a s c
+      settled-same c l = settled-others (S a (H .page-sound)) (E a (H .page-sound)) (unknownByDefault (pageOf a)) e (held n s′) (held n s) to-others stayed′ c l
 
       rises′ : (c : ℕ) → c < n → endOf e (held n s c) ≤ endOf e (held n s′ c)
       rises′ = by-head (λ c. endOf e (held n s c) ≤ endOf e (held n s′ c)) (omega (arith, here)) (λ c l z. omega (arith, else′ c z))
@@ -180,14 +211,21 @@ module _ (e : End) (a : List ℕ) (m : List Bool) (s : List ℕ) (at : ℕ) (H :
                 (subst (λ (k : ℕ). k ≤ topOf a) (sym (to-others c l)) (end-in (other e) (held n s c) (H .within c l)));
             negated = λ c l. put-negated n s h v (H .long) real e c ∙ H .negated c l ∙ ap (λ (k : ℕ). topOf a - k) (sym (to-others c l));
             below = λ c l. by-head (λ c. endOf e (held n s′ c) ≤ settledAt e a s′ c) (omega (arith, here, v-below, settled-same h real)) (λ c l z. omega (arith, else′ c z, settled-same c l, H .below c l)) c l;
+            capped = λ c l r f. omega (
+              arith,
+              ap (endOf e) (settled-T (S a (H .page-sound)) (E a (H .page-sound)) (unknownByDefault (pageOf a)) e (held n s′) (held n s) to-others stayed′ c l),
+              H .capped c l r f,
+              stayed′ c l f,
+            );
           }
 
-      steady′ : Steady e n m s s′
+      steady′ : Steady e a m s s′
       steady′ =
           record {
             same-length = length-set s (baseOf n e + 2 * h) v;
             others = to-others;
             apart = λ c l r. else′ c (λ z. true≢false (sym reached ∙ sym (ap (member m) z) ∙ r));
+            stayed = stayed′;
             rises = rises′;
             negations = put-rest n s h v (H .long) real e;
             beyond = put-beyond n s h v (H .long) real e;

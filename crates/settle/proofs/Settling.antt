@@ -4,16 +4,15 @@ use mathlib.Core.Bool.{Bool, true, false, false≢true}
 use mathlib.Core.List.{List}
 use Prim.Native.Nat.{ℕ, _<_}
 use native.Mathlib.Omega.{arith}
-use Rattle.semantics.specs.Area.{conditionsOf, countOf}
+use Rattle.semantics.specs.Area.{pageOf, conditionsOf, countOf}
 use Rattle.semantics.specs.Body.{T, unknownByDefault}
 use Rattle.semantics.specs.Grade.{End}
 use Rattle.semantics.specs.Table.{member}
 use Rattle.page.specs.Places.{placeOf}
 use Rattle.value.specs.Table.{endOf}
-use Rattle.value.proofs.BodyEnds.{body-most}
 use Rattle.settle.specs.Scratch.{held, roomAt, Half, Steady, Looked, RestsAt, Settled}
 use Rattle.settle.proofs.Halves.{settled-at, settled-others}
-use Rattle.settle.proofs.Raising.{S, E, room-less, steady-same, steady-on}
+use Rattle.settle.proofs.Raising.{S, E, room-less, steady-same, steady-on, rests-by}
 
 module _ (e : End) (a : List ℕ) (m : List Bool) where
   abbrev n : ℕ
@@ -22,12 +21,12 @@ module _ (e : End) (a : List ℕ) (m : List Bool) where
   -- on the way
   pub record Settling (s₀ s : List ℕ) (changed : Bool) : Type 0 where
     pub half : Half e a m s
-    pub steady : Steady e (conditionsOf a) m s₀ s
+    pub steady : Steady e a m s₀ s
     pub still : changed ≡ false → s ≡ s₀
     pub moves : changed ≡ true → roomAt e a s < roomAt e a s₀
 
   pub settling-first : {s : List ℕ} → Half e a m s → Settling s s false
-  settling-first h = record { half = h; steady = steady-same e n m _; still = λ z. refl; moves = λ z. absurd (false≢true z) }
+  settling-first h = record { half = h; steady = steady-same e a m _; still = λ z. refl; moves = λ z. absurd (false≢true z) }
 
   -- a look that raised an end
   module _ {s₀ s s′ : List ℕ} {place : ℕ → ℕ} {from to : ℕ} {changed : Bool} (v : Settling s₀ s changed) (r : Looked e a m place from to s s′ true) where
@@ -42,7 +41,6 @@ module _ (e : End) (a : List ℕ) (m : List Bool) where
 
   -- where T makes no more of any reached condition than it holds, the ends are settled
   pub settling-last : {s₀ s : List ℕ} {changed : Bool} → Settling s₀ s changed → ((c : ℕ) → c < n → member m c ≡ true → RestsAt e a s c) → Settled e a m s₀ s changed
-  unfolding unknownByDefault
   settling-last {s₀} {s} v q =
       let h = v .half in
       record {
@@ -52,8 +50,8 @@ module _ (e : End) (a : List ℕ) (m : List Bool) where
         moves = v .moves;
         rests = q;
         ends = λ c l r.
-            settled-at (S a (h .page-sound)) (E a (h .page-sound)) e (held n s) (h .within) (h .shut) (held n s) (λ b i. refl) (h .below) q c l r
-            ∙ settled-others (S a (h .page-sound)) (E a (h .page-sound)) e (held n s) (held n s₀) (v .steady .others) c l;
+            settled-at (S a (h .page-sound)) (E a (h .page-sound)) (unknownByDefault (pageOf a)) e (held n s) (h .within) (h .shut) (held n s) (λ b i. refl) (λ b i f. refl) (h .below) q c l r
+            ∙ settled-others (S a (h .page-sound)) (E a (h .page-sound)) (unknownByDefault (pageOf a)) e (held n s) (held n s₀) (v .steady .others) (v .steady .stayed) c l;
       }
 
   -- if a sweep raised nothing, T makes no more of any
@@ -62,6 +60,6 @@ module _ (e : End) (a : List ℕ) (m : List Bool) where
       let z : s′ ≡ s = r .still refl in (
         z,
         λ c l q. subst (λ (t : List ℕ). RestsAt e a t c) z
-            (body-most e a (r .half .page-sound) (held n s′) c (endOf e (held n s′ c))
+            (rests-by (r .half) c l q
             (λ j u p d. r .covered j (omega arith) u c l q (λ b i f. ap (λ (t : List ℕ). endOf e (held n t b)) z) p d)),
       )

@@ -3,7 +3,7 @@ use mathlib.Core.Bool.{Bool, true, false}
 use mathlib.Core.Path.{_≡_}
 use Prim.Native.Nat.{ℕ, _+_, _*_, _-_, _<_}
 use Rattle.fixpoint.specs.Interval.{Interval, Assign}
-use Rattle.fixpoint.specs.AlternatingFixpoint.{highs, lows}
+use Rattle.fixpoint.specs.AlternatingFixpoint.{mix, highs, lows}
 use Rattle.fixpoint.specs.Sum.{sum}
 use Rattle.semantics.specs.Grade.{End, lower, upper}
 use Rattle.semantics.specs.Page.{Page}
@@ -25,11 +25,23 @@ pub record EndLocal (n : ℕ) (T : Assign → ℕ → Interval) (names : ℕ →
   pub local-end : (e : End) (I J : Assign) (A : ℕ) → A < n → ((B : ℕ) → B < n → reads false A B ≡ true → endOf e (I B) ≡ endOf e (J B))
       → ((B : ℕ) → B < n → reads true A B ≡ true → endOf (other e) (I B) ≡ endOf (other e) (J B)) → endOf e (T I A) ≡ endOf e (T J A)
 
--- what the end e of c comes to while the other ends stay as K has them: the least high ends over the low ends of K, or the least low ends
--- over its high ends
+abbrev pub nobody : ℕ → Bool
+nobody c = false
+
+-- the ends e that stay while the others are settled: the high ends of the free conditions
+abbrev pub stays : End → (ℕ → Bool) → ℕ → Bool
+stays upper free c = free c
+stays lower free c = false
+
+-- K, with what its ends e come to while the other ends stay as K has them: the least high ends of those not free over the floor of K, or the
+-- least low ends over its high ends
+abbrev pub settledAll : End → (n top : ℕ) → (Assign → ℕ → Interval) → (ℕ → Bool) → Assign → Assign
+settledAll upper n top T free K = mix free K (highs n top T free K)
+settledAll lower n top T free K = mix nobody (lows n top T nobody K) K
+
+-- what the end e of c comes to
 abbrev pub settledEnd : End → (n top : ℕ) → (Assign → ℕ → Interval) → (ℕ → Bool) → Assign → ℕ → ℕ
-settledEnd upper n top T free K c = highs n top T free K c .high
-settledEnd lower n top T free K c = lows n top T free K c .low
+settledEnd e n top T free K c = endOf e (settledAll e n top T free K c)
 
 -- how far the ends e are from top, all together
 unfoldable pub room : End → ℕ → ℕ → Assign → ℕ

@@ -19,7 +19,7 @@ use Rattle.semantics.specs.Table.{member}
 use Rattle.index.specs.Readers.{linesRead}
 use Rattle.page.specs.Places.{LineIn}
 use Rattle.value.specs.Table.{endOf, other}
-use Rattle.settle.specs.Ends.{settledEnd, room}
+use Rattle.settle.specs.Ends.{stays, settledAll, settledEnd, room}
 
 -- where the table of an end begins, and the table
 abbrev pub baseOf : ℕ → End → ℕ
@@ -33,6 +33,10 @@ tableOf n e s = take (2 * n) (drop (baseOf n e) s)
 abbrev pub held : ℕ → List ℕ → Assign
 held n s c = record { low = getD s (2 * c) 0; high = getD s (2 * n + 2 * c) 0 }
 
+-- whether the end e of c stays while the others are settled
+abbrev pub staysAt : End → (a : List ℕ) → ℕ → Bool
+staysAt e a = stays e (unknownByDefault (pageOf a))
+
 -- what the end e of c comes to while the other ends stay as they are held, and how far all are from top
 abbrev pub settledAt : End → (a s : List ℕ) → ℕ → ℕ
 settledAt e a s c = settledEnd e (conditionsOf a) (topOf a) (T (pageOf a)) (unknownByDefault (pageOf a)) (held (conditionsOf a) s) c
@@ -44,7 +48,12 @@ roomAt e a s = room e (conditionsOf a) (topOf a) (held (conditionsOf a) s)
 abbrev pub FiguresOf : End → (a : List ℕ) (n base add : ℕ) → Type 0
 FiguresOf e a n base add = (n ≡ conditionsOf a) × (base ≡ baseOf n e) × (add ≡ rounding e (topOf a))
 
--- a half under way: grades, the negations of the other ends, and no end above what it comes to
+-- T makes, of the ends e as they come to be, no more at c than c holds
+abbrev pub CappedAt : End → (a s : List ℕ) → ℕ → Type 0
+CappedAt e a s c =
+    endOf e (T (pageOf a) (settledAll e (conditionsOf a) (topOf a) (T (pageOf a)) (unknownByDefault (pageOf a)) (held (conditionsOf a) s)) c) ≤ endOf e (held (conditionsOf a) s c)
+
+-- a half under way: grades, the negations of the other ends, no end above what it comes to, and no line that would raise an end that stays
 pub record Half (e : End) (a : List ℕ) (m : List Bool) (s : List ℕ) : Type 0 where
   pub page-sound : sound a ≡ true
   pub long : 4 * conditionsOf a ≤ length s
@@ -54,15 +63,18 @@ pub record Half (e : End) (a : List ℕ) (m : List Bool) (s : List ℕ) : Type 0
   pub negated : (c : ℕ) → c < conditionsOf a
       → getD s (baseOf (conditionsOf a) e + (2 * c + 1)) 0 ≡ topOf a - endOf (other e) (held (conditionsOf a) s c)
   pub below : (c : ℕ) → c < conditionsOf a → endOf e (held (conditionsOf a) s c) ≤ settledAt e a s c
+  pub capped : (c : ℕ) → c < conditionsOf a → member m c ≡ true → staysAt e a c ≡ true → CappedAt e a s c
 
 -- what every step of a half keeps; no end falls
-pub record Steady (e : End) (n : ℕ) (m : List Bool) (s s′ : List ℕ) : Type 0 where
+pub record Steady (e : End) (a : List ℕ) (m : List Bool) (s s′ : List ℕ) : Type 0 where
   pub same-length : length s′ ≡ length s
-  pub others : (c : ℕ) → c < n → endOf (other e) (held n s′ c) ≡ endOf (other e) (held n s c)
-  pub apart : (c : ℕ) → c < n → member m c ≡ false → endOf e (held n s′ c) ≡ endOf e (held n s c)
-  pub rises : (c : ℕ) → c < n → endOf e (held n s c) ≤ endOf e (held n s′ c)
-  pub negations : (c : ℕ) → c < n → getD s′ (baseOf n (other e) + (2 * c + 1)) 0 ≡ getD s (baseOf n (other e) + (2 * c + 1)) 0
-  pub beyond : drop (4 * n) s′ ≡ drop (4 * n) s
+  pub others : (c : ℕ) → c < conditionsOf a → endOf (other e) (held (conditionsOf a) s′ c) ≡ endOf (other e) (held (conditionsOf a) s c)
+  pub apart : (c : ℕ) → c < conditionsOf a → member m c ≡ false → endOf e (held (conditionsOf a) s′ c) ≡ endOf e (held (conditionsOf a) s c)
+  pub stayed : (c : ℕ) → c < conditionsOf a → staysAt e a c ≡ true → endOf e (held (conditionsOf a) s′ c) ≡ endOf e (held (conditionsOf a) s c)
+  pub rises : (c : ℕ) → c < conditionsOf a → endOf e (held (conditionsOf a) s c) ≤ endOf e (held (conditionsOf a) s′ c)
+  pub negations : (c : ℕ) → c < conditionsOf a
+      → getD s′ (baseOf (conditionsOf a) (other e) + (2 * c + 1)) 0 ≡ getD s (baseOf (conditionsOf a) (other e) + (2 * c + 1)) 0
+  pub beyond : drop (4 * conditionsOf a) s′ ≡ drop (4 * conditionsOf a) s
 
 -- The line at a place is looked at between s and s′: if what it names plainly holds in s′ what it held in s, it adds to no reached
 -- condition more than that holds.
@@ -75,7 +87,7 @@ Covered e a m s s′ at =
 -- the end of the head of the line at a place is raised, or nothing is done
 pub record Raised (e : End) (a : List ℕ) (m : List Bool) (at : ℕ) (s s′ : List ℕ) (rose : Bool) : Type 0 where
   pub half : Half e a m s′
-  pub steady : Steady e (conditionsOf a) m s s′
+  pub steady : Steady e a m s s′
   pub still : rose ≡ false → s′ ≡ s
   pub moves : rose ≡ true → roomAt e a s′ < roomAt e a s
   pub covered : Covered e a m s s′ at
@@ -90,7 +102,7 @@ pub record Lookable (a places : List ℕ) (from to : ℕ) : Type 0 where
 -- the lines at the places from one number up to another were looked at
 pub record Looked (e : End) (a : List ℕ) (m : List Bool) (place : ℕ → ℕ) (from to : ℕ) (s s′ : List ℕ) (rose : Bool) : Type 0 where
   pub half : Half e a m s′
-  pub steady : Steady e (conditionsOf a) m s s′
+  pub steady : Steady e a m s s′
   pub still : rose ≡ false → s′ ≡ s
   pub moves : rose ≡ true → roomAt e a s′ < roomAt e a s
   pub covered : (i : ℕ) → from ≤ i → i < to → Covered e a m s s′ (place i)
@@ -104,7 +116,7 @@ RestsAt e a s c = endOf e (T (pageOf a) (held (conditionsOf a) s) c) ≤ endOf e
 -- the ends e are settled
 pub record Settled (e : End) (a : List ℕ) (m : List Bool) (s s′ : List ℕ) (changed : Bool) : Type 0 where
   pub half : Half e a m s′
-  pub steady : Steady e (conditionsOf a) m s s′
+  pub steady : Steady e a m s s′
   pub still : changed ≡ false → s′ ≡ s
   pub moves : changed ≡ true → roomAt e a s′ < roomAt e a s
   pub rests : (c : ℕ) → c < conditionsOf a → member m c ≡ true → RestsAt e a s′ c

@@ -7,11 +7,12 @@ use Prim.Native.Nat.{ℕ, _+_, _*_, _-_, _≤_, _<_}
 use native.Mathlib.Omega.{arith}
 use lib.ListN.{length, getD, set, drop, length-set}
 use lib.Seq.{getD-set-same, getD-set-other, drop-set-lt}
-use Rattle.fixpoint.proofs.Cond.{cond-true, cond-false}
-use Rattle.semantics.specs.Area.{sound, topOf, conditionsOf}
+use Rattle.fixpoint.proofs.Cond.{cond-true, cond-false, cond-most}
+use Rattle.semantics.specs.Area.{sound, pageOf, topOf, conditionsOf}
 use Rattle.semantics.specs.Table.{member}
+use Rattle.semantics.proofs.Soundness.{sound-proper}
 use Rattle.rounds.proofs.Starting.{upto}
-use Rattle.stages.specs.Steps.{firstHigh, BegunAt, Begun, TopsCopied}
+use Rattle.stages.specs.Steps.{freeAt, firstHigh, BegunAt, Begun, firstTop, TopsCopied}
 
 -- the high ends of the conditions before c
 module _ (a : List ℕ) (m : List Bool) (s : List ℕ) where
@@ -22,21 +23,21 @@ module _ (a : List ℕ) (m : List Bool) (s : List ℕ) where
     pub within : c ≤ n
     pub long : n ≤ length tops
     pub same-length : length tops ≡ length tops₀
-    pub copied : (d : ℕ) → d < c → member m d ≡ true → getD tops d 0 ≡ getD s (2 * n + 2 * d) 0
+    pub copied : (d : ℕ) → d < c → member m d ≡ true → getD tops d 0 ≡ firstTop a s d
 
   pub copying-first : {tops : List ℕ} → n ≤ length tops → Copying tops tops 0
   copying-first h = record { within = omega arith; long = h; same-length = refl; copied = λ d l. absurd (omega arith) }
 
   module _ {tops₀ tops : List ℕ} {c : ℕ} (v : Copying tops₀ tops c) (l : c < n) where
-    pub copying-next : {tops′ : List ℕ} → tops′ ≡ set tops c (getD s (2 * n + 2 * c) 0) → Copying tops₀ tops′ (c + 1)
-    copying-next {tops′} e =
+    pub copying-next : {tops′ : List ℕ} (x : ℕ) → x ≡ firstTop a s c → tops′ ≡ set tops c x → Copying tops₀ tops′ (c + 1)
+    copying-next {tops′} x q e =
         rw e (record {
           within = omega arith;
-          long = omega (arith, length-set tops c (getD s (2 * n + 2 * c) 0), v .long);
-          same-length = length-set tops c (getD s (2 * n + 2 * c) 0) ∙ v .same-length;
-          copied = upto (λ d. member m d ≡ true → getD (set tops c (getD s (2 * n + 2 * c) 0)) d 0 ≡ getD s (2 * n + 2 * d) 0) c
-              (λ d k r. getD-set-other tops c d (getD s (2 * n + 2 * c) 0) 0 (λ z. omega arith) ∙ v .copied d k r)
-              (λ r. getD-set-same tops c (getD s (2 * n + 2 * c) 0) 0 (omega (arith, v .long)));
+          long = omega (arith, length-set tops c x, v .long);
+          same-length = length-set tops c x ∙ v .same-length;
+          copied = upto (λ d. member m d ≡ true → getD (set tops c x) d 0 ≡ firstTop a s d) c
+              (λ d k r. getD-set-other tops c d x 0 (λ z. omega arith) ∙ v .copied d k r)
+              (λ r. getD-set-same tops c x 0 (omega (arith, v .long)) ∙ q);
         })
 
     pub copying-passed : {tops′ : List ℕ} → member m c ≡ false → tops′ ≡ tops → Copying tops₀ tops′ (c + 1)
@@ -45,11 +46,22 @@ module _ (a : List ℕ) (m : List Bool) (s : List ℕ) where
           within = omega arith;
           long = v .long;
           same-length = v .same-length;
-          copied = upto (λ d. member m d ≡ true → getD tops d 0 ≡ getD s (2 * n + 2 * d) 0) c (v .copied) (λ r. absurd (true≢false (sym r ∙ q)));
+          copied = upto (λ d. member m d ≡ true → getD tops d 0 ≡ firstTop a s d) c (v .copied) (λ r. absurd (true≢false (sym r ∙ q)));
         })
 
   pub copying-last : {tops₀ tops : List ℕ} {c : ℕ} → Copying tops₀ tops c → n ≤ c → TopsCopied a m s tops₀ tops
   copying-last v l = record { size = v .same-length; long = v .long; copied = λ d k. v .copied d (omega arith) }
+
+-- the number that the loop stores
+pub first-free : (a s : List ℕ) (c : ℕ) → freeAt a c ≡ true → topOf a ≡ firstTop a s c
+first-free a s c e = sym (cond-true (topOf a) (getD s (2 * conditionsOf a + 2 * c) 0) e)
+
+pub first-small : (a : List ℕ) → sound a ≡ true → (s : List ℕ) (c : ℕ) → getD s (2 * conditionsOf a + 2 * c) 0 ≤ 200 → firstTop a s c ≤ 200
+unfolding pageOf
+first-small a ok s c h = cond-most (freeAt a c) (λ e. sound-proper a ok .top-most) (λ e. h)
+
+pub first-bound : (a s : List ℕ) (c : ℕ) → freeAt a c ≡ false → getD s (2 * conditionsOf a + 2 * c) 0 ≡ firstTop a s c
+first-bound a s c e = sym (cond-false (topOf a) (getD s (2 * conditionsOf a + 2 * c) 0) e)
 
 -- the four numbers of the conditions before c
 module _ (a : List ℕ) (m : List Bool) (s₀ : List ℕ) where

@@ -9,20 +9,16 @@ use native.Mathlib.Omega.{arith}
 use lib.ListN.{length, getD, drop}
 use Rattle.fixpoint.proofs.Cond.{by-bool, cond-true, cond-false}
 use Rattle.fixpoint.proofs.KnowledgeOrder.{pair-eq}
-use Rattle.fixpoint.proofs.Sum.{sum-eq}
 use Rattle.semantics.specs.Area.{sound, pageOf, topOf, conditionsOf}
-use Rattle.semantics.specs.Grade.{lower}
 use Rattle.semantics.specs.Table.{member}
 use Rattle.semantics.proofs.Soundness.{sound-proper}
-use Rattle.settle.specs.Ends.{room}
-use Rattle.settle.specs.Scratch.{roomAt}
 use Rattle.rounds.specs.Round.{MarkedWait}
 use Rattle.rounds.proofs.Rounding.{all-lows}
 use Rattle.stages.specs.Counted.{CountReady, Counted}
 use Rattle.stages.specs.Steps.{firstHigh, Begun, TopsCopied}
 use Rattle.stages.specs.Stages.{Tables, Tops, AtStage, Supported, Advanced}
 use Rattle.stages.proofs.Assignments.{high-eq}
-use Rattle.stages.proofs.PageStages.{stage-first, closed-in, MovingAt, moving-low, rounds-few, counted-here, counted-after}
+use Rattle.stages.proofs.PageStages.{stage-first, closed-in, MovingAt, moving-on, rounds-few, counted-here, counted-after}
 
 -- before the first round
 module _ {a : List ℕ} {m : List Bool} {s : List ℕ} (b : CountReady a m s) where
@@ -33,8 +29,13 @@ module _ {a : List ℕ} {m : List Bool} {s : List ℕ} (b : CountReady a m s) wh
   unfolding pageOf
   tops-small c l r = omega (arith, high-eq (b .reads-closed c l r), closed-in a (b .page-sound) m (b .shut) c l, sound-proper a (b .page-sound) .top-most)
 
-  pub tops-are : {tops₀ tops : List ℕ} → TopsCopied a m s tops₀ tops → Tops a m tops
-  tops-are v = record { known = v .long; closed = λ c l r. v .copied c l r ∙ high-eq (b .reads-closed c l r) }
+  pub tops-are : {tops₀ tops : List ℕ} → TopsCopied a m s tops₀ tops → Tops a m 0 tops
+  tops-are v =
+      record {
+        known = v .long;
+        closed = λ c l r e. v .copied c l r ∙ cond-false (topOf a) (getD s (2 * n + 2 * c) 0) e ∙ high-eq (b .reads-closed c l r);
+        free = λ c l r e. v .copied c l r ∙ cond-true (topOf a) (getD s (2 * n + 2 * c) 0) e ∙ sym (high-eq (stage-first a (b .page-sound) m (b .shut) c));
+      }
 
   module _ {s₁ : List ℕ} (v : Begun a m s s₁) where
     high-least : (c : ℕ) → firstHigh a m c ≤ topOf a
@@ -53,10 +54,11 @@ module _ {a : List ℕ} {m : List Bool} {s : List ℕ} (b : CountReady a m s) wh
           apart = λ c l r. v .each c l .high ∙ cond-false (topOf a) 0 r;
         }
 
-    pub stage-begins : (users : List ℕ) {look lows : List ℕ} → MarkedWait n m look → MarkedWait n m lows → AtStage a m users 0 s₁ look lows
-    stage-begins users {look} {lows} w z =
+    pub stage-begins : (users : List ℕ) {tops look lows : List ℕ} → Tops a m 0 tops → MarkedWait n m look → MarkedWait n m lows → AtStage a m users tops 0 s₁ look lows
+    stage-begins users {tops} {look} {lows} p w z =
         record {
           tables = tables;
+          tops-in = p;
           staged = λ c l r. pair-eq (v .each c l .low) (v .each c l .high ∙ cond-true (topOf a) 0 r) ∙ sym (stage-first a (b .page-sound) m (b .shut) c);
           look-in = w .set;
           spread = inl w;
@@ -65,46 +67,48 @@ module _ {a : List ℕ} {m : List Bool} {s : List ℕ} (b : CountReady a m s) wh
         }
 
 -- the loop, before the support of assignment k
-pub record Rounding (a : List ℕ) (m : List Bool) (users tops s₀ s look lows : List ℕ) (k : ℕ) : Type 0 where
+pub record Rounding (a : List ℕ) (m : List Bool) (users tops₀ tops s₀ s look lows : List ℕ) (k : ℕ) : Type 0 where
   pub same-length : length s ≡ length s₀
   pub beyond : drop (4 * conditionsOf a) s ≡ drop (4 * conditionsOf a) s₀
-  pub tops-in : Tops a m tops
-  pub at : AtStage a m users k s look lows
+  pub size : length tops ≡ length tops₀
+  pub at : AtStage a m users tops k s look lows
   pub moving : MovingAt a (at .tables .page-sound) m (at .tables .shut) k
 
-pub rounding-first : {a : List ℕ} {m : List Bool} {users tops s look lows : List ℕ} → Tops a m tops → AtStage a m users 0 s look lows → Rounding a m users tops s s look lows 0
-rounding-first p v = record { same-length = refl; beyond = refl; tops-in = p; at = v; moving = λ j l. absurd (omega arith) }
+pub rounding-first : {a : List ℕ} {m : List Bool} {users tops s look lows : List ℕ} → AtStage a m users tops 0 s look lows → Rounding a m users tops tops s s look lows 0
+rounding-first v = record { same-length = refl; beyond = refl; size = refl; at = v; moving = λ j l. absurd (omega arith) }
 
 -- the same from an earlier scratch
 pub counted-from : {a : List ℕ} {m : List Bool} {s s₀ s′ : List ℕ} {k : ℕ} → Counted a m s₀ s′ k → length s₀ ≡ length s → drop (4 * conditionsOf a) s₀ ≡ drop (4 * conditionsOf a) s → Counted a m s s′ k
 counted-from v e f = record { same-length = v .same-length ∙ e; beyond = v .beyond ∙ f; is-count = v .is-count }
 
-module _ {a : List ℕ} {m : List Bool} {users tops s₀ s look lows : List ℕ} {k : ℕ} (v : Rounding a m users tops s₀ s look lows k) where
+module _ {a : List ℕ} {m : List Bool} {users tops₀ tops s₀ s look lows : List ℕ} {k : ℕ} (v : Rounding a m users tops₀ tops s₀ s look lows k) where
   ok : sound a ≡ true
   ok = v .at .tables .page-sound
 
   pub rounds-small : k ≤ 102400
   rounds-small = rounds-few a ok m (v .at .tables .shut) k (v .moving)
 
-  module _ {s₁ look₁ lows₁ : List ℕ} {fell : Bool} (x : Supported a m users k s s₁ look₁ lows₁ fell)
-      {s₂ look₂ lows₂ : List ℕ} {moved : Bool} (t : Advanced a m users k s₁ s₂ look₂ lows₂ moved) where
+  module _ {s₁ look₁ lows₁ : List ℕ} {fell : Bool} (x : Supported a m users tops k s s₁ look₁ lows₁ fell)
+      {tops₁ s₂ look₂ lows₂ : List ℕ} {moved : Bool} (t : Advanced a m users tops tops₁ k s₁ s₂ look₂ lows₂ moved) where
     pub rounds-length : length s₂ ≡ length s₀
     rounds-length = t .same-length ∙ x .same-length ∙ v .same-length
 
     rounds-beyond : drop (4 * conditionsOf a) s₂ ≡ drop (4 * conditionsOf a) s₀
     rounds-beyond = t .beyond ∙ x .beyond ∙ v .beyond
 
+    pub rounds-size : length tops₁ ≡ length tops₀
+    rounds-size = t .size ∙ v .size
+
     -- one more round
     module _ (y : moved ≡ true) where
-      moving-on : MovingAt a ok m (v .at .tables .shut) (suc k)
-      moving-on = let o = t .one y in moving-low a ok m (v .at .tables .shut) k (v .moving) (o .0) (o .1) (o .2) (o .3)
+      moving′ : MovingAt a ok m (v .at .tables .shut) (suc k)
+      moving′ = moving-on a ok m (v .at .tables .shut) k (v .moving) (t .one y)
 
-      pub rounds-less : roomAt lower a s₂ < roomAt lower a s
-      unfolding room
-      rounds-less = omega (arith, t .moves y, sum-eq (conditionsOf a) _ _ (λ c l. ap (λ (i : ℕ). topOf a - i) (x .lows-same c l)))
+      pub rounds-less : 102400 - (k + 1) < 102400 - k
+      rounds-less = omega (arith, rounds-few a ok m (v .at .tables .shut) (suc k) moving′)
 
-      pub rounds-next : Rounding a m users tops s₀ s₂ look₂ lows₂ (k + 1)
-      rounds-next = rw (add-one k) (record { same-length = rounds-length; beyond = rounds-beyond; tops-in = v .tops-in; at = t .next y; moving = moving-on })
+      pub rounds-next : Rounding a m users tops₀ tops₁ s₀ s₂ look₂ lows₂ (k + 1)
+      rounds-next = rw (add-one k) (record { same-length = rounds-length; beyond = rounds-beyond; size = rounds-size; at = t .next y; moving = moving′ })
 
     -- the last
     module _ (y : moved ≡ false) where

@@ -13,6 +13,7 @@ pub mod Beginning
 -- the support of an assignment, and the next one
 pub mod PageStages
 pub mod Supporting
+pub mod Freeing
 pub mod Advancing
 -- the loop over the rounds
 pub mod Counting

@@ -22,6 +22,7 @@ use Rattle.index.specs.Groups.{LinesByHead}
 use Rattle.value.specs.Table.{EndTable, Grades}
 use Rattle.value.specs.LineEnds.{LineEnd}
 use Rattle.value.proofs.BodyEnds.{body-has, body-most}
+use Rattle.value.proofs.Defaults.{bodyless-low}
 use Rattle.value.proofs.Tables.{table-of}
 use Rattle.settle.specs.Scratch.{Lookable}
 use Rattle.settle.specs.Waiting.{WaitSet}
@@ -288,7 +289,7 @@ pub page-noted : {a : List ℕ} {m : List Bool} {s s′ moved moved′ : List �
 page-noted {a} {m} {s} {s′} ok v =
     record {
       noting = v .noting;
-      rests = λ c l r. body-most lower a ok (seen a s) c (ahead a s′ c) (λ j u p d. v .covers j (omega arith) u c l r p d);
+      rests = λ c l r. body-most lower a ok (seen a s) c (ahead a s′ c) (λ j u p d. v .covers j (omega arith) u c l r p d) (λ g. omega (arith, bodyless-low a c));
     }
 
 -- the loop over those that wait
@@ -333,6 +334,7 @@ module _ {a : List ℕ} {m : List Bool} {first places : List ℕ} {s₀ s moved�
             let y = v .groups .every c (placeOf a j) waiting-real (line-of (topOf a) (seen a s₀) c a j u d) in
             covers-after a m (v .noting) s′ (getD places (y .0) 0) (r .covers (y .0) (y .1) (y .2)) c waiting-real q p
             (subst (λ (i : ℕ). lineBody (topOf a) (seen a s₀) c (lineAt (drop i a)) ≡ p ∷ []) (sym (y .3)) d))
+            (λ g. omega (arith, bodyless-low a c))
 
         pub waiting-next : {c′ : ℕ} → AnyIn lows₁ c′ → NotingWaiting a m first places s₀ s′ moved₀ moved′ lows₁ c′
         waiting-next y =

@@ -1,5 +1,5 @@
 -- The support of an assignment: its high ends fall where they may be others, and are settled from there. Assumes nothing.
-use mathlib.Core.Path.{_≡_, refl, sym, _∙_, ap, subst}
+use mathlib.Core.Path.{_≡_, sym, _∙_, ap, subst}
 use mathlib.Core.Logic.{_⊎_, inl, inr, ⊎-elim}
 use mathlib.Core.Bool.{Bool, true, false, true≢false, false≢true}
 use mathlib.Core.List.{List, [], _∷_}
@@ -8,10 +8,10 @@ use native.Mathlib.Decide.{ℕ-discrete}
 use native.Mathlib.Omega.{arith}
 use lib.ListN.{length, getD}
 use Rattle.fixpoint.specs.Interval.{Within}
-use Rattle.fixpoint.proofs.Cond.{by-bool}
+use Rattle.fixpoint.proofs.Cond.{by-bool, cond-true, cond-false}
 use Rattle.fixpoint.proofs.KnowledgeOrder.{pair-eq}
 use Rattle.semantics.specs.Area.{sound, pageOf, topOf, conditionsOf}
-use Rattle.semantics.specs.Body.{T, unknownByDefault}
+use Rattle.semantics.specs.Body.{T}
 use Rattle.semantics.specs.Grade.{lower, upper}
 use Rattle.semantics.specs.Table.{member}
 use Rattle.page.proofs.Head.{head-of}
@@ -20,14 +20,13 @@ use Rattle.index.specs.Parts.{MaybeUsers}
 use Rattle.settle.specs.Ends.{reads}
 use Rattle.settle.specs.Scratch.{held, Half, RestsAt, Settled}
 use Rattle.settle.specs.Waiting.{MaybeIndex, MaybeIndexed}
-use Rattle.settle.proofs.Halves.{below-T}
-use Rattle.settle.proofs.Raising.{S, E}
+use Rattle.settle.proofs.Raising.{S, E, T-below}
 use Rattle.rounds.specs.Round.{LowsBegun, Woke, past, closedAt}
 use Rattle.rounds.proofs.AllWaiting.{nobody-waits}
-use Rattle.stages.specs.Steps.{Nobody, LowerReady, Unlooked, Lowered, FollowReady}
-use Rattle.stages.specs.Stages.{stageAt, Tables, Tops, Older, AtStage, Supported}
+use Rattle.stages.specs.Steps.{Nobody, freeAt, LowerReady, Unlooked, Lowered, FollowReady}
+use Rattle.stages.specs.Stages.{stageAt, betweenAt, Tables, Older, AtStage, Supported}
 use Rattle.stages.proofs.Assignments.{low-eq, high-eq}
-use Rattle.stages.proofs.PageStages.{stage-falls, stage-over, support-at, KeepsTop, restart-at}
+use Rattle.stages.proofs.PageStages.{stage-over, between-falls, FloorOf, support-at, capped-at, KeepsTop, restart-at}
 
 -- an empty set
 abbrev pub zeros : List ℕ
@@ -40,7 +39,7 @@ pub users-of : {a lines users : List ℕ} → MaybeIndex a lines users → Maybe
 users-of (inl z) = inl z
 users-of (inr i) = inr (i .1)
 
-module _ {a : List ℕ} {m : List Bool} {users : List ℕ} {k : ℕ} {s look lows : List ℕ} (b : AtStage a m users k s look lows) {tops : List ℕ} (p : Tops a m tops) where
+module _ {a : List ℕ} {m : List Bool} {users tops : List ℕ} {k : ℕ} {s look lows : List ℕ} (b : AtStage a m users tops k s look lows) where
   abbrev n : ℕ
   n = conditionsOf a
 
@@ -61,7 +60,7 @@ module _ {a : List ℕ} {m : List Bool} {users : List ℕ} {k : ℕ} {s look low
         users-in = u;
         long = b .tables .long;
         marked = b .tables .marked;
-        known = p .known;
+        known = b .tops-in .known;
         look-in = b .look-in;
         lowered-in = nobody-waits n;
       }
@@ -71,15 +70,20 @@ module _ {a : List ℕ} {m : List Bool} {users : List ℕ} {k : ℕ} {s look low
     lows₁ : (c : ℕ) → c < n → getD s₁ (2 * c) 0 ≡ getD s (2 * c) 0
     lows₁ c l = v .table (2 * c) (omega arith)
 
-    floors₁ : (c : ℕ) → c < n → member m c ≡ true → held n s₁ c .low ≡ stageAt a k c .low
-    floors₁ c l r = lows₁ c l ∙ low-eq (b .staged c l r)
-
     -- who was not lowered holds its high end in assignment k
     stays : (c : ℕ) → c < n → has lowered c ≡ false → getD s₁ (2 * n + 2 * c) 0 ≡ getD s (2 * n + 2 * c) 0
     stays c l q = ⊎-elim (λ y. y .same) (λ y. absurd (true≢false (sym (y .noted) ∙ q))) (v .each c l)
 
     stays-at : (c : ℕ) → c < n → member m c ≡ true → has lowered c ≡ false → held n s₁ c .high ≡ stageAt a k c .high
     stays-at c l r q = stays c l q ∙ high-eq (b .staged c l r)
+
+    -- a free condition has its high end as its entry, so it is not lowered
+    unlowered : (c : ℕ) → c < n → freeAt a c ≡ true → has lowered c ≡ false
+    unlowered c l e =
+        ⊎-elim (λ y. y .unnoted) (λ y. absurd (omega (arith, y .over, b .tops-in .free c l (y .reached) e, high-eq (b .staged c l (y .reached))))) (v .each c l)
+
+    floor₁ : FloorOf a ok m (b .tables .shut) k (held n s₁)
+    floor₁ = record { lows = λ c l r. lows₁ c l ∙ low-eq (b .staged c l r); highs = λ c l r e. stays-at c l r (unlowered c l e) }
 
     -- not looked at
     keeps-top : (o : Older a m k look) (c : ℕ) → c < n → member m c ≡ true → has lowered c ≡ false → Unlooked a look lowered c → KeepsTop a ok m (b .tables .shut) (o .before) (held n s₁) c
@@ -88,26 +92,34 @@ module _ {a : List ℕ} {m : List Bool} {users : List ℕ} {k : ℕ} {s look low
           same = subst (λ (j : ℕ). held n s₁ c .high ≡ stageAt a j c .high) (o .is) (stays-at c l r q);
           plain = λ d i f. subst (λ (j : ℕ). held n s₁ d .high ≡ stageAt a j d .high) (o .is) (stays-at d i (named c d l i r f) (u .plain d i f));
           other = λ d i f. subst (λ (j : ℕ). stageAt a (o .before) d .low ≡ stageAt a j d .low) (o .is) (o .same c d l i r (u .out) f);
+          unfallen = λ d i f e. subst (λ (j : ℕ). stageAt a (o .before) d .high ≡ stageAt a j d .high) (o .is) (o .unfallen c d l i r (u .out) f e);
         }
 
     -- at the closed reading, or not looked at
-    either : (c : ℕ) → c < n → member m c ≡ true → (held n s₁ c .high ≡ closedAt a c .high) ⊎ ((has lowered c ≡ false) × Unlooked a look lowered c)
-    either c l r =
+    either : (c : ℕ) → c < n → member m c ≡ true → freeAt a c ≡ false → (held n s₁ c .high ≡ closedAt a c .high) ⊎ ((has lowered c ≡ false) × Unlooked a look lowered c)
+    either c l r e =
         elim (v .each c l) [
-          | inr y ↦ inl (y .fallen ∙ p .closed c l r)
+          | inr y ↦ inl (y .fallen ∙ b .tops-in .closed c l r e)
           | inl y ↦ elim (v .out c l r (y .unnoted)) [
-            | inl z ↦ inl (omega (arith, z, p .closed c l r, stays-at c l r (y .unnoted), stage-over a ok m (b .tables .shut) k c l))
+            | inl z ↦ inl (omega (arith, z, b .tops-in .closed c l r e, stays-at c l r (y .unnoted), stage-over a ok m (b .tables .shut) k c l))
             | inr u ↦ inr (y .unnoted, u)
           ]
         ]
 
-    known : (c : ℕ) → c < n → member m c ≡ true → held n s₁ c .high ≤ stageAt a (suc k) c .high
+    known : (c : ℕ) → c < n → member m c ≡ true → freeAt a c ≡ false → held n s₁ c .high ≤ stageAt a (suc k) c .high
     known =
         elim (b .spread) [
-          | inl q ↦ λ c l r. ⊎-elim (λ z. omega (arith, z, stage-over a ok m (b .tables .shut) (suc k) c l)) (λ u. absurd (true≢false (sym (q .waits c l r) ∙ u .1 .out))) (either c l r)
-          | inr o ↦ λ c l r. subst (λ (j : ℕ). held n s₁ c .high ≤ stageAt a (suc j) c .high) (sym (o .is))
-              (restart-at a ok m (b .tables .shut) (o .before) (held n s₁) (λ d i e. ⊎-elim (λ z. inl z) (λ u. inr (keeps-top o d i e (u .0) (u .1))) (either d i e)) c l r)
+          | inl q ↦ λ c l r e. ⊎-elim (λ z. omega (arith, z, stage-over a ok m (b .tables .shut) (suc k) c l)) (λ u. absurd (true≢false (sym (q .waits c l r) ∙ u .1 .out))) (either c l r e)
+          | inr o ↦ λ c l r e. subst (λ (j : ℕ). held n s₁ c .high ≤ stageAt a (suc j) c .high) (sym (o .is))
+              (restart-at a ok m (b .tables .shut) (o .before) (held n s₁) (λ d i q f. ⊎-elim (λ z. inl z) (λ u. inr (keeps-top o d i q (u .0) (u .1))) (either d i q f)) c l r e)
         ]
+
+    -- the high ends lie at or under those of the support
+    known-all : (c : ℕ) → c < n → member m c ≡ true → held n s₁ c .high ≤ betweenAt a k c .high
+    known-all c l r =
+        by-bool (freeAt a c)
+        (λ e. omega (arith, stays-at c l r (unlowered c l e), cond-true (stageAt a k c .high) (stageAt a (suc k) c .high) e))
+        (λ e. omega (arith, known c l r e, cond-false (stageAt a k c .high) (stageAt a (suc k) c .high) e))
 
     within₁ : (c : ℕ) → c < n → Within (topOf a) (held n s₁ c)
     within₁ c l =
@@ -128,17 +140,17 @@ module _ {a : List ℕ} {m : List Bool} {users : List ℕ} {k : ℕ} {s look low
           shut = b .tables .shut;
           within = within₁;
           negated = λ c l. v .negations c l ∙ b .tables .over-low c l ∙ ap (λ (x : ℕ). topOf a - x) (sym (lows₁ c l));
-          below = λ c l. by-bool (member m c) (λ r. omega (arith, known c l r, support-at a ok m (b .tables .shut) k s₁ floors₁ c l r)) (λ r. omega (arith, apart₁ c l r));
+          below = λ c l. by-bool (member m c) (λ r. omega (arith, known-all c l r, support-at a ok m (b .tables .shut) k s₁ floor₁ c l r)) (λ r. omega (arith, apart₁ c l r));
+          capped = λ c l r e. capped-at a ok m (b .tables .shut) k s₁ floor₁ c l r e;
         }
 
     rests₁ : (c : ℕ) → c < n → member m c ≡ true → has lowered c ≡ false → RestsAt upper a s₁ c
-    unfolding unknownByDefault pageOf
     rests₁ c l r q =
         omega (
           arith,
-          below-T (S a ok) (E a ok) upper (held n s₁) within₁ (held n s₁) (λ d i. refl) (tops-half .below) c l,
-          support-at a ok m (b .tables .shut) k s₁ floors₁ c l r,
-          stage-falls a ok m (b .tables .shut) k c l,
+          T-below tops-half c l r,
+          support-at a ok m (b .tables .shut) k s₁ floor₁ c l r,
+          between-falls a ok m (b .tables .shut) k c l,
           stays-at c l r q,
         )
 
@@ -163,8 +175,8 @@ module _ {a : List ℕ} {m : List Bool} {users : List ℕ} {k : ℕ} {s look low
             apart = apart₁;
           }
 
-      tops₁ : (c : ℕ) → c < n → member m c ≡ true → getD s₁ (2 * n + 2 * c) 0 ≡ stageAt a (suc k) c .high
-      tops₁ c l r = omega (arith, known c l r, stays-at c l r (v .none z c l), stage-falls a ok m (b .tables .shut) k c l)
+      tops₁ : (c : ℕ) → c < n → member m c ≡ true → getD s₁ (2 * n + 2 * c) 0 ≡ betweenAt a k c .high
+      tops₁ c l r = omega (arith, known-all c l r, stays-at c l r (v .none z c l), between-falls a ok m (b .tables .shut) k c l)
 
       rests₁′ : (length users ≡ 0 → ⊥) → (c : ℕ) → c < n → member m c ≡ true → has lows c ≡ false → T (pageOf a) (past a s₁) c .low ≤ getD s₁ (2 * c) 0
       rests₁′ d c l r q =
@@ -175,29 +187,33 @@ module _ {a : List ℕ} {m : List Bool} {users : List ℕ} {k : ℕ} {s look low
             low-eq (S a ok .local (past a s₁) (past a s) c l (λ e i f. pair-eq (lows₁ e i) (ap (λ (x : ℕ). topOf a - x) (v .table (2 * e + 1) (omega arith))))),
           )
 
-      pub supported-still : Supported a m users k s s₁ look₂ lows false
+      pub supported-still : Supported a m users tops k s s₁ look₂ lows false
       supported-still =
           record {
             same-length = v .same-length;
             beyond = v .beyond;
-            lows-same = lows₁;
             look-in = v .look-in;
             drained = v .drained;
-            at = record { tables = tables₁; floors = floors₁; tops = tops₁; lows-wait = record { set-in = b .lows-wait .set-in; rests = rests₁′ } };
-            none = λ y c l r. sym (tops₁ c l r) ∙ stays-at c l r (v .none z c l);
+            at = record {
+              tables = tables₁;
+              tops-in = b .tops-in;
+              between = λ c l r. pair-eq (floor₁ .lows c l r) (tops₁ c l r);
+              lows-wait = record { set-in = b .lows-wait .set-in; rests = rests₁′ };
+            };
+            none = λ y c l r e. omega (arith, tops₁ c l r, stays-at c l r (v .none z c l), cond-false (stageAt a k c .high) (stageAt a (suc k) c .high) e);
             one = λ y. absurd (false≢true y);
           }
 
     -- after the settling
     module _ {s₂ : List ℕ} {t : Bool} (x : Settled upper a m s₁ s₂ t) where
-      tops₂ : (c : ℕ) → c < n → member m c ≡ true → getD s₂ (2 * n + 2 * c) 0 ≡ stageAt a (suc k) c .high
-      tops₂ c l r = x .ends c l r ∙ support-at a ok m (b .tables .shut) k s₁ floors₁ c l r
+      tops₂ : (c : ℕ) → c < n → member m c ≡ true → getD s₂ (2 * n + 2 * c) 0 ≡ betweenAt a k c .high
+      tops₂ c l r = x .ends c l r ∙ support-at a ok m (b .tables .shut) k s₁ floor₁ c l r
 
       -- who was not lowered has the high end it had
       same₂ : (c : ℕ) → c < n → has lowered c ≡ false → getD s₂ (2 * n + 2 * c) 0 ≡ getD s (2 * n + 2 * c) 0
       same₂ c l q =
           by-bool (member m c)
-          (λ r. omega (arith, tops₂ c l r, known c l r, stays-at c l r q, stays c l q, stage-falls a ok m (b .tables .shut) k c l))
+          (λ r. omega (arith, tops₂ c l r, known-all c l r, stays-at c l r q, stays c l q, between-falls a ok m (b .tables .shut) k c l))
           (λ r. x .steady .apart c l r ∙ stays c l q)
 
       negation₂ : (c : ℕ) → c < n → getD s₂ (2 * c + 1) 0 ≡ getD s (2 * c + 1) 0
@@ -254,27 +270,29 @@ module _ {a : List ℕ} {m : List Bool} {users : List ℕ} {k : ℕ} {s look low
                   ])),
             )
 
-        pub supported : Supported a m users k s s₃ look₂ lows′ fell
+        pub supported : Supported a m users tops k s s₃ look₂ lows′ fell
         supported =
             record {
               same-length = g .same-length ∙ x .steady .same-length ∙ v .same-length;
               beyond = g .beyond ∙ x .steady .beyond ∙ v .beyond;
-              lows-same = lows₃;
               look-in = v .look-in;
               drained = v .drained;
               at = record {
                 tables = tables₃;
-                floors = λ c l r. lows₃ c l ∙ low-eq (b .staged c l r);
-                tops = λ c l r. highs₃ c l ∙ tops₂ c l r;
+                tops-in = b .tops-in;
+                between = λ c l r. pair-eq (lows₃ c l ∙ low-eq (b .staged c l r)) (highs₃ c l ∙ tops₂ c l r);
                 lows-wait = record { set-in = o .set-in; rests = rests₃ };
               };
-              none = λ z c l r. omega (arith, tops₂ c l r, same₂ c l (v .none z c l), high-eq (b .staged c l r));
+              none = λ z c l r e. omega (arith, tops₂ c l r, same₂ c l (v .none z c l), high-eq (b .staged c l r), cond-false (stageAt a k c .high) (stageAt a (suc k) c .high) e);
               one = λ z. let y = v .one z in lowest (y .0) (y .1) (y .2);
             }
           where
+            bound : (c : ℕ) → c < n → has lowered c ≡ true → freeAt a c ≡ false
+            bound c l q = by-bool (freeAt a c) (λ e. absurd (true≢false (sym q ∙ unlowered c l e))) (λ e. e)
+
             lowest : (c : ℕ) → c < n → has lowered c ≡ true → (d : ℕ) × (d < n) × (member m d ≡ true) × (closedAt a d .high < stageAt a k d .high)
             lowest c l q =
                 elim (v .each c l) [
                   | inl y ↦ absurd (true≢false (sym q ∙ y .unnoted))
-                  | inr y ↦ (c, l, y .reached, omega (arith, y .over, p .closed c l (y .reached), high-eq (b .staged c l (y .reached))))
+                  | inr y ↦ (c, l, y .reached, omega (arith, y .over, b .tops-in .closed c l (y .reached) (bound c l q), high-eq (b .staged c l (y .reached))))
                 ]

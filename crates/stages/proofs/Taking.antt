@@ -50,7 +50,7 @@ abbrev WokenBy : (a users s₀ moved : List ℕ) → (ℕ → ℕ) → List ℕ 
 WokenBy a users s₀ moved code words =
     (length users ≡ 0) ⊎ ((d : ℕ) → d < conditionsOf a → has moved d ≡ false → getD s₀ (2 * d) 0 ≢ ahead a s₀ d → (h : ℕ) → linesRead (code d) (pageOf a .lines) h ≡ true → has words h ≡ true)
 
-pub record Taking (a users s₀ s moved lows look₀ look : List ℕ) (c : ℕ) : Type 0 where
+pub record Taking (a users s₀ s moved lows₀ lows look₀ look : List ℕ) (c : ℕ) : Type 0 where
   pub page-sound : sound a ≡ true
   pub users-in : MaybeUsers a users
   pub long : 4 * conditionsOf a ≤ length s
@@ -65,10 +65,12 @@ pub record Taking (a users s₀ s moved lows look₀ look : List ℕ) (c : ℕ) 
   pub done : (d : ℕ) → d < conditionsOf a → has moved d ≡ false → getD s (2 * d) 0 ≡ ahead a s₀ d
   pub lows-woken : WokenBy a users s₀ moved (λ d. 2 * d) lows
   pub look-woken : WokenBy a users s₀ moved (λ d. 2 * d + 1) look
+  pub lows-kept : (d : ℕ) → d < 512 → has lows₀ d ≡ true → has lows d ≡ true
+  pub look-kept : (d : ℕ) → d < 512 → has look₀ d ≡ true → has look d ≡ true
   pub look-same : (length users ≡ 0) → look ≡ look₀
   pub any : AnyIn moved c
 
-pub taking-first : {a users s moved lows look : List ℕ} {c : ℕ} → TakeReady a users s moved lows look → AnyIn moved c → Taking a users s s moved lows look look c
+pub taking-first : {a users s moved lows look : List ℕ} {c : ℕ} → TakeReady a users s moved lows look → AnyIn moved c → Taking a users s s moved lows lows look look c
 taking-first h y =
     record {
       page-sound = h .page-sound;
@@ -85,28 +87,32 @@ taking-first h y =
       done = h .unmoved;
       lows-woken = inr (λ d l q z. absurd (z (h .unmoved d l q)));
       look-woken = inr (λ d l q z. absurd (z (h .unmoved d l q)));
+      lows-kept = λ d l q. q;
+      look-kept = λ d l q. q;
       look-same = λ z. refl;
       any = y;
     }
 
-module _ {a users s₀ s moved lows look₀ look : List ℕ} {c : ℕ} (v : Taking a users s₀ s moved lows look₀ look c) where
+module _ {a users s₀ s moved lows₀ lows look₀ look : List ℕ} {c : ℕ} (v : Taking a users s₀ s moved lows₀ lows look₀ look c) where
   abbrev n : ℕ
   n = conditionsOf a
 
   few : n ≤ 512
   few = head-of a (v .page-sound) .few
 
-  pub taking-last : 512 ≤ c → AllTaken a users s₀ s lows look₀ look
+  pub taking-last : 512 ≤ c → AllTaken a users s₀ s lows₀ lows look₀ look
   taking-last l =
       let out : (d : ℕ) → d < conditionsOf a → has moved d ≡ false = λ d k. v .any .none (omega (arith, v .any .within)) d (omega (arith, few)) in
       record {
         same-length = v .same-length;
-        lows = λ d k. v .done d k (out d k);
+        next = λ d k. v .done d k (out d k);
         negations = v .odd;
         upper = v .upper;
         beyond = v .beyond;
         lows-in = v .lows-in;
         look-in = v .look-in;
+        lows-kept = v .lows-kept;
+        look-kept = v .look-kept;
         lows-woken = ⊎-elim (λ z. inl z) (λ f. inr (λ d k. f d k (out d k))) (v .lows-woken);
         look-same = v .look-same;
         look-woken = ⊎-elim (λ z. inl z) (λ f. inr (λ d k. f d k (out d k))) (v .look-woken);
@@ -142,7 +148,7 @@ module _ {a users s₀ s moved lows look₀ look : List ℕ} {c : ℕ} (v : Taki
               | no y ↦ λ h e. k h (omega (arith, few, reads-below a (v .page-sound) (code d) h e)) (f d l (sym (else-same moved moved₁ c x d (omega (arith, few)) y) ∙ q) z h e)
             ])
 
-        pub taking-next : {c′ : ℕ} → AnyIn moved₁ c′ → Taking a users s₀ s′ moved₁ lows′ look₀ look′ c′
+        pub taking-next : {c′ : ℕ} → AnyIn moved₁ c′ → Taking a users s₀ s′ moved₁ lows₀ lows′ look₀ look′ c′
         taking-next y =
             record {
               page-sound = v .page-sound;
@@ -162,6 +168,8 @@ module _ {a users s₀ s moved lows look₀ look : List ℕ} {c : ℕ} (v : Taki
               ];
               lows-woken = woken-next (λ d. 2 * d) lows lows′ (v .lows-woken) (r .lows-kept) (r .lows-woken);
               look-woken = woken-next (λ d. 2 * d + 1) look look′ (v .look-woken) (r .look-kept) (r .look-woken);
+              lows-kept = λ d l q. r .lows-kept d l (v .lows-kept d l q);
+              look-kept = λ d l q. r .look-kept d l (v .look-kept d l q);
               look-same = λ z. r .look-same z ∙ v .look-same z;
               any = y;
             }

@@ -4,7 +4,7 @@ ghost use mathlib.Core.Bool.{true, false};
 ghost use Prim.Native.Nat.{ℕ, _≤_, _<_, _+_, _*_};
 ghost use lib.ListN.{length, getD};
 ghost use Rattle.semantics.specs.Area.{sound, topOf, conditionsOf, countOf};
-ghost use Rattle.semantics.specs.Table.{member};
+ghost use Rattle.semantics.specs.Table.{member, anyBelow};
 ghost use Rattle.page.specs.Places.{placeOf, LineIn};
 ghost use Rattle.bits.specs.Words.{AnyIn};
 ghost use Rattle.index.specs.Parts.{Lines, MaybeUsers};
@@ -12,8 +12,9 @@ ghost use Rattle.settle.specs.Scratch.{Lookable};
 ghost use Rattle.settle.specs.Waiting.{WaitSet, MaybeIndex};
 ghost use Rattle.rounds.specs.Round.{LowsBegun, Woke, Comparable};
 ghost use Rattle.stages.specs.Counted.{CountReady, Counted};
-ghost use Rattle.stages.specs.Steps.{Nobody, Notable, NotedAt, Noted, AllNoted, LowsRest, TakenOver, TakeReady, AllTaken, LoweredTop, LowerReady, Lowered, Whole, LookedAgain, FollowReady, Begun, TopsCopied};
-ghost use Rattle.stages.specs.Stages.{Tops, AtStage, AtSupport, Supported, Advanced};
+ghost use Rattle.stages.specs.Steps.{Nobody, Notable, NotedAt, Noted, AllNoted, LowsRest, TakenOver, TakeReady, AllTaken, LoweredTop, LowerReady, Lowered, Whole, LookedAgain, FollowReady, Begun, firstTop, TopsCopied, FreeTold, LoweredFree, FreeLowered, HighsReady, HighsTaken};
+ghost use Rattle.stages.specs.Stages.{AtStage, AtSupport, Supported, Advanced};
+ghost use Rattle.unknowns.specs.NextHighs.{sought, Places, HighTable, NextHighs};
 use settle::settle;
 use settle::wake;
 use value::End;
@@ -31,16 +32,28 @@ fn next_in(words: &[u64], from: u16) -> u16
     bits::any_in(words, from)
 }
 
-// The high ends of what is reached, which are those of the closed reading.
+// What c has in `tops` at first: top if it is free, else its high end.
+fn first_top(a: &[u16], scratch: &[u16], c: u16) -> u16
+    requires { ⌜ (sound (now a) ≡ true) × (4 * conditionsOf (now a) ≤ length (now scratch)) × (c < conditionsOf (now a)) ⌝ }
+    ensures { λ r. ⌜ r ≡ firstTop (now (a .entry)) (now (scratch .entry)) c ⌝ }
+{
+    if page::unknown_by_default(a, c) {
+        return a[0];
+    }
+    scratch[2 * a[1] as usize + 2 * c as usize]
+}
+
+// The high ends of what is reached, which are those of the closed reading, and top where a condition is free.
 fn copy_tops(a: &[u16], marks: &[bool], scratch: &[u16], tops: &mut [u8])
     requires { ⌜ (sound (now a) ≡ true) × (4 * conditionsOf (now a) ≤ length (now scratch)) × (conditionsOf (now a) ≤ length (now marks)) × (conditionsOf (now a) ≤ length (now tops)) × ((c : ℕ) → c < conditionsOf (now a) → member (now marks) c ≡ true → getD (now scratch) (2 * conditionsOf (now a) + 2 * c) 0 ≤ 200) ⌝ }
     ensures { λ r. ⌜ TopsCopied (now (a .entry)) (now (marks .entry)) (now (scratch .entry)) (now (tops .entry)) (now (tops .exit)) ⌝ }
 {
-    let n = a[1] as usize;
-    let mut c: usize = 0;
+    let n = a[1];
+    let mut c: u16 = 0;
     while c < n {
-        if marks[c] {
-            tops[c] = scratch[2 * n + 2 * c] as u8;
+        let t = c as usize;
+        if marks[t] {
+            tops[t] = first_top(a, scratch, c) as u8;
         }
         c += 1;
     }
@@ -148,8 +161,8 @@ fn support(
     look: &mut [u64],
     lows: &mut [u64],
 ) -> bool
-    requires { ⌜ ((k : ℕ) × AtStage (now a) (now marks) (now users) k (now scratch) (now look) (now lows)) × Tops (now a) (now marks) (now tops) × MaybeIndex (now a) (now lines) (now users) ⌝ }
-    ensures { λ r. ⌜ ((k : ℕ) → AtStage (now (a .entry)) (now (marks .entry)) (now (users .entry)) k (now (scratch .entry)) (now (look .entry)) (now (lows .entry)) → Supported (now (a .entry)) (now (marks .entry)) (now (users .entry)) k (now (scratch .entry)) (now (scratch .exit)) (now (look .exit)) (now (lows .exit)) r) ⌝ }
+    requires { ⌜ ((k : ℕ) × AtStage (now a) (now marks) (now users) (now tops) k (now scratch) (now look) (now lows)) × MaybeIndex (now a) (now lines) (now users) ⌝ }
+    ensures { λ r. ⌜ ((k : ℕ) → AtStage (now (a .entry)) (now (marks .entry)) (now (users .entry)) (now (tops .entry)) k (now (scratch .entry)) (now (look .entry)) (now (lows .entry)) → Supported (now (a .entry)) (now (marks .entry)) (now (users .entry)) (now (tops .entry)) k (now (scratch .entry)) (now (scratch .exit)) (now (look .exit)) (now (lows .exit)) r) ⌝ }
 {
     let mut lowered = [0u64; 8];
     let fell = lower_tops(a, users, marks, scratch, tops, look, &mut lowered);
@@ -319,7 +332,7 @@ fn take_all(
     first: u16,
 )
     requires { ⌜ TakeReady (now a) (now users) (now scratch) (now moved) (now lows) (now look) × AnyIn (now moved) first ⌝ }
-    ensures { λ r. ⌜ AllTaken (now (a .entry)) (now (users .entry)) (now (scratch .entry)) (now (scratch .exit)) (now (lows .exit)) (now (look .entry)) (now (look .exit)) ⌝ }
+    ensures { λ r. ⌜ AllTaken (now (a .entry)) (now (users .entry)) (now (scratch .entry)) (now (scratch .exit)) (now (lows .entry)) (now (lows .exit)) (now (look .entry)) (now (look .exit)) ⌝ }
 {
     let mut c = first;
     while c < 512 {
@@ -329,56 +342,175 @@ fn take_all(
     }
 }
 
-// Without an index: everybody reached is looked at, if a low end that a rule negates is another next.
-fn look_again(a: &[u16], marks: &[bool], scratch: &[u16], look: &mut [u64])
-    requires { ⌜ Comparable (now a) (now scratch) × (conditionsOf (now a) ≤ length (now marks)) × WaitSet (conditionsOf (now a)) (now look) ⌝ }
-    ensures { λ r. ⌜ LookedAgain (now (a .entry)) (now (marks .entry)) (now (scratch .entry)) (now (look .entry)) (now (look .exit)) ⌝ }
+// If c is free, `lower_top` is done.
+fn lower_free_top(
+    a: &[u16],
+    users: &[u16],
+    marks: &[bool],
+    scratch: &mut [u16],
+    tops: &[u8],
+    look: &mut [u64],
+    lowered: &mut [u64],
+    c: u16,
+) -> bool
+    requires { ⌜ LowerReady (now a) (now users) (now marks) (now tops) (now scratch) (now look) (now lowered) × (c < conditionsOf (now a)) ⌝ }
+    ensures { λ r. ⌜ LoweredFree (now (a .entry)) (now (users .entry)) (now (marks .entry)) (now (tops .entry)) c (now (scratch .entry)) (now (scratch .exit)) (now (look .entry)) (now (look .exit)) (now (lowered .entry)) (now (lowered .exit)) r ⌝ }
 {
-    if rounds::negation_stale(a, scratch) {
-        rounds::wait_marked(marks, a[1], look);
+    if !page::unknown_by_default(a, c) {
+        return false;
+    }
+    lower_top(a, users, marks, scratch, tops, look, lowered, c)
+}
+
+// Lowers the high ends of the free conditions to their next ones; whether any fell.
+fn lower_free(
+    a: &[u16],
+    users: &[u16],
+    marks: &[bool],
+    scratch: &mut [u16],
+    tops: &[u8],
+    look: &mut [u64],
+    lowered: &mut [u64],
+) -> bool
+    requires { ⌜ LowerReady (now a) (now users) (now marks) (now tops) (now scratch) (now look) (now lowered) × Nobody (now lowered) ⌝ }
+    ensures { λ r. ⌜ FreeLowered (now (a .entry)) (now (users .entry)) (now (marks .entry)) (now (tops .entry)) (now (scratch .entry)) (now (scratch .exit)) (now (look .entry)) (now (look .exit)) (now (lowered .exit)) r ⌝ }
+{
+    let n = a[1];
+    let mut any = false;
+    let mut c: u16 = 0;
+    while c < n {
+        if lower_free_top(a, users, marks, scratch, tops, look, lowered, c) {
+            any = true;
+        }
+        c += 1;
+    }
+    any
+}
+
+// The next high ends of the free conditions are taken over, if one is reached; whether any fell. Whoever names such a one plainly may have
+// another high end next, and whoever negates it another low end.
+fn take_highs(
+    a: &[u16],
+    users: &[u16],
+    marks: &[bool],
+    scratch: &mut [u16],
+    tops: &[u8],
+    look: &mut [u64],
+    lows: &mut [u64],
+    free: bool,
+) -> bool
+    requires { ⌜ HighsReady (now a) (now users) (now marks) (now tops) (now scratch) (now look) (now lows) × FreeTold (now a) (now marks) free ⌝ }
+    ensures { λ r. ⌜ HighsTaken (now (a .entry)) (now (users .entry)) (now (marks .entry)) (now (tops .entry)) (now (scratch .entry)) (now (scratch .exit)) (now (lows .exit)) (now (look .entry)) (now (look .exit)) r ⌝ }
+{
+    if !free {
+        return false;
+    }
+    let mut down = [0u64; 8];
+    let fell = lower_free(a, users, marks, scratch, tops, look, &mut down);
+    follow(a, users, scratch, &mut down, lows);
+    fell
+}
+
+// Without an index: everybody reached is looked at, if a high end fell or a low end that a rule negates is another next.
+fn look_again(a: &[u16], marks: &[bool], scratch: &[u16], look: &mut [u64], dropped: bool)
+    requires { ⌜ Comparable (now a) (now scratch) × (conditionsOf (now a) ≤ length (now marks)) × WaitSet (conditionsOf (now a)) (now look) ⌝ }
+    ensures { λ r. ⌜ LookedAgain (now (a .entry)) (now (marks .entry)) (now (scratch .entry)) (now (look .entry)) (now (look .exit)) dropped ⌝ }
+{
+    if !dropped {
+        if !rounds::negation_stale(a, scratch) {
+            return;
+        }
+    }
+    rounds::wait_marked(marks, a[1], look);
+}
+
+// The next high ends of the free conditions, if one is reached.
+fn next_tops(a: &[u16], marks: &[bool], scratch: &[u16], tops: &mut [u8], free: bool)
+    requires { ⌜ Places (now a) (now marks) (now tops) × HighTable (now a) (now scratch) × FreeTold (now a) (now marks) free ⌝ }
+    ensures { λ r. ⌜ NextHighs (now (a .entry)) (now (marks .entry)) (now (scratch .entry)) (now (tops .entry)) (now (tops .exit)) ⌝ }
+{
+    if free {
+        unknowns::next_highs(a, marks, scratch, tops);
     }
 }
 
-// The low ends of the next assignment; whether one moves. If none does, nothing is taken over.
+// The next floor: the high ends of the free conditions, and the low ends. The high ends come first: the next low ends are noted where the
+// negations stand that they read.
+fn next_floor(
+    a: &[u16],
+    lines: &[u16],
+    users: &[u16],
+    marks: &[bool],
+    scratch: &mut [u16],
+    tops: &mut [u8],
+    lows: &mut [u64],
+    moved: &mut [u64],
+    free: bool,
+)
+    requires { ⌜ (Places (now a) (now marks) (now tops) × HighTable (now a) (now scratch) × FreeTold (now a) (now marks) free) × (Notable (now a) (now marks) (now scratch) (now moved) × MaybeIndex (now a) (now lines) (now users) × WaitSet (conditionsOf (now a)) (now lows) × ((length (now users) ≡ 0 → ⊥) → LowsRest (now a) (now marks) (now scratch) (now lows))) ⌝ }
+    ensures { λ r. ⌜ NextHighs (now (a .entry)) (now (marks .entry)) (now (scratch .entry)) (now (tops .entry)) (now (tops .exit)) × AllNoted (now (a .entry)) (now (marks .entry)) (now (scratch .entry)) (now (scratch .exit)) (now (moved .entry)) (now (moved .exit)) × WaitSet (conditionsOf (now (a .entry))) (now (lows .exit)) ⌝ }
+{
+    next_tops(a, marks, scratch, tops, free);
+    next_lows(a, lines, users, marks, scratch, lows, moved);
+}
+
+// The next assignment, if the floor moves; whether it does. If not, nothing is taken over.
 fn advance(
     a: &[u16],
     lines: &[u16],
     users: &[u16],
     marks: &[bool],
     scratch: &mut [u16],
+    tops: &mut [u8],
     look: &mut [u64],
     lows: &mut [u64],
+    free: bool,
 ) -> bool
-    requires { ⌜ ((k : ℕ) × AtSupport (now a) (now marks) (now users) k (now scratch) (now lows)) × WaitSet (conditionsOf (now a)) (now look) × Nobody (now look) × MaybeIndex (now a) (now lines) (now users) ⌝ }
-    ensures { λ r. ⌜ ((k : ℕ) → AtSupport (now (a .entry)) (now (marks .entry)) (now (users .entry)) k (now (scratch .entry)) (now (lows .entry)) → Advanced (now (a .entry)) (now (marks .entry)) (now (users .entry)) k (now (scratch .entry)) (now (scratch .exit)) (now (look .exit)) (now (lows .exit)) r) ⌝ }
+    requires { ⌜ ((k : ℕ) × AtSupport (now a) (now marks) (now users) (now tops) k (now scratch) (now lows)) × WaitSet (conditionsOf (now a)) (now look) × Nobody (now look) × MaybeIndex (now a) (now lines) (now users) × FreeTold (now a) (now marks) free ⌝ }
+    ensures { λ r. ⌜ ((k : ℕ) → AtSupport (now (a .entry)) (now (marks .entry)) (now (users .entry)) (now (tops .entry)) k (now (scratch .entry)) (now (lows .entry)) → Advanced (now (a .entry)) (now (marks .entry)) (now (users .entry)) (now (tops .entry)) (now (tops .exit)) k (now (scratch .entry)) (now (scratch .exit)) (now (look .exit)) (now (lows .exit)) r) ⌝ }
 {
     let mut moved = [0u64; 8];
-    next_lows(a, lines, users, marks, scratch, lows, &mut moved);
+    next_floor(
+        a,
+        lines,
+        users,
+        marks,
+        scratch,
+        tops,
+        lows,
+        &mut moved,
+        free,
+    );
+    let fallen = take_highs(a, users, marks, scratch, tops, look, lows, free);
     let c = bits::any_in(&moved, 0);
-    if 512 <= c {
-        return false;
+    if !fallen {
+        if 512 <= c {
+            return false;
+        }
     }
     if users.len() == 0 {
-        look_again(a, marks, scratch, look);
+        look_again(a, marks, scratch, look, fallen);
     }
     take_all(a, users, scratch, &mut moved, lows, look, c);
     true
 }
 
-// The count of rounds on what is marked: the number of the first assignment that the next one equals. If no low end moves, the high ends
-// are those of the closed reading, so the next one is another only if a high end fell to them.
+// The count of rounds on what is marked: the number of the first assignment that the next one equals. If the floor does not move, the high
+// ends are those of the closed reading, so the next one is another only if a high end fell to them. `tops` is lent, and `free` tells whether a
+// reached condition is free.
 pub fn count_rounds(
     a: &[u16],
     lines: &[u16],
     users: &[u16],
     marks: &[bool],
     scratch: &mut [u16],
+    tops: &mut [u8],
+    free: bool,
 ) -> u32
-    requires { ⌜ CountReady (now a) (now marks) (now scratch) × MaybeIndex (now a) (now lines) (now users) ⌝ }
+    requires { ⌜ CountReady (now a) (now marks) (now scratch) × MaybeIndex (now a) (now lines) (now users) × (conditionsOf (now a) ≤ length (now tops)) × (free ≡ anyBelow (conditionsOf (now a)) (sought (now a) (now marks))) ⌝ }
     ensures { λ r. ⌜ Counted (now (a .entry)) (now (marks .entry)) (now (scratch .entry)) (now (scratch .exit)) r ⌝ }
 {
-    let mut tops = [0u8; 512];
-    copy_tops(a, marks, scratch, &mut tops);
+    copy_tops(a, marks, scratch, tops);
     begin(a, marks, scratch);
     let mut look = [0u64; 8];
     let mut lows = [0u64; 8];
@@ -386,8 +518,18 @@ pub fn count_rounds(
     rounds::wait_marked(marks, a[1], &mut lows);
     let mut k: u32 = 0;
     loop {
-        let fell = support(a, lines, users, marks, scratch, &tops, &mut look, &mut lows);
-        if advance(a, lines, users, marks, scratch, &mut look, &mut lows) {
+        let fell = support(a, lines, users, marks, scratch, tops, &mut look, &mut lows);
+        if advance(
+            a,
+            lines,
+            users,
+            marks,
+            scratch,
+            tops,
+            &mut look,
+            &mut lows,
+            free,
+        ) {
             k += 1;
         } else if fell {
             return k + 1;

@@ -8,7 +8,6 @@ use native.Mathlib.Decide.{ℕ-discrete}
 use native.Mathlib.Omega.{arith}
 use lib.ListN.{drop}
 use Rattle.fixpoint.specs.Interval.{Interval, Assign}
-use Rattle.fixpoint.proofs.KnowledgeOrder.{pair-eq}
 use Rattle.semantics.specs.Area.{lineAt, pageOf, sound, topOf, countOf}
 use Rattle.semantics.specs.Body.{lineBody, bodies, bodyless, largestOf, T}
 use Rattle.semantics.specs.Grade.{End, lower, upper, foldFrom, largest}
@@ -22,14 +21,8 @@ end-largest : (e : End) (p q : Interval) → endOf e (largest p q) ≡ max (endO
 end-largest lower p q = refl
 end-largest upper p q = refl
 
-first-sum : (ps : List Interval) → largestOf (record { low = 0; high = 0 }) ps ≡ foldFrom largest (record { low = 0; high = 0 }) ps
-unfolding largestOf foldFrom
-first-sum [] = refl
-first-sum (p ∷ ps) = ap (λ (q : Interval). foldFrom largest q ps) (pair-eq (omega arith) (omega arith))
-
-end-zero : (e : End) → endOf e (record { low = 0; high = 0 }) ≡ 0
-end-zero lower = refl
-end-zero upper = refl
+nil-not-one : {p : Interval} → _≡_ {A = List Interval} [] (p ∷ []) → ⊥
+nil-not-one d = let z : _≡_ {A = ℕ} 0 1 = cc in omega arith
 
 module _ (e : End) (a : List ℕ) (ok : sound a ≡ true) (I : Assign) (c : ℕ) where
   abbrev line : ℕ → Line
@@ -85,18 +78,64 @@ module _ (e : End) (a : List ℕ) (ok : sound a ≡ true) (I : Assign) (c : ℕ)
             (shape (topOf a) I c (line k))
       ]
 
-  -- the body value begins with [0;0] and takes in all lines
-  body-from : endOf e (T (pageOf a) I c) ≡ from (record { low = 0; high = 0 }) 0
-  unfolding T pageOf bodyless placeOf
-  body-from =
-      ap (endOf e)
-      (first-sum _ ∙ ap (λ (ls : List Line). foldFrom largest (record { low = 0; high = 0 }) (bodies (topOf a) I c ls)) (sym (lines-first a)))
+  -- the end of the largest of what the lines from number k on add, or of `bodyless`
+  abbrev given : ℕ → ℕ
+  given k = endOf e (largestOf (bodyless (pageOf a) c) (bodies (topOf a) I c (linesLeft a (placeOf a k) k)))
 
-  pub body-most : (b : ℕ) → Bound b → endOf e (T (pageOf a) I c) ≤ b
-  body-most b h = omega (arith, body-from, from-most b h (countOf a) 0 (omega arith) (record { low = 0; high = 0 }) (omega (arith, end-zero e)))
+  given-none : (k : ℕ) → countOf a ≤ k → given k ≡ endOf e (bodyless (pageOf a) c)
+  unfolding bodies largestOf
+  given-none k l = rw (lines-none a (placeOf a k) k l)
+
+  given-nothing : (k : ℕ) → k < countOf a → lineBody (topOf a) I c (line k) ≡ [] → given k ≡ given (suc k)
+  unfolding bodies
+  given-nothing k l h = rw (lines-from a ok k l, h)
+
+  given-one : (q : Interval) (k : ℕ) → k < countOf a → lineBody (topOf a) I c (line k) ≡ q ∷ [] → given k ≡ from q (suc k)
+  unfolding bodies largestOf
+  given-one q k l h = rw (lines-from a ok k l, h)
+
+  abbrev Nothing : ℕ → Type 0
+  Nothing k = (j : ℕ) → k ≤ j → j < countOf a → lineBody (topOf a) I c (line j) ≡ []
+
+  given-most : (b : ℕ) → Bound b → (m k : ℕ) → countOf a - k ≡ m → (Nothing k → endOf e (bodyless (pageOf a) c) ≤ b) → given k ≤ b
+  given-most b h zero k d o = omega (arith, given-none k (omega arith), o (λ j l u. absurd (omega arith)))
+  given-most b h (suc m) k d o =
+      ⊎-elim (λ z. omega (arith, given-nothing k (omega arith) z, given-most b h m (suc k) (omega arith) (λ g. o (λ j l u. at-or-past z g j l u))))
+      (λ z. omega (arith, given-one (z .0) k (omega arith) (z .1), from-most b h m (suc k) (omega arith) (z .0) (h k (omega arith) (z .0) (z .1))))
+      (shape (topOf a) I c (line k))
+    where
+      at-or-past : lineBody (topOf a) I c (line k) ≡ [] → Nothing (suc k) → Nothing k
+      at-or-past z g j l u =
+          elim (ℕ-discrete j k) [
+            | yes y ↦ rw y z
+            | no y ↦ g j (omega arith) u
+          ]
+
+  given-has : (m k : ℕ) → countOf a - k ≡ m → (j : ℕ) → k ≤ j → j < countOf a → (q : Interval) → lineBody (topOf a) I c (line j) ≡ q ∷ [] → endOf e q ≤ given k
+  given-has zero k d j l u q h = absurd (omega arith)
+  given-has (suc m) k d j l u q h =
+      elim (ℕ-discrete j k) [
+        | yes z ↦ let w : lineBody (topOf a) I c (line k) ≡ q ∷ [] = rw z at h in
+            omega (arith, given-one q k (omega arith) w, from-least m (suc k) (omega arith) q)
+        | no z ↦ ⊎-elim (λ y. omega (arith, given-nothing k (omega arith) y, given-has m (suc k) (omega arith) j (omega arith) u q h))
+            (λ y. omega (arith, given-one (y .0) k (omega arith) (y .1), from-has m (suc k) (omega arith) (y .0) j (omega arith) u q h))
+            (shape (topOf a) I c (line k))
+      ]
+
+  body-given : endOf e (T (pageOf a) I c) ≡ given 0
+  unfolding T pageOf placeOf
+  body-given = ap (λ (ls : List Line). endOf e (largestOf (bodyless (pageOf a) c) (bodies (topOf a) I c ls))) (sym (lines-first a))
+
+  -- no end exceeds a number that no line exceeds, nor `bodyless` if no line adds anything
+  pub body-most : (b : ℕ) → Bound b → (((j : ℕ) → j < countOf a → lineBody (topOf a) I c (line j) ≡ []) → endOf e (bodyless (pageOf a) c) ≤ b) → endOf e (T (pageOf a) I c) ≤ b
+  body-most b h o = omega (arith, body-given, given-most b h (countOf a) 0 (omega arith) (λ g. o (λ j l. g j (omega arith) l)))
 
   pub body-has : (j : ℕ) → j < countOf a → (p : Interval) → lineBody (topOf a) I c (line j) ≡ p ∷ [] → endOf e p ≤ endOf e (T (pageOf a) I c)
-  body-has j l p h = omega (arith, body-from, from-has (countOf a) 0 (omega arith) (record { low = 0; high = 0 }) j (omega arith) l p h)
+  body-has j l p h = omega (arith, body-given, given-has (countOf a) 0 (omega arith) j (omega arith) l p h)
+
+  -- of a condition that has a line
+  pub body-some : (b : ℕ) → Bound b → (j : ℕ) → j < countOf a → (p : Interval) → lineBody (topOf a) I c (line j) ≡ p ∷ [] → endOf e (T (pageOf a) I c) ≤ b
+  body-some b h j l p d = body-most b h (λ g. absurd (nil-not-one (sym (g j l) ∙ d)))
 
 -- a condition without F and R lines has `bodyless`
 module _ (a : List ℕ) (ok : sound a ≡ true) (I : Assign) (c : ℕ) (none : (j : ℕ) → j < countOf a → lineBody (topOf a) I c (lineAt (drop (placeOf a j) a)) ≡ []) where

@@ -25,9 +25,14 @@ pub struct Ends {
 
 // What a condition without F and R lines has.
 pub fn bodyless(a: &[u16], c: u16) -> Ends
+    requires { ⌜ (sound (now a) ≡ true) × (c < conditionsOf (now a)) ⌝ }
     ensures { λ r. ⌜ record { low = r .low; high = r .high } ≡ bodyless (pageOf (now (a .entry))) c ⌝ }
 {
-    Ends { low: 0, high: 0 }
+    let mut high: u16 = 0;
+    if page::unknown_by_default(a, c) {
+        high = a[0];
+    }
+    Ends { low: 0, high }
 }
 
 // The smaller of two grades.

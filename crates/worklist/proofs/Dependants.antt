@@ -10,7 +10,7 @@ use lib.Dec.{eqb, leb}
 use lib.ListN.{length, getD}
 use borrow.Author.Tests.{eq-eqb, ne-eqb, eqb-true, leb-true, le-leb}
 use Rattle.semantics.specs.Area.{sound, pageOf, conditionsOf, codeOf}
-use Rattle.semantics.specs.Page.{Literal, positive, negative, conditionOf, mentions, Line, fact, rule, query, linesName, names}
+use Rattle.semantics.specs.Page.{Literal, positive, negative, conditionOf, mentions, Line, fact, rule, query, default, linesName, names}
 use Rattle.semantics.proofs.Proper.{AllInRange}
 use Rattle.semantics.specs.RunArea.{markAt}
 use Rattle.semantics.proofs.Soundness.{both-true, sound-proper}
@@ -62,6 +62,7 @@ names-codes (rule d w op lits ∷ ls) h c =
     ap₂ (λ (x y : Bool). x || y) (ap (λ (x : Bool). eqb d h && x) (mentions-codes lits c) ∙ both-or (eqb d h) (among (2 * c) lits) (among (2 * c + 1) lits)) (names-codes ls h c)
     ∙ regroup (eqb d h && among (2 * c) lits) (eqb d h && among (2 * c + 1) lits) (linesRead (2 * c) ls h) (linesRead (2 * c + 1) ls h)
 names-codes (query r d ∷ ls) h c = names-codes ls h c
+names-codes (default d ∷ ls) h c = names-codes ls h c
 
 -- the marks, if the heads woken are those of a test
 module _ {heads run run′ : List ℕ} {from to : ℕ} (s : HeadsWoken heads from to run run′) where

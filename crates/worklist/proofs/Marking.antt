@@ -6,7 +6,7 @@ use Prim.Native.Nat.{ℕ, _+_, _*_, _≤_, _<_}
 use native.Mathlib.Omega.{arith}
 use lib.Dec.{eqb, leb}
 use lib.ListN.{length, getD, drop}
-use Rattle.semantics.specs.Area.{sound, pageOf, lineAt, topOf, conditionsOf, countOf}
+use Rattle.semantics.specs.Area.{sound, pageOf, lineAt, topOf, conditionsOf, countOf, firstLine}
 use Rattle.semantics.specs.Page.{Line, names, linesName}
 use Rattle.semantics.specs.RunArea.{intervalAt, markAt}
 use Rattle.page.specs.Lines.{Next, lineNames}
@@ -51,7 +51,7 @@ module _ (a : List ℕ) (c : ℕ) (run₀ : List ℕ) where
     pub marks : (h : ℕ) → dependant (names (pageOf a) h c) (markAt run₀ h) ≡ dependant (linesName (linesLeft a at k) h c) (markAt run h)
     pub beyond : drop (3 * conditionsOf a) run ≡ drop (3 * conditionsOf a) run₀
 
-  pub marking-first : sound a ≡ true → 3 * conditionsOf a ≤ length run₀ → {at k : ℕ} → (at ≡ 4) × (k ≡ 0) → Marking run₀ at k
+  pub marking-first : sound a ≡ true → 3 * conditionsOf a ≤ length run₀ → {at k : ℕ} → (at ≡ firstLine a) × (k ≡ 0) → Marking run₀ at k
   marking-first e l q =
       rw (q .0, q .1)
       (record {

@@ -12,7 +12,7 @@ use Rattle.fixpoint.specs.Interval.{Interval, same}
 use Rattle.semantics.specs.Area.{every, pageOf, topOf, conditionsOf}
 use Rattle.semantics.specs.RunArea.{intervalAt, markAt, cellTests, runSound}
 use Rattle.semantics.specs.Table.{allBelow}
-use Rattle.semantics.proofs.Areas.{all-at, all-true}
+use Rattle.semantics.proofs.Table.{all-at, all-true}
 
 -- the tests of a cell, in the code's order
 module _ (top : ℕ) (p : Interval) (mark : ℕ) where

@@ -14,6 +14,7 @@ pub struct Content {
     pub closed: Option<Interval>,
     pub reached: bool,
     pub without_lines: bool,
+    pub unknown_by_default: bool,
     /// The readings that queries ask for.
     pub asked: Vec<&'static str>,
     /// What a browser shows when the pointer rests on the box: the condition and its lines.
@@ -77,6 +78,7 @@ fn content(page: &Page, readings: &Readings, reached: &[bool], condition: usize)
         closed: (plain != closed).then_some(closed),
         reached: reached[condition],
         without_lines: own.is_empty(),
+        unknown_by_default: page.default_line(condition).is_some(),
         asked: asked
             .into_iter()
             .filter(|(_, reading)| asks(*reading))

@@ -1,6 +1,6 @@
 //! The head of the picture: its title and what the signs mean.
 
-use super::picture::{bar_of, pills};
+use super::picture::{bar_of, pills, unknown_mark};
 use super::svg::{self, Way};
 use crate::area::Interval;
 use crate::page::Page;
@@ -28,7 +28,8 @@ pub fn drawn(page: &Page, width: f64) -> (String, f64) {
         svg::rect("box asked", x + 2.0, y, 30.0, 15.0, 3.0) + &pills(&["K"], x + 10.0, y + 1.0)
     };
     let unreached = |x: f64, y: f64| svg::rect("box unreached", x, y, 34.0, 15.0, 3.0);
-    let signs: [Sign; 6] = [
+    let unknown = |x: f64, y: f64| unknown_mark(x, y + 1.0);
+    let mut signs: Vec<Sign> = vec![
         (60.0, &bar, "at least, open, excluded"),
         (60.0, &plain, "a rule of A names B"),
         (60.0, &negated, "a rule of A names !B"),
@@ -36,6 +37,9 @@ pub fn drawn(page: &Page, width: f64) -> (String, f64) {
         (34.0, &asked, "asked: K plain, W closed"),
         (34.0, &unreached, "no query reaches it"),
     ];
+    if (0..page.conditions).any(|condition| page.default_line(condition).is_some()) {
+        signs.push((14.0, &unknown, "unknown by default"));
+    }
     let (rows, last) = in_rows(&signs, width);
     (out + &rows, last + 32.0)
 }

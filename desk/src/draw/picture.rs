@@ -11,6 +11,8 @@ use crate::bar;
 const PAD: f64 = 8.0;
 const BAR: f64 = 7.0;
 const NAME_LINE: f64 = 13.0;
+/// From a letter on its ground to the next.
+const PILL: f64 = 16.0;
 
 /// The bands: a stripe behind every second one, and the labels.
 pub fn stripes(bands: &[Band], layout: &Layout) -> String {
@@ -102,13 +104,20 @@ fn class(content: &Content) -> String {
     format!("box{reached}{asked}")
 }
 
-/// The number, the readings that are asked for, and the plain interval.
+/// The number, the readings that are asked for, the mark of a condition unknown by default, and the plain interval.
 fn first_line(content: &Content, left: f64, right: f64, y: f64) -> String {
     let number = content.condition.to_string();
     let after = left + 5.0 + 8.0 * number.len() as f64;
+    let mark = after + PILL * content.asked.len() as f64;
+    let mark = if content.unknown_by_default {
+        unknown_mark(mark, y + 5.0)
+    } else {
+        String::new()
+    };
     [
         svg::text("number", left, y + 16.0, &number),
         pills(&content.asked, after, y + 5.0),
+        mark,
         svg::text("end", right, y + 16.0, &content.plain.to_string()),
     ]
     .concat()
@@ -132,9 +141,17 @@ pub fn bar_of(interval: Interval, top: u16, x: f64, y: f64, width: f64) -> Strin
 pub fn pills(letters: &[&str], x: f64, y: f64) -> String {
     let mut out = String::new();
     for (place, letter) in letters.iter().enumerate() {
-        let x = x + 16.0 * place as f64;
-        out.push_str(&svg::rect("pill", x, y, 14.0, 13.0, 3.0));
-        out.push_str(&svg::text("letter", x + 7.0, y + 10.0, letter));
+        out.push_str(&pill("pill", letter, x + PILL * place as f64, y));
     }
     out
+}
+
+/// The mark of a condition that is unknown by default.
+pub fn unknown_mark(x: f64, y: f64) -> String {
+    pill("pill unknown", "U", x, y)
+}
+
+/// A letter on a ground.
+fn pill(class: &str, letter: &str, x: f64, y: f64) -> String {
+    svg::rect(class, x, y, 14.0, 13.0, 3.0) + &svg::text("letter", x + 7.0, y + 10.0, letter)
 }

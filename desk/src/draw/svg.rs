@@ -25,6 +25,7 @@ text { font-family: Arial, "Liberation Sans", Helvetica, "DejaVu Sans", sans-ser
 .asked { stroke: #1d4ed8; stroke-width: 3; }
 .unreached { fill: #e2e8f0; stroke: #94a3b8; }
 .pill { fill: #1d4ed8; }
+.unknown { fill: #b45309; }
 .track { fill: #ffffff; stroke: #64748b; stroke-width: 0.8; }
 .sure { fill: #1e3a8a; }
 .open { fill: url(#hatch); }

@@ -1,6 +1,6 @@
 //! The covering rule: exact, unrounded figures of a page lie within its plain intervals.
 
-use crate::area::encode;
+use crate::area::{encode, without_defaults};
 use crate::body::Pair;
 use crate::gen;
 use crate::page::{Line, Literal, Op, Page, OPS, TOP_MAX};
@@ -127,10 +127,22 @@ fn rule_value(
     result?.times(Fraction::new(weight.into(), top.into()))
 }
 
-/// The exact figures of a page whose rules name only conditions above their head, with one grade chosen in each F line.
-fn exact(page: &Page, chosen: &[u16]) -> Option<Vec<Fraction>> {
+/// Whether a condition has an F or R line.
+fn has_body(page: &Page, cond: u16) -> bool {
+    page.lines.iter().any(|line| match line {
+        Line::Fact { cond: head, .. } | Line::Rule { head, .. } => *head == cond,
+        Line::Query { .. } | Line::Default { .. } => false,
+    })
+}
+
+/// The exact figures of a page whose rules name only conditions above their head, with one grade chosen in each F line, and a fraction
+/// for each condition that may take any.
+fn exact(page: &Page, chosen: &[u16], any: &[Fraction]) -> Option<Vec<Fraction>> {
     let mut figures = vec![Fraction::whole(0); usize::from(page.count)];
     for cond in (0..page.count).rev() {
+        if page.unknown_by_default(cond) && !has_body(page, cond) {
+            figures[usize::from(cond)] = any[usize::from(cond)];
+        }
         for (line, grade) in page.lines.iter().zip(chosen) {
             let value = match line {
                 Line::Fact { cond: head, .. } if *head == cond => Fraction::whole(*grade),
@@ -177,7 +189,16 @@ fn layered(trial: &mut Trial) -> Page {
         }
     }
     gen::shuffle(rng, &mut lines);
-    Page { top, count, lines }
+    let mut page = Page { top, count, lines };
+    gen::add_defaults(rng, &mut page);
+    page
+}
+
+/// Any fraction from 0 to top.
+fn any_fraction(trial: &mut Trial, top: u16) -> Fraction {
+    let below = trial.rng.range(1, 30);
+    let above = trial.rng.below(u64::from(top) * u64::from(below) + 1);
+    Fraction::new(above.into(), below.into())
 }
 
 /// The plain interval of a condition, from a run driven to rest.
@@ -212,8 +233,11 @@ fn without_loops(trial: &mut Trial, _: u64) -> Check {
             _ => 0,
         })
         .collect();
+    let any: Vec<Fraction> = (0..page.count)
+        .map(|_| any_fraction(trial, page.top))
+        .collect();
     // Figures that do not fit are left out.
-    let Some(figures) = exact(&page, &chosen) else {
+    let Some(figures) = exact(&page, &chosen, &any) else {
         return Ok(());
     };
     for (cond, exact) in (0..page.count).zip(figures) {
@@ -229,7 +253,7 @@ fn self_denial(trial: &mut Trial, item: u64) -> Check {
     let top = item as u16 + 1;
     for weight in 1..=top {
         trial.pages += 1;
-        let area = [top, 1, 1, 9, 0, 1, weight, 1, 1];
+        let area = without_defaults(top, 1, 1, &[0, 1, weight, 1, 1]);
         let pair = plain(trial, &area, 0)?;
         let (w, t) = (u128::from(weight), u128::from(top));
         let what = || format!("weight {weight} at top {top}");

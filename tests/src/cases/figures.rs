@@ -197,7 +197,7 @@ fn row_03_closed_cuts_an_unsupported_rule(trial: &mut Trial, _: u64) -> Check {
 
 fn row_04_condition_without_lines_is_zero_after_one_evaluation(trial: &mut Trial, _: u64) -> Check {
     let area = load(trial, "G,1,1\n")?;
-    figure("the area", area.clone(), vec![1, 1, 0, 4])?;
+    figure("the area", area.clone(), vec![1, 1, 0, 5, 0])?;
     let (_, measures) = opened(trial, &area, 0)?;
     figure("the bound", measures.bound, 1)?;
     let (_, taken) = plain_of(trial, &area, 0)?;
@@ -297,8 +297,8 @@ fn row_12_leading_zero_is_form_and_low_above_high_has_a_number_of_its_own(
 fn attach_example_figures(trial: &mut Trial, _: u64) -> Check {
     let area = load(trial, &format!("{RIVALS}Q,K,0\nQ,W,1\n"))?;
     let wanted = vec![
-        10, 2, 6, 30, 0, 0, 2, 2, 1, 0, 3, 3, 0, 1, 10, 1, 3, 1, 1, 10, 1, 1, 0, 6, 0, 0, 1, 6, 1,
-        0,
+        10, 2, 6, 32, 0, 0, 0, 0, 2, 2, 1, 0, 3, 3, 0, 1, 10, 1, 3, 1, 1, 10, 1, 1, 0, 6, 0, 0, 1,
+        6, 1, 0,
     ];
     figure("the area", area.clone(), wanted)?;
     let (pair, _) = plain_of(trial, &area, 0)?;

@@ -2,6 +2,7 @@
 //! and eight literals with stated figures.
 
 use crate::answer::Driven;
+use crate::area::without_defaults;
 use crate::body::End;
 use crate::closed::scratch_length;
 use crate::ffi::Call;
@@ -152,12 +153,13 @@ fn evaluate_pairs(trial: &mut Trial, item: u64) -> Check {
     // SAFETY: the function has this type.
     let evaluate: Evaluate = unsafe { std::mem::transmute(Call::Evaluate.function()) };
     for kind in 1..=OPS.len() as u16 {
-        let area = [top, 3, 1, 10, 2, kind, top, 2, 0, 2];
+        let area = without_defaults(top, 3, 1, &[2, kind, top, 2, 0, 2]);
+        let length = area.len();
         for p in 0..=top {
             for q in 0..=top {
                 let mut run = [p, p, 1, q, q, 1, 0, top, 2];
                 // SAFETY: the slices are valid and apart.
-                let code = unsafe { evaluate(area.as_ptr(), 10, run.as_mut_ptr(), 9, 2) };
+                let code = unsafe { evaluate(area.as_ptr(), length, run.as_mut_ptr(), 9, 2) };
                 let value = |end| of_two(kind, end, top.into(), p.into(), q.into()) as u16;
                 let (low, high) = (value(End::Low), value(End::High));
                 let changed = i32::from(low > 0 || high < top);
@@ -243,10 +245,11 @@ fn drive_some(
     let last = some[some.len() - 1].0;
     // The rules' heads, then p, then each q.
     let count = rules + 1 + (last - first + 1);
-    let mut area = vec![top, count, rules, 4 + 6 * rules];
+    let mut numbers = Vec::new();
     for ((q, weight), head) in some.iter().zip(0..) {
-        area.extend([head, 5, *weight, 2, 2 * rules, 2 * (rules + 1 + q - first)]);
+        numbers.extend([head, 5, *weight, 2, 2 * rules, 2 * (rules + 1 + q - first)]);
     }
+    let area = without_defaults(top, count, rules, &numbers);
     let mut workspace = vec![0; 3 * usize::from(count) + 2 + 3 * usize::from(rules)];
     let mut start = [0, top, 2].repeat(usize::from(rules));
     start.extend([0, 0, 1]);
@@ -350,21 +353,22 @@ fn closed_values(trial: &mut Trial, top: u16, rules: &[PointRule]) -> Check<Vec<
     };
     let n = rules.len() as u16;
     let count = 3 * n;
-    let mut area = vec![top, count, 0, 0];
+    let mut lines = 0;
+    let mut numbers = Vec::new();
     for ((kind, weight, p, q), rule) in rules.iter().zip(0..) {
-        area.extend([n + 2 * rule, 0, *p, *p]);
+        numbers.extend([n + 2 * rule, 0, *p, *p]);
         let literal = 2 * (n + 2 * rule);
-        area[2] += 2;
+        lines += 2;
         match q {
             Some(q) => {
-                area.extend([n + 2 * rule + 1, 0, *q, *q]);
-                area.extend([rule, *kind, *weight, 2, literal, literal + 2]);
-                area[2] += 1;
+                numbers.extend([n + 2 * rule + 1, 0, *q, *q]);
+                numbers.extend([rule, *kind, *weight, 2, literal, literal + 2]);
+                lines += 1;
             }
-            None => area.extend([rule, *kind, *weight, 1, literal]),
+            None => numbers.extend([rule, *kind, *weight, 1, literal]),
         }
     }
-    area[3] = area.len() as u16;
+    let area = without_defaults(top, count, lines, &numbers);
     let queries: Vec<u16> = (0..n).collect();
     let mut scratch = [0; 4 * 3 * ASKED];
     let mut workspace = [0; 400];

@@ -350,10 +350,12 @@ fn exact(trial: &mut Trial, _: u64) -> Check {
     Ok(())
 }
 
-/// A page that lacks one of the four, and the condition whose closed answer then has low below high.
+/// A page that lacks one of the five, and the condition whose closed answer then has low below high.
 const NEEDED: &[(&str, u16)] = &[
     ("G,1,1\nF,0,0,1\n", 0),
     ("G,1,1\nR,0,1,M,!0\n", 0),
+    ("G,1,1\nD,0,U\n", 0),
+    ("G,1,1\nD,0,U\nR,0,1,M,0\n", 0),
     ("G,2,2\nF,0,1,1\nR,1,1,M,0\n", 1),
     ("G,2,2\nF,0,1,1\nR,1,2,P,0,0\n", 1),
 ];

@@ -3,6 +3,7 @@
 mod areas;
 mod closed;
 mod cover;
+mod defaults;
 mod figures;
 mod followers;
 mod grades;
@@ -38,6 +39,7 @@ pub fn calls() -> Vec<Case> {
     cases.extend(refusals::cases());
     cases.extend(runs::cases());
     cases.extend(closed::cases());
+    cases.extend(defaults::cases());
     cases.extend(cover::cases());
     cases.extend(layers::cases());
     cases.extend(picks::cases());

@@ -42,6 +42,7 @@ pub fn cases() -> Vec<Case> {
                 ("read", WEIGHT_RANGE),
                 ("read", GRADE_RANGE),
                 ("read", LOW_ABOVE_HIGH),
+                ("read", SECOND_DEFAULT),
             ],
         },
         Case {
@@ -132,6 +133,8 @@ const FORMS: &[&str] = &[
     "R,0,9,P,0,!0",
     "Q,K,0",
     "Q,W,2",
+    "D,0,U",
+    "D,2,U",
 ];
 
 /// All texts one byte away from a good line: a byte replaced, removed or inserted.
@@ -165,7 +168,7 @@ fn one_byte_edits(trial: &mut Trial, item: u64) -> Check {
     for edit in edits {
         trial.pages += 1;
         let text = [before, &edit, after].concat();
-        let mut area = trial.rubbish(40);
+        let mut area = trial.rubbish(560);
         let _ = trial.read(&text, &mut area)?;
     }
     Ok(())
@@ -185,6 +188,9 @@ const FIELDS: &[&str] = &[
     "G,10,3\nR,0,5,M,0,!#,1\n",
     "G,10,3\nQ,K,#\n",
     "G,10,3\nQ,W,#\n",
+    "G,10,3\nD,#,U\n",
+    "G,10,3\nD,1,U\nD,#,U\n",
+    "G,200,512\nD,#,U\nD,77,U\n",
     "G,200,512\nF,#,0,0\n",
     "G,200,512\nF,0,0,#\n",
     "G,200,512\nR,0,#,B,511\n",
@@ -214,7 +220,7 @@ fn every_number(trial: &mut Trial, item: u64) -> Check {
     for number in numbers {
         trial.pages += 1;
         let text = form.replace('#', &number).into_bytes();
-        let mut area = trial.rubbish(24);
+        let mut area = trial.rubbish(540);
         let _ = trial.read(&text, &mut area)?;
     }
     Ok(())
@@ -251,7 +257,7 @@ fn accepted(trial: &mut Trial, text: &[u8], used: usize) -> Check {
     )
 }
 
-/// The longest page: 512 conditions, 1,024 rules of eight literals.
+/// The longest page: 512 conditions, 1,024 rules of eight literals, so 4 + 512 + 12 × 1,024 numbers.
 fn longest_page() -> Page {
     Page {
         top: 200,
@@ -275,8 +281,8 @@ fn longest_page() -> Page {
 
 fn limits(trial: &mut Trial, _: u64) -> Check {
     // The head line.
-    accepted(trial, b"G,1,1\n", 4)?;
-    accepted(trial, b"G,200,512\n", 4)?;
+    accepted(trial, b"G,1,1\n", 5)?;
+    accepted(trial, b"G,200,512\n", 516)?;
     for (head, place) in [
         ("G,0,1", 2),
         ("G,1,0", 3),
@@ -290,8 +296,8 @@ fn limits(trial: &mut Trial, _: u64) -> Check {
     // Conditions against 512 and against a lower count.
     accepted(
         trial,
-        b"G,1,512\nF,511,0,1\nR,511,1,M,511,!511\nQ,K,511\nQ,W,511\n",
-        22,
+        b"G,1,512\nF,511,0,1\nR,511,1,M,511,!511\nQ,K,511\nQ,W,511\nD,511,U\n",
+        538,
     )?;
     for (line, place) in [
         ("F,512,0,1", 2),
@@ -300,14 +306,15 @@ fn limits(trial: &mut Trial, _: u64) -> Check {
         ("R,0,1,M,0,!512", 6),
         ("Q,K,512", 3),
         ("Q,W,512", 3),
+        ("D,512,U", 2),
     ] {
         let text = format!("G,1,512\n{line}\n");
         refused_at(trial, text.as_bytes(), 4, 2, place)?;
     }
-    accepted(trial, b"G,1,7\nF,6,0,1\n", 8)?;
+    accepted(trial, b"G,1,7\nF,6,0,1\n", 15)?;
     refused_at(trial, b"G,1,7\nF,7,0,1\n", 4, 2, 2)?;
     // Grades and weights against the top.
-    accepted(trial, b"G,200,1\nF,0,200,200\nR,0,200,P,0\nR,0,1,P,0\n", 18)?;
+    accepted(trial, b"G,200,1\nF,0,200,200\nR,0,200,P,0\nR,0,1,P,0\n", 19)?;
     for (line, number, place) in [
         ("F,0,0,201", 22, 4),
         ("F,0,201,201", 22, 3),
@@ -336,7 +343,7 @@ fn limits(trial: &mut Trial, _: u64) -> Check {
         refused_at(trial, text.as_bytes(), number, 2, place)?;
     }
     // Literals.
-    accepted(trial, b"G,1,1\nR,0,1,M,0,0,0,0,0,0,0,0\n", 16)?;
+    accepted(trial, b"G,1,1\nR,0,1,M,0,0,0,0,0,0,0,0\n", 17)?;
     refused(trial, b"G,1,1\nR,0,1,M,0,0,0,0,0,0,0,0,0\n", 3, 2)?;
     refused(trial, b"G,1,1\nR,9,9,M,9,9,9,9,9,9,9,9,9\n", 3, 2)?;
     refused(trial, b"G,1,1\nR,0,1,M\n", 3, 2)?;
@@ -345,9 +352,9 @@ fn limits(trial: &mut Trial, _: u64) -> Check {
     for _ in 0..1023 {
         text.extend_from_slice(b"F,0,0,0\n");
     }
-    accepted(trial, &text, 4 + 4 * 1023)?;
+    accepted(trial, &text, 5 + 4 * 1023)?;
     text.extend_from_slice(b"F,0,0,0\n");
-    accepted(trial, &text, 4 + 4 * 1024)?;
+    accepted(trial, &text, 5 + 4 * 1024)?;
     for look in [
         "F,0,0,0",
         "",
@@ -379,7 +386,8 @@ fn limits(trial: &mut Trial, _: u64) -> Check {
     let longest = longest_page();
     let text = longest.text();
     figure("the longest text", text.len(), 53_258)?;
-    accepted(trial, &text, PAGE_MAX)?;
+    accepted(trial, &text, 12_804)?;
+    figure("the greatest used length", PAGE_MAX, 12_804)?;
     let mut padded = text.clone();
     padded.resize(65_534, b'x');
     padded.push(10);

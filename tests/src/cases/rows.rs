@@ -2,7 +2,7 @@
 //! readings of a whole list, and two examples of source document 000.
 
 use crate::answer::*;
-use crate::area::{PAGE_MAX, WAITING_MARK};
+use crate::area::{assembled, without_defaults, PAGE_MAX, WAITING_MARK};
 use crate::runner::Case;
 use crate::trial::{figure, Check, Trial};
 
@@ -32,23 +32,23 @@ pub fn cases() -> Vec<Case> {
 type Outcome = Result<usize, (Refusal, u32, u32)>;
 
 const TEXTS: &[(&str, &[u8], Outcome)] = &[
-    ("condition 511 of 512", b"G,1,512\nF,511,0,1\n", Ok(8)),
+    ("condition 511 of 512", b"G,1,512\nF,511,0,1\n", Ok(520)),
     (
         "condition 512 of 512",
         b"G,1,512\nF,512,0,1\n",
         Err((4, 2, 2)),
     ),
-    ("literal 511 of 512", b"G,1,512\nR,0,1,M,!511\n", Ok(9)),
+    ("literal 511 of 512", b"G,1,512\nR,0,1,M,!511\n", Ok(521)),
     (
         "literal 512 of 512",
         b"G,1,512\nR,0,1,M,0,!512\n",
         Err((4, 2, 6)),
     ),
-    ("top 200", b"G,200,1\nF,0,200,200\n", Ok(8)),
+    ("top 200", b"G,200,1\nF,0,200,200\n", Ok(9)),
     (
         "eight literals",
         b"G,1,1\nR,0,1,M,0,!0,0,!0,0,!0,0,!0\n",
-        Ok(16),
+        Ok(17),
     ),
     (
         "nine literals",
@@ -66,12 +66,12 @@ const TEXTS: &[(&str, &[u8], Outcome)] = &[
     (
         "the page of attach",
         b"G,10,2\nF,0,2,2\nF,1,3,3\nR,0,10,M,!1\nR,1,10,M,!0\nQ,K,0\nQ,W,1\n",
-        Ok(30),
+        Ok(32),
     ),
     (
         "all ops",
         b"G,9,1\nR,0,1,M,0\nR,0,2,X,0\nR,0,3,L,0\nR,0,4,B,0\nR,0,9,P,0\n",
-        Ok(29),
+        Ok(30),
     ),
     ("another op", b"G,9,1\nR,0,1,A,0\n", Err((3, 2, 0))),
     ("another reading", b"G,9,1\nQ,X,0\n", Err((3, 2, 0))),
@@ -125,6 +125,60 @@ const TEXTS: &[(&str, &[u8], Outcome)] = &[
     ("no conditions", b"G,1,0\n", Err((4, 1, 3))),
     ("top and conditions", b"G,201,513\n", Err((4, 1, 2))),
     ("the first bad line", b"G,9,1\nF,7,9,8\nx\n", Err((4, 2, 2))),
+    ("a D line", b"G,9,1\nD,0,U\n", Ok(9)),
+    ("a D line of 511", b"G,9,512\nD,511,U\n", Ok(520)),
+    ("D without U", b"G,9,1\nD,0\n", Err((3, 2, 0))),
+    ("D with another letter", b"G,9,1\nD,0,V\n", Err((3, 2, 0))),
+    ("D with a small u", b"G,9,1\nD,0,u\n", Err((3, 2, 0))),
+    ("a small d", b"G,9,1\nd,0,U\n", Err((3, 2, 0))),
+    ("D with a last comma", b"G,9,1\nD,0,U,\n", Err((3, 2, 0))),
+    ("D with two letters", b"G,9,1\nD,0,UU\n", Err((3, 2, 0))),
+    ("D with a fourth field", b"G,9,1\nD,0,U,U\n", Err((3, 2, 0))),
+    ("D of a negation", b"G,9,1\nD,!0,U\n", Err((3, 2, 0))),
+    ("D of no condition", b"G,9,1\nD,,U\n", Err((3, 2, 0))),
+    ("D with a leading zero", b"G,9,1\nD,00,U\n", Err((3, 2, 0))),
+    ("D of two conditions", b"G,9,2\nD,0,1,U\n", Err((3, 2, 0))),
+    ("U before its condition", b"G,9,1\nD,U,0\n", Err((3, 2, 0))),
+    ("D first", b"D,0,U\n", Err((3, 1, 0))),
+    ("D out of range", b"G,9,1\nD,1,U\n", Err((4, 2, 2))),
+    ("D of 512", b"G,9,512\nD,512,U\n", Err((4, 2, 2))),
+    ("a second D line", b"G,9,1\nD,0,U\nD,0,U\n", Err((24, 3, 0))),
+    (
+        "a second D line behind others",
+        b"G,9,2\nD,1,U\nF,1,0,9\nD,0,U\nQ,K,1\nD,1,U\n",
+        Err((24, 6, 0)),
+    ),
+    (
+        "D lines of two conditions",
+        b"G,9,2\nD,1,U\nD,0,U\n",
+        Ok(14),
+    ),
+    (
+        "a range in the second D line",
+        b"G,9,1\nD,0,U\nD,1,U\n",
+        Err((4, 3, 2)),
+    ),
+    (
+        "a range far off in the second D line",
+        b"G,9,1\nD,0,U\nD,512,U\n",
+        Err((4, 3, 2)),
+    ),
+    ("a range twice", b"G,9,1\nD,1,U\nD,1,U\n", Err((4, 2, 2))),
+    (
+        "a wrong form as the second D line",
+        b"G,9,1\nD,0,U\nD,0,U,\n",
+        Err((3, 3, 0)),
+    ),
+    (
+        "a second D line before a bad line",
+        b"G,9,1\nD,0,U\nD,0,U\nx\n",
+        Err((24, 3, 0)),
+    ),
+    (
+        "a bad line before a second D line",
+        b"G,9,1\nD,0,U\nF,0,9,8\nD,0,U\n",
+        Err((23, 3, 4)),
+    ),
 ];
 
 /// Reads a text into an area of this length.
@@ -137,20 +191,31 @@ fn outcome(trial: &mut Trial, text: &[u8], length: usize) -> Check<Outcome> {
 
 fn texts(trial: &mut Trial, _: u64) -> Check {
     for (name, text, wanted) in TEXTS {
-        figure(name, outcome(trial, text, 64)?, *wanted)?;
+        figure(name, outcome(trial, text, 560)?, *wanted)?;
     }
     let text = b"G,9,1\nQ,K,0\n";
-    figure("area of 7", outcome(trial, text, 7)?, Err((6, 0, 0)))?;
-    figure("area of 8", outcome(trial, text, 8)?, Ok(8))
+    figure("area of 8", outcome(trial, text, 8)?, Err((6, 0, 0)))?;
+    figure("area of 9", outcome(trial, text, 9)?, Ok(9))?;
+    // A second D line is told before a short area.
+    let text = b"G,9,1\nD,0,U\nD,0,U\n";
+    figure("no area", outcome(trial, text, 0)?, Err((24, 3, 0)))
 }
 
 fn long_texts(trial: &mut Trial, _: u64) -> Check {
     let mut text = b"G,1,1\n".to_vec();
     text.extend(b"Q,K,0\n".repeat(1024));
-    figure("1,025 lines", outcome(trial, &text, PAGE_MAX)?, Ok(4100))?;
+    figure("1,025 lines", outcome(trial, &text, PAGE_MAX)?, Ok(4101))?;
     text.extend(b"x\n");
     let got = outcome(trial, &text, PAGE_MAX)?;
     figure("a 1,026th line", got, Err((5, 1026, 0)))?;
+    // A D line counts among them, and a second one for a condition as line 1,026 is refused for its place.
+    let mut text = b"G,1,1\nD,0,U\n".to_vec();
+    text.extend(b"Q,K,0\n".repeat(1023));
+    let got = outcome(trial, &text, PAGE_MAX)?;
+    figure("1,025 lines with a D line", got, Ok(4101))?;
+    text.extend(b"D,0,U\n");
+    let got = outcome(trial, &text, PAGE_MAX)?;
+    figure("a second D line as line 1,026", got, Err((5, 1026, 0)))?;
     let got = outcome(trial, &[10; 65_535], PAGE_MAX)?;
     figure("65,535 bytes", got, Err((3, 1, 0)))?;
     let got = outcome(trial, &[10; 65_536], PAGE_MAX)?;
@@ -185,9 +250,12 @@ fn value(trial: &mut Trial, page: &[u16], run: &[u16], cond: u32) -> Check<(u16,
 }
 
 /// The page of the `attach` example.
-const RIVALS: [u16; 30] = [
-    10, 2, 6, 30, 0, 0, 2, 2, 1, 0, 3, 3, 0, 1, 10, 1, 3, 1, 1, 10, 1, 1, 0, 6, 0, 0, 1, 6, 1, 0,
-];
+fn rivals() -> Vec<u16> {
+    let lines = [
+        0, 0, 2, 2, 1, 0, 3, 3, 0, 1, 10, 1, 3, 1, 1, 10, 1, 1, 0, 6, 0, 0, 1, 6, 1, 0,
+    ];
+    without_defaults(10, 2, 6, &lines)
+}
 
 /// Lines after the first under top 9, queries, and what the opening returns: R, E, bound and passes.
 type Opening = (
@@ -272,22 +340,22 @@ fn row_02_step_by_step(trial: &mut Trial, _: u64) -> Check {
     trial.pages += 1;
     let mut run = [0, 10, 2, 0, 10, 2];
     for (allowance, taken, line, rest) in [(3, 3, 2, false), (9, 1, 3, true)] {
-        let driven = trial.drive(&RIVALS, &mut run, allowance)?;
+        let driven = trial.drive(&rivals(), &mut run, allowance)?;
         figure("the drive", driven, Ok(Driven { taken, line, rest }))?;
-        let got = value(trial, &RIVALS, &run, 0)?;
+        let got = value(trial, &rivals(), &run, 0)?;
         figure("the value of 0", got, (2, 7, rest))?;
-        let got = value(trial, &RIVALS, &run, 1)?;
+        let got = value(trial, &rivals(), &run, 1)?;
         figure("the value of 1", got, (3, 8, rest))?;
-        let got = trial.evaluate(&RIVALS, &mut run, 0)?;
+        let got = trial.evaluate(&rivals(), &mut run, 0)?;
         figure("evaluating 0", got, Err(NOT_WAITING))?;
     }
-    let got = trial.value(&RIVALS, &run, 2)?.err();
+    let got = trial.value(&rivals(), &run, 2)?.err();
     figure("the value of 2", got, Some(CONDITION_RANGE))
 }
 
 fn row_07_step_by_step(trial: &mut Trial, _: u64) -> Check {
     trial.pages += 1;
-    let page = [10, 1, 1, 9, 0, 1, 9, 1, 0];
+    let page = without_defaults(10, 1, 1, &[0, 1, 9, 1, 0]);
     let mut run = [0, 10, 2];
     let got = trial.evaluate(&page, &mut run, 0)?;
     figure("an evaluation", got, Ok(true))?;
@@ -313,7 +381,7 @@ fn held_lines(trial: &mut Trial, _: u64) -> Check {
     trial.pages += 3;
     let took = |taken, line, rest| Ok(Driven { taken, line, rest });
     // F,0,5,5 and R,0,10,B,0,0: the fact, and then the rule.
-    let twice = [10, 1, 2, 14, 0, 0, 5, 5, 0, 4, 10, 2, 0, 0];
+    let twice = without_defaults(10, 1, 2, &[0, 0, 5, 5, 0, 4, 10, 2, 0, 0]);
     let mut run = [0, 10, WAITING_MARK];
     figure("before", trial.line(&twice, &run, 0)?, Ok(2))?;
     let driven = trial.drive(&twice, &mut run, 1)?;
@@ -322,7 +390,7 @@ fn held_lines(trial: &mut Trial, _: u64) -> Check {
     let driven = trial.drive(&twice, &mut run, 1)?;
     figure("the next one", driven, took(1, 3, false))?;
     // Q,K,0, F,0,0,4 and Q,K,1: a Q line counts and holds nothing; condition 1 has no line.
-    let asked = [10, 2, 3, 16, 0, 6, 0, 0, 0, 0, 0, 4, 1, 6, 0, 0];
+    let asked = without_defaults(10, 2, 3, &[0, 6, 0, 0, 0, 0, 0, 4, 1, 6, 0, 0]);
     let mut run = [0, 10, WAITING_MARK, 0, 10, WAITING_MARK];
     let driven = trial.drive(&asked, &mut run, 1)?;
     figure("behind a query", driven, took(1, 3, false))?;
@@ -331,9 +399,17 @@ fn held_lines(trial: &mut Trial, _: u64) -> Check {
     figure("no line", trial.line(&asked, &run, 1)?, Ok(0))?;
     let driven = trial.drive(&asked, &mut run, 9)?;
     figure("no evaluation", driven, took(0, 0, true))?;
+    // D,1,U and F,1,4,4 of which the D line counts and holds nothing; condition 0 has a D line alone.
+    let unknown = [1, 7, 0, 0, 1, 0, 4, 4, 0, 7, 0, 0];
+    let unknown = assembled(10, &[1, 1], 3, &unknown);
+    let mut run = [0, 10, WAITING_MARK, 0, 10, WAITING_MARK];
+    let driven = trial.drive(&unknown, &mut run, 1)?;
+    figure("a D line alone", driven, took(1, 0, false))?;
+    let driven = trial.drive(&unknown, &mut run, 1)?;
+    figure("behind a D line", driven, took(1, 3, true))?;
     // The last of the four is that of 1, with the low end of its fact and of its rule.
     let mut run = [0, 10, WAITING_MARK, 0, 10, WAITING_MARK];
-    let driven = trial.drive(&RIVALS, &mut run, 4)?;
+    let driven = trial.drive(&rivals(), &mut run, 4)?;
     figure("the first of two", driven, took(4, 3, true))
 }
 
@@ -362,43 +438,48 @@ fn answers(trial: &mut Trial, page: &[u16], queries: &[u16], wanted: &[(u16, u16
 
 /// Rows 1, 3, 5 and 6.
 fn closed_rows(trial: &mut Trial, _: u64) -> Check {
-    answers(trial, &RIVALS, &[0, 1], &[(2, 7), (3, 8)])?;
-    let page = [
-        10, 3, 4, 23, 0, 0, 3, 3, 2, 0, 6, 6, 0, 1, 10, 2, 2, 4, 1, 1, 10, 1, 2,
-    ];
+    answers(trial, &rivals(), &[0, 1], &[(2, 7), (3, 8)])?;
+    let lines = [0, 0, 3, 3, 2, 0, 6, 6, 0, 1, 10, 2, 2, 4, 1, 1, 10, 1, 2];
+    let page = without_defaults(10, 3, 4, &lines);
     answers(trial, &page, &[0, 1, 2], &[(3, 3), (0, 0), (6, 6)])?;
-    answers(trial, &[1, 1, 1, 9, 0, 1, 1, 1, 1], &[0], &[(0, 1)])?;
-    answers(trial, &SELF_SUPPORT, &[0], &[(0, 0)])
+    let denial = without_defaults(1, 1, 1, &[0, 1, 1, 1, 1]);
+    answers(trial, &denial, &[0], &[(0, 1)])?;
+    answers(trial, &self_support(), &[0], &[(0, 0)])
 }
 
 /// Row 6: a condition that only itself supports.
-const SELF_SUPPORT: [u16; 9] = [1, 1, 1, 9, 0, 1, 1, 1, 0];
+fn self_support() -> Vec<u16> {
+    without_defaults(1, 1, 1, &[0, 1, 1, 1, 0])
+}
 
 /// Example 8 of source 000 at top 10: A, B, C, D are 0 to 3, and 4 holds 0.6.
 fn running_example(trial: &mut Trial, _: u64) -> Check {
-    let page = [
-        10, 5, 6, 35, 0, 2, 10, 2, 3, 4, 1, 2, 10, 2, 1, 6, 2, 0, 3, 3, 2, 1, 10, 2, 6, 8, 3, 1,
-        10, 1, 6, 4, 0, 6, 6,
+    let lines = [
+        0, 2, 10, 2, 3, 4, 1, 2, 10, 2, 1, 6, 2, 0, 3, 3, 2, 1, 10, 2, 6, 8, 3, 1, 10, 1, 6, 4, 0,
+        6, 6,
     ];
+    let page = without_defaults(10, 5, 6, &lines);
     let wanted = [(0, 0), (3, 3), (0, 7), (3, 10)];
     answers(trial, &page, &[3, 2, 1, 0], &wanted)
 }
 
 /// Example 7 of source 000 at top 100: experience, risk, sports car, young, good driver are 0 to 4.
 fn insurance_example(trial: &mut Trial, _: u64) -> Check {
-    let page = [
-        100, 5, 7, 38, 0, 0, 70, 70, 1, 0, 50, 50, 2, 0, 80, 80, 4, 1, 100, 2, 0, 3, 1, 1, 80, 1,
-        6, 1, 1, 80, 1, 4, 1, 1, 100, 2, 0, 9,
+    let lines = [
+        0, 0, 70, 70, 1, 0, 50, 50, 2, 0, 80, 80, 4, 1, 100, 2, 0, 3, 1, 1, 80, 1, 6, 1, 1, 80, 1,
+        4, 1, 1, 100, 2, 0, 9,
     ];
+    let page = without_defaults(100, 5, 7, &lines);
     let wanted = [(70, 70), (64, 70), (80, 80), (0, 0), (30, 36)];
     answers(trial, &page, &[0, 1, 2, 3, 4], &wanted)
 }
 
 fn closed_refusals(trial: &mut Trial, _: u64) -> Check {
+    let page = self_support();
     let cases: [(&[u16], &[u16], Refusal); 3] = [
-        (&SELF_SUPPORT[..8], &[0, 1], PAGE_UNSOUND),
-        (&SELF_SUPPORT, &[], QUERY_COUNT),
-        (&SELF_SUPPORT, &[0, 1], QUERY_RANGE),
+        (&page[..page.len() - 1], &[0, 1], PAGE_UNSOUND),
+        (&page, &[], QUERY_COUNT),
+        (&page, &[0, 1], QUERY_RANGE),
     ];
     for (page, queries, number) in cases {
         let got = read_closed(trial, page, queries)?;

@@ -1,6 +1,6 @@
 //! Open, Evaluate, Drive and Value on arbitrary good areas.
 
-use crate::area::{encode, WAITING_MARK};
+use crate::area::{encode, without_defaults, WAITING_MARK};
 use crate::body::Pair;
 use crate::enumerate;
 use crate::gen::{self, Size};
@@ -128,7 +128,7 @@ fn every_pair_of_grades(trial: &mut Trial, item: u64) -> Check {
     let negated = (item / 30) as u16;
     trial.pages += 1;
     for weight in [top, 1.max(top - 1), top.div_ceil(2), 1] {
-        let area = vec![top, 3, 1, 10, 2, kind, weight, 2, negated, 2 + negated];
+        let area = without_defaults(top, 3, 1, &[2, kind, weight, 2, negated, 2 + negated]);
         for p in 0..=top {
             for q in 0..=top {
                 let low = trial.rng.range(0, p);

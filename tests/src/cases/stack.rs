@@ -3,12 +3,12 @@
 use std::sync::atomic::{AtomicUsize, Ordering::SeqCst};
 
 use crate::answer::*;
-use crate::area::encode;
+use crate::area::{decode, encode};
 use crate::book::Book;
 use crate::closed::scratch_length;
 use crate::ffi::{stands_in, Call};
 use crate::gen;
-use crate::page::Page;
+use crate::page::{Line, Literal, Page};
 use crate::plain;
 use crate::runner::Case;
 use crate::stack::{header_figure, Stack, STANDIN_STACK};
@@ -370,9 +370,17 @@ impl Bench<'_> {
             (b"R,1,201,P,0,0,0,0,0,0,0,0\n", WEIGHT_RANGE),
             (b"F,1,0,201\n", GRADE_RANGE),
             (b"F,1,1,0\n", LOW_ABOVE_HIGH),
+            (b"D,512,U\n", LINE_RANGE),
         ] {
             lent.text = [&text[..start], line].concat();
             figure("read", self.read(&lent)?, -number)?;
+        }
+        let first = text
+            .split(|byte| *byte == 10)
+            .find(|line| line.starts_with(b"D"));
+        if let Some(first) = first {
+            lent.text = [&text[..start], first, b"\n"].concat();
+            figure("read", self.read(&lent)?, -SECOND_DEFAULT)?;
         }
         Ok(())
     }
@@ -468,12 +476,15 @@ impl Bench<'_> {
     fn layered(&mut self, good: &Lent) -> Check {
         let mut lent = good.clone();
         self.layers(&lent)?;
-        for negated in [0, 1] {
-            for head in (4..lent.page.len()).step_by(12) {
-                if lent.page[head + 1] % 6 != 0 && lent.page[head + 3] == 8 {
-                    lent.page[head + 4] = 2 * lent.page[head] + negated;
+        for negated in [false, true] {
+            let mut page = decode(&good.page).ok_or("the area is not sound")?;
+            for line in &mut page.lines {
+                if let Line::Rule { head, body, .. } = line {
+                    let cond = *head;
+                    body[0] = Literal { cond, negated };
                 }
             }
+            lent.page = encode(&page);
             self.layers(&lent)?;
         }
         lent.area.truncate(511);

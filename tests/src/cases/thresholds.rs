@@ -2,7 +2,7 @@
 //! count of conditions, and every place in a set of conditions.
 
 use crate::answer::*;
-use crate::area::{encode, PAGE_MAX, REACHED_MARK, WAITING_MARK};
+use crate::area::{encode, without_defaults, HEAD, PAGE_MAX, REACHED_MARK, WAITING_MARK};
 use crate::closed::scratch_length;
 use crate::gen;
 use crate::page::{Page, CONDITIONS_MAX, TOP_MAX};
@@ -188,10 +188,13 @@ fn text_ranges(trial: &mut Trial, item: u64) -> Check {
         (format!("Q,W,{last}"), None),
         (format!("Q,K,{count}"), far(3)),
         (format!("Q,W,{count}"), far(3)),
+        (format!("D,{last},U"), None),
+        (format!("D,{count},U"), far(2)),
     ];
+    let head = HEAD + usize::from(count);
     for (line, wanted) in lines {
         trial.pages += 1;
-        let mut area = trial.rubbish(40);
+        let mut area = trial.rubbish(head + 40);
         let got = trial.read(format!("G,{top},{count}\n{line}\n").as_bytes(), &mut area)?;
         let wanted = wanted.map(|(number, place)| ReadRefusal::new(number, 2, place));
         figure(
@@ -208,7 +211,7 @@ fn text_ranges(trial: &mut Trial, item: u64) -> Check {
         (format!("G,{top},{}", 513 + u64::from(last) % 487), Some(3)),
     ] {
         trial.pages += 1;
-        let mut area = trial.rubbish(4);
+        let mut area = trial.rubbish(head);
         let got = trial.read(format!("{first}\n").as_bytes(), &mut area)?;
         let wanted = place.map(|place| ReadRefusal::new(LINE_RANGE, 1, place));
         figure(&first, got.err(), wanted)?;
@@ -245,16 +248,17 @@ fn area_ranges(trial: &mut Trial, item: u64) -> Check {
         (vec![last, 6, 2, 0], false),
         (vec![last, 6, 1, 1], false),
         (vec![count, 6, 1, 0], false),
+        (vec![0, 7, 0, 0], false),
         (vec![0, 7, 1, 0], false),
+        (vec![0, 8, 0, 0], false),
         (vec![0, 256, 0, 0], false),
         (vec![0, 262, 0, 0], false),
     ];
     let mut run = [0, top, 0].repeat(usize::from(count));
     for (line, good) in lines {
         trial.pages += 1;
-        let used = 4 + line.len() as u16;
-        let mut area = vec![top, count, 1, used];
-        area.extend_from_slice(&line);
+        let area = without_defaults(top, count, 1, &line);
+        let used = area[3];
         let wanted = if good { CONDITION_RANGE } else { PAGE_UNSOUND };
         let got = trial.value(&area, &run, u32::from(count))?.err();
         figure(&format!("{area:?}"), got, Some(wanted))?;
@@ -274,7 +278,8 @@ fn area_ranges(trial: &mut Trial, item: u64) -> Check {
         (200, 513, PAGE_UNSOUND),
     ] {
         run = [0, top, 0].repeat(usize::from(count));
-        let got = trial.value(&[top, count, 0, 4], &run, 600)?.err();
+        let area = without_defaults(top, count, 0, &[]);
+        let got = trial.value(&area, &run, 600)?.err();
         figure("the head", got, Some(wanted))?;
     }
     Ok(())
@@ -287,8 +292,7 @@ fn every_place(trial: &mut Trial, item: u64) -> Check {
     let facts: Vec<u16> = (0..count)
         .flat_map(|cond| [cond, 0, cond % 7, 7 + cond % 3])
         .collect();
-    let used = 4 + facts.len() as u16;
-    let area = [&[10, count, count, used][..], &facts].concat();
+    let area = without_defaults(10, count, count, &facts);
     let others = [here, here ^ 1, (here + 64) % count, 0, count - 1];
     for other in others {
         trial.pages += 1;
@@ -314,7 +318,8 @@ fn every_place(trial: &mut Trial, item: u64) -> Check {
     // `here` names `other`, which changes.
     for other in others {
         trial.pages += 1;
-        let rule = [10, count, 2, 13, other, 0, 3, 5, here, 1, 10, 1, 2 * other];
+        let rule = [other, 0, 3, 5, here, 1, 10, 1, 2 * other];
+        let rule = without_defaults(10, count, 2, &rule);
         let mut run = [0, 10, REACHED_MARK].repeat(usize::from(count));
         run[3 * usize::from(other) + 2] = WAITING_MARK;
         let changed = trial.evaluate(&rule, &mut run.clone(), u32::from(other))?;

@@ -19,7 +19,7 @@ shared-slice-read-count : tie.Need-shared-slice-read-count Inv-loop μ-loop
 shared-slice-read-count c = omega (arith, head-of (c .before .before .before .args .a .now) (c .before .before .before .pre .0))
 
 first-requires : tie.Need-first-requires Inv-loop μ-loop
-first-requires c κs = tt
+first-requires c κs = head-of (c .before .before .before .args .a .now) (c .before .before .before .pre .0) .four
 
 loop-holds : tie.Need-loop-holds Inv-loop μ-loop
 loop-holds c = searching-first _ _ _ _ (c .first .ensures)

@@ -6,6 +6,7 @@ use mir.Facts.{toZ-pos}
 use mir.Syntax.{w32}
 use Rattle.semantics.specs.ReadPage.{refusedPage, readPage, readOf}
 use Rattle.semantics.proofs.ReadProper.{read-good, SmallRefusal, read-small}
+use Rattle.semantics.proofs.UsedLength.{mostUsed}
 use Rattle.reader.specs.Answers.{answerOf}
 use Rattle.capi.specs.Codes.{readCode, lineTold, placeTold}
 use Rattle.capi.proofs.Signs.{returned}
@@ -30,7 +31,7 @@ start-2 c = c .before .before .before .before .before .before .before .before .b
 read-as : (c : tie.After-known-told2) → readPage (c .before .answer2 .given .0 .0) ≡ readOf (start-2 c .args .text .now) (start-2 c .args .area .now) .answer
 read-as c = ap answerOf (sym (c .before .answer2 .given .1)) ∙ c .before .before .before .before .before .read-page .ensures .0
 
-used-short : (c : tie.After-known-told2) → c .before .answer2 .given .0 .0 ≤ 12292
+used-short : (c : tie.After-known-told2) → c .before .answer2 .given .0 .0 ≤ mostUsed
 used-short c = read-good (start-2 c .args .text .now) (start-2 c .args .area .now) (read-as c) .short
 
 read-page-requires : tie.Need-read-page-requires

@@ -44,5 +44,5 @@ returns c = let z = c .before .before .before .before .before .before .before in
 
 pub pass-spec : {M : Type 1} → statement M
 pass-spec =
-    tie.close (tie.spec Inv-loop μ-loop shared-slice-read-left (λ c κs. tt) loop-holds follow-line-requires add-new next-requires (omega arith)
+    tie.close (tie.spec Inv-loop μ-loop shared-slice-read-left (λ c κs. let z = c .before .before .before .before in head-of (z .args .a .now) (z .pre .0) .four) loop-holds follow-line-requires add-new next-requires (omega arith)
     (omega arith) loop-again same-length same-length-2 returns)

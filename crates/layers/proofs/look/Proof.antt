@@ -20,7 +20,7 @@ shared-slice-read-left : tie.Need-shared-slice-read-left Inv-loop μ-loop
 shared-slice-read-left c = let z = c .before .before .before in omega (arith, head-of (z .args .a .now) (z .pre .0))
 
 first-requires : tie.Need-first-requires Inv-loop μ-loop
-first-requires c κs = tt
+first-requires c κs = let z = c .before .before .before in head-of (z .args .a .now) (z .pre .0) .four
 
 loop-holds : tie.Need-loop-holds Inv-loop μ-loop
 loop-holds c = let z = c .before .before .before .before in let f = c .first .ensures in (omega (arith, f .1), searching-first (z .args .a .now) (z .args .levels .now) (z .args .level) (z .pre .0) f)

@@ -27,7 +27,7 @@ mul-codes : tie.Need-mul-codes Inv-loop μ-loop Inv-lines μ-lines
 mul-codes c = omega (arith, c .before .pre .2)
 
 first-requires : tie.Need-first-requires Inv-loop μ-loop Inv-lines μ-lines
-first-requires c κs = tt
+first-requires c κs = let s = c .before in omega (arith, s .pre .0, s .pre .1)
 
 lines-holds : tie.Need-lines-holds Inv-loop μ-loop Inv-lines μ-lines
 lines-holds c =

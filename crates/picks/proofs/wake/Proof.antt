@@ -45,5 +45,5 @@ returns c = waking-last _ _ _ _ (c .before .before .loop .inv) (omega arith)
 
 pub wake-spec : {M : Type 1} → statement M
 wake-spec =
-    tie.close (tie.spec Inv-loop μ-loop shared-slice-read-count (λ c κs. tt) loop-holds next-requires wake-head-requires loop-less loop-again
+    tie.close (tie.spec Inv-loop μ-loop shared-slice-read-count (λ c κs. let z = c .before .before .before .before in head-of (z .args .a .now) (z .pre .0) .four) loop-holds next-requires wake-head-requires loop-less loop-again
     same-length returns)

@@ -74,7 +74,7 @@ sweep-spec =
     Inv-loop
     μ-loop
     shared-slice-read-left
-    (λ c κs. tt)
+    (λ c κs. let z = c .before .before .before in head-of (z .args .a .now) (z .pre .0) .four)
     loop-holds
     mul-if1
     shared-slice-read-if1

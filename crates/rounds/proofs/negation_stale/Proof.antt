@@ -17,7 +17,7 @@ shared-slice-read-count : tie.Need-shared-slice-read-count Inv-loop μ-loop
 shared-slice-read-count c = let s = c .before .before .before in omega (arith, head-of (s .args .a .now) (s .pre .page-sound))
 
 first-requires : tie.Need-first-requires Inv-loop μ-loop
-first-requires c κs = tt
+first-requires c κs = let s = c .before .before .before in head-of (s .args .a .now) (s .pre .page-sound) .four
 
 loop-holds : tie.Need-loop-holds Inv-loop μ-loop
 loop-holds c = searching-first (c .before .before .before .before .pre) (c .first .ensures)

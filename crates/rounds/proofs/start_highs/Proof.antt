@@ -1,16 +1,16 @@
--- `start_highs` stores a high end and a negation for one condition after the other (`StartingHighs`).
-use mathlib.Core.Path.{refl, ap}
-use native.Mathlib.Omega.{arith}
+-- `start_highs` places a high end and stores a negation for one condition after the other (`StartingHighs`).
+use mathlib.Core.Path.{refl, sym, _∙_}
+use mathlib.Core.Logic.{⊎-elim}
 use Prim.Native.Nat.{_-_}
-use lib.ListN.{length-set}
+use native.Mathlib.Omega.{arith}
+use borrow.Author.Tests.{not-true, not-false}
 use Rattle.page.proofs.Head.{head-of}
-use Rattle.fixpoint.specs.Interval.{Interval}
-use Rattle.rounds.proofs.Starting.{StartingHighs, highs-first, highs-next, highs-last, low-read}
+use Rattle.rounds.proofs.Starting.{StartingHighs, startHigh, highs-first, placed-kept, placed-anew, low-in, placed-long, highs-next, highs-last}
 use Rattle.rounds.proofs.start_highs.Statement.{statement}
 use Rattle.rounds.proofs.start_highs.Tie as tie
 
 abbrev Inv-loop : tie.InvT-loop
-Inv-loop a scratch₀ top n base c₀ scratch c = StartingHighs a scratch₀ scratch c
+Inv-loop a scratch₀ top n base c₀ scratch c = StartingHighs a scratch₀ (startHigh a scratch₀) scratch c
 
 abbrev μ-loop : tie.MeasureT-loop
 μ-loop a scratch₀ top n base c₀ scratch c = n - c
@@ -28,55 +28,55 @@ mul-base : tie.Need-mul-base Inv-loop μ-loop
 mul-base c = let s = c .before .before .before .before in omega (arith, head-of (s .args .a .now) (s .pre .page-sound))
 
 loop-holds : tie.Need-loop-holds Inv-loop μ-loop
-loop-holds c = let s = c .before .before .before .before in highs-first _ _ (s .pre .page-sound) (s .pre .long)
+loop-holds c = highs-first _ _ _ (c .before .before .before .before .pre)
 
 cast-at : tie.Need-cast-at Inv-loop μ-loop
-cast-at c = let i = c .before .loop .inv in omega (arith, head-of _ (i .page-sound) .few, i .long, i .same-length)
+cast-at c = let i = c .before .loop .inv in omega (arith, head-of _ (i .ready .page-sound) .few, i .ready .long, i .same-length)
 
 mul-at : tie.Need-mul-at Inv-loop μ-loop
-mul-at c = let i = c .before .loop .inv in omega (arith, head-of _ (i .page-sound) .few, i .long, i .same-length)
+mul-at c = let i = c .before .loop .inv in omega (arith, head-of _ (i .ready .page-sound) .few, i .ready .long, i .same-length)
 
-bodyless-requires : tie.Need-bodyless-requires Inv-loop μ-loop
-bodyless-requires c κs = tt
+unknown-by-default-requires : tie.Need-unknown-by-default-requires Inv-loop μ-loop
+unknown-by-default-requires c κs = (c .before .loop .inv .ready .page-sound, omega arith)
 
 add-scratch : tie.Need-add-scratch Inv-loop μ-loop
-add-scratch c = let i = c .before .before .loop .inv in omega (arith, head-of _ (i .page-sound) .few, i .long, i .same-length)
+add-scratch c = let i = c .before .before .before .loop .inv in omega (arith, head-of _ (i .ready .page-sound) .few, i .ready .long, i .same-length)
 
 mul-scratch : tie.Need-mul-scratch Inv-loop μ-loop
-mul-scratch c = let i = c .before .before .loop .inv in omega (arith, head-of _ (i .page-sound) .few, i .long, i .same-length)
+mul-scratch c = let i = c .before .before .before .loop .inv in omega (arith, head-of _ (i .ready .page-sound) .few, i .ready .long, i .same-length)
 
 slice-write-scratch : tie.Need-slice-write-scratch Inv-loop μ-loop
-slice-write-scratch c = let i = c .before .before .loop .inv in omega (arith, head-of _ (i .page-sound) .few, i .long, i .same-length)
+slice-write-scratch c = let i = c .before .before .before .loop .inv in omega (arith, head-of _ (i .ready .page-sound) .few, i .ready .long, i .same-length)
 
 mul-scratch-2 : tie.Need-mul-scratch-2 Inv-loop μ-loop
-mul-scratch-2 c = let i = c .before .before .loop .inv in omega (arith, head-of _ (i .page-sound) .few, i .long, i .same-length)
+mul-scratch-2 c = let i = c .before .before .before .loop .inv in omega (arith, head-of _ (i .ready .page-sound) .few, i .ready .long, i .same-length)
 
 slice-read-scratch : tie.Need-slice-read-scratch Inv-loop μ-loop
-slice-read-scratch c = let i = c .before .before .before .loop .inv in rw length-set (omega (arith, head-of _ (i .page-sound) .few, i .long, i .same-length))
+slice-read-scratch c = let i = c .before .before .before .before .loop .inv in omega (arith, head-of _ (i .ready .page-sound) .few, placed-long _ _ _ i (omega arith) (⊎-elim (λ w. placed-anew (c .before .before .before .before .loop .inv) (omega arith) (sym (c .before .before .unknown-by-default .ensures) ∙ not-true _ (w .0 .taken)) (w .1)) (λ w. placed-kept (c .before .before .before .before .loop .inv) (omega arith) (sym (c .before .before .unknown-by-default .ensures) ∙ not-false _ (w .0 .left)) (w .1)) (c .before .if1 .came)))
 
 sub-scratch : tie.Need-sub-scratch Inv-loop μ-loop
-sub-scratch c = let s = c .before .before .before .before .before .before .before .before in let i = c .before .before .before .loop in rw (low-read _ _ (i .inv) (omega arith) _ 0) (s .pre .within (i .c) (omega arith))
+sub-scratch c = low-in _ _ _ (c .before .before .before .before .loop .inv) (omega arith) (⊎-elim (λ w. placed-anew (c .before .before .before .before .loop .inv) (omega arith) (sym (c .before .before .unknown-by-default .ensures) ∙ not-true _ (w .0 .taken)) (w .1)) (λ w. placed-kept (c .before .before .before .before .loop .inv) (omega arith) (sym (c .before .before .unknown-by-default .ensures) ∙ not-false _ (w .0 .left)) (w .1)) (c .before .if1 .came))
 
 add-scratch-2 : tie.Need-add-scratch-2 Inv-loop μ-loop
-add-scratch-2 c = let i = c .before .before .before .loop .inv in omega (arith, head-of _ (i .page-sound) .few, i .long, i .same-length)
+add-scratch-2 c = let i = c .before .before .before .before .loop .inv in omega (arith, head-of _ (i .ready .page-sound) .few, i .ready .long, i .same-length)
 
 add-scratch-3 : tie.Need-add-scratch-3 Inv-loop μ-loop
-add-scratch-3 c = let i = c .before .before .before .loop .inv in omega (arith, head-of _ (i .page-sound) .few, i .long, i .same-length)
+add-scratch-3 c = let i = c .before .before .before .before .loop .inv in omega (arith, head-of _ (i .ready .page-sound) .few, i .ready .long, i .same-length)
 
 mul-scratch-3 : tie.Need-mul-scratch-3 Inv-loop μ-loop
-mul-scratch-3 c = let i = c .before .before .before .loop .inv in omega (arith, head-of _ (i .page-sound) .few, i .long, i .same-length)
+mul-scratch-3 c = let i = c .before .before .before .before .loop .inv in omega (arith, head-of _ (i .ready .page-sound) .few, i .ready .long, i .same-length)
 
 slice-write-scratch-2 : tie.Need-slice-write-scratch-2 Inv-loop μ-loop
-slice-write-scratch-2 c = let i = c .before .before .before .loop .inv in rw length-set (omega (arith, head-of _ (i .page-sound) .few, i .long, i .same-length))
+slice-write-scratch-2 c = let i = c .before .before .before .before .loop .inv in omega (arith, head-of _ (i .ready .page-sound) .few, placed-long _ _ _ i (omega arith) (⊎-elim (λ w. placed-anew (c .before .before .before .before .loop .inv) (omega arith) (sym (c .before .before .unknown-by-default .ensures) ∙ not-true _ (w .0 .taken)) (w .1)) (λ w. placed-kept (c .before .before .before .before .loop .inv) (omega arith) (sym (c .before .before .unknown-by-default .ensures) ∙ not-false _ (w .0 .left)) (w .1)) (c .before .if1 .came)))
 
 add-c : tie.Need-add-c Inv-loop μ-loop
-add-c c = let i = c .before .before .before .loop .inv in omega (arith, head-of _ (i .page-sound) .few, i .long, i .same-length)
+add-c c = let i = c .before .before .before .before .loop .inv in omega (arith, head-of _ (i .ready .page-sound) .few, i .ready .long, i .same-length)
 
 loop-less : tie.Need-loop-less Inv-loop μ-loop
 loop-less c = omega arith
 
 loop-again : tie.Need-loop-again Inv-loop μ-loop
-loop-again c = highs-next _ _ (c .before .before .before .loop .inv) (omega arith) _ _ (ap (λ (p : Interval). p .high) (c .before .bodyless .ensures)) refl
+loop-again c = highs-next _ _ _ (c .before .before .before .before .loop .inv) (omega arith) (⊎-elim (λ w. placed-anew (c .before .before .before .before .loop .inv) (omega arith) (sym (c .before .before .unknown-by-default .ensures) ∙ not-true _ (w .0 .taken)) (w .1)) (λ w. placed-kept (c .before .before .before .before .loop .inv) (omega arith) (sym (c .before .before .unknown-by-default .ensures) ∙ not-false _ (w .0 .left)) (w .1)) (c .before .if1 .came)) _ refl
 
 same-length : tie.Need-same-length Inv-loop μ-loop
 same-length c = c .before .loop .inv .same-length
@@ -97,7 +97,7 @@ start-highs-spec =
     loop-holds
     cast-at
     mul-at
-    bodyless-requires
+    unknown-by-default-requires
     add-scratch
     mul-scratch
     slice-write-scratch

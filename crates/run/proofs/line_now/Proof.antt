@@ -1,8 +1,9 @@
 -- `run::line_now` meets its contract. Assumes nothing.
+use mathlib.Core.Path.{refl}
+use mathlib.Core.Logic.{inl}
 use native.Mathlib.Omega.{arith}
 use Rattle.page.proofs.Head.{head-of}
 use Rattle.worklist.proofs.Evaluation.{graded-of}
-use Rattle.body.proofs.Gathering.{body-found}
 use Rattle.run.proofs.Answering.{held-grades, line-of-held}
 use borrow.Author.Needs.{needs}
 use Rattle.run.proofs.line_now.Statement.{statement}
@@ -20,22 +21,29 @@ slice-aggregate-fill c = search needs
 fill-requires : tie.Need-fill-requires
 fill-requires c κs = (graded-of (c .before .before .before .before .before .args .page .now) (c .before .before .before .before .before .args .run .now) (c .before .before .before .before .before .pre .0) (c .before .before .before .before .before .pre .1), omega (arith, head-of (c .before .before .before .before .before .args .page .now) (c .before .before .before .before .before .pre .0)))
 
-slice-aggregate-by-scan : tie.Need-slice-aggregate-by-scan
-slice-aggregate-by-scan c = search needs
+sub-none : tie.Need-sub-none
+sub-none c = search needs
 
-by-scan-requires : tie.Need-by-scan-requires
-by-scan-requires c κs = (c .before .before .before .before .before .before .before .before .pre .0, held-grades (c .before .before .before .before .before .before .before .before .args .page .now) (c .before .before .before .before .before .before .before .before .args .run .now) _ (c .before .before .before .before .before .before .before .before .pre .0) (c .before .before .before .before .before .before .before .before .pre .1) (omega (arith, head-of (c .before .before .before .before .before .before .before .before .args .page .now) (c .before .before .before .before .before .before .before .before .pre .0), c .before .before .fill .kept .1 .1 .1 .0)) (c .before .before .fill .ensures))
+part-none-start : tie.Need-part-none-start
+part-none-start c = search needs
+
+part-none-end : tie.Need-part-none-end
+part-none-end c = search needs
+
+slice-aggregate-body : tie.Need-slice-aggregate-body
+slice-aggregate-body c = search needs
+
+body-requires : tie.Need-body-requires
+body-requires c κs = let z = c .before .before .before .before .before .before .before .before .before in (z .pre .0, held-grades (z .args .page .now) (z .args .run .now) _ (z .pre .0) (z .pre .1) (omega (arith, head-of (z .args .page .now) (z .pre .0), c .before .before .before .fill .kept .1 .1 .1 .0)) (c .before .before .before .fill .ensures), inl refl, z .pre .2)
 
 slice-aggregate-first-line : tie.Need-slice-aggregate-first-line
 slice-aggregate-first-line c = search needs
 
 first-line-requires : tie.Need-first-line-requires
-first-line-requires c κs = (c .before .before .before .before .before .before .before .before .before .before .pre .0, held-grades (c .before .before .before .before .before .before .before .before .before .before .args .page .now) (c .before .before .before .before .before .before .before .before .before .before .args .run .now) _ (c .before .before .before .before .before .before .before .before .before .before .pre .0) (c .before .before .before .before .before .before .before .before .before .before .pre .1) (omega (arith, head-of (c .before .before .before .before .before .before .before .before .before .before .args .page .now) (c .before .before .before .before .before .before .before .before .before .before .pre .0), c .before .before .before .before .fill .kept .1 .1 .1 .0)) (c .before .before .before .before .fill .ensures))
+first-line-requires c κs = let z = c .before .before .before .before .before .before .before .before .before .before .before in (z .pre .0, held-grades (z .args .page .now) (z .args .run .now) _ (z .pre .0) (z .pre .1) (omega (arith, head-of (z .args .page .now) (z .pre .0), c .before .before .before .before .before .fill .kept .1 .1 .1 .0)) (c .before .before .before .before .before .fill .ensures))
 
 returns : tie.Need-returns
-returns c =
-    line-of-held (c .before .before .before .before .before .before .before .before .before .before .before .args .page .now) (c .before .before .before .before .before .before .before .before .before .before .before .args .run .now) _ (c .before .before .before .before .before .before .before .before .before .before .before .pre .0) (c .before .before .before .before .before .before .before .before .before .before .before .pre .1) (omega (arith, head-of (c .before .before .before .before .before .before .before .before .before .before .before .args .page .now) (c .before .before .before .before .before .before .before .before .before .before .before .pre .0), c .before .before .before .before .before .fill .kept .1 .1 .1 .0)) (c .before .before .before .before .before .fill .ensures)
-    (body-found _ _ _ (c .before .before .before .before .before .before .before .before .before .before .before .pre .0) (c .before .before .by-scan .ensures)) (c .first-line .ensures)
+returns c = let z = c .before .before .before .before .before .before .before .before .before .before .before .before in line-of-held (z .args .page .now) (z .args .run .now) _ (z .pre .0) (z .pre .1) (omega (arith, head-of (z .args .page .now) (z .pre .0), c .before .before .before .before .before .before .fill .kept .1 .1 .1 .0)) (c .before .before .before .before .before .before .fill .ensures) (c .before .before .body .ensures) (c .first-line .ensures)
 
 pub line-now-spec : {M : Type 1} → statement M
 line-now-spec =
@@ -45,8 +53,11 @@ line-now-spec =
     shared-slice-read-fill-2
     slice-aggregate-fill
     fill-requires
-    slice-aggregate-by-scan
-    by-scan-requires
+    sub-none
+    part-none-start
+    part-none-end
+    slice-aggregate-body
+    body-requires
     slice-aggregate-first-line
     first-line-requires
     returns)

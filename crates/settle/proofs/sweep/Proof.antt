@@ -21,7 +21,7 @@ cast-used : tie.Need-cast-used Inv-loop μ-loop
 cast-used c = omega (arith, c .shared-slice-known3 .given 3)
 
 first-requires : tie.Need-first-requires Inv-loop μ-loop
-first-requires c κs = tt
+first-requires c κs = let s = c .before .before .before .before in head-of (s .args .a .now) (s .pre .0 .page-sound) .four
 
 loop-holds : tie.Need-loop-holds Inv-loop μ-loop
 loop-holds c = sweeping-first (c .before .before .before .before .before .pre .0) (c .before .before .before .before .before .pre .1 .0) (c .first .ensures)

@@ -3,7 +3,7 @@ use mathlib.Core.Logic.{⊎-elim}
 use Prim.Native.Nat.{_-_}
 use native.Mathlib.Omega.{arith}
 use Rattle.page.proofs.Head.{head-of}
-use Rattle.stages.proofs.Beginning.{Copying, copying-first, copying-next, copying-passed, copying-last}
+use Rattle.stages.proofs.Beginning.{Copying, copying-first, copying-next, copying-passed, copying-last, first-small}
 use Rattle.stages.proofs.copy_tops.Statement.{statement}
 use Rattle.stages.proofs.copy_tops.Tie as tie
 
@@ -14,46 +14,34 @@ abbrev μ-loop : tie.MeasureT-loop
 μ-loop a marks scratch tops₀ n c₀ tops c = n - c
 
 shared-slice-read-n : tie.Need-shared-slice-read-n Inv-loop μ-loop
-shared-slice-read-n c = omega (arith, head-of (c .before .args .a .now) (c .before .pre .0), c .before .pre .1, c .before .pre .2, c .before .pre .3)
-
-cast-n : tie.Need-cast-n Inv-loop μ-loop
-cast-n c = omega (arith, c .shared-slice-known .given 1)
+shared-slice-read-n c = omega (arith, head-of (c .before .before .before .before .before .args .a .now) (c .before .before .before .before .before .pre .0))
 
 loop-holds : tie.Need-loop-holds Inv-loop μ-loop
-loop-holds c = copying-first _ _ _ (c .before .pre .3)
+loop-holds c = copying-first _ _ _ (c .before .before .before .before .before .pre .3)
+
+cast-t : tie.Need-cast-t Inv-loop μ-loop
+cast-t c = omega (arith, c .before .loop .inv .within, head-of (c .before .before .before .before .before .before .before .args .a .now) (c .before .before .before .before .before .before .before .pre .0))
 
 shared-slice-read-if1 : tie.Need-shared-slice-read-if1 Inv-loop μ-loop
-shared-slice-read-if1 c = omega (arith, head-of (c .before .before .before .before .args .a .now) (c .before .before .before .before .pre .0), c .before .before .before .before .pre .1, c .before .before .before .before .pre .2, c .before .before .before .before .pre .3)
+shared-slice-read-if1 c = omega (arith, c .before .before .before .before .before .before .before .before .pre .2)
 
-mul-tops : tie.Need-mul-tops Inv-loop μ-loop
-mul-tops c = omega (arith, head-of (c .before .before .before .before .before .args .a .now) (c .before .before .before .before .before .pre .0), c .before .before .before .before .before .pre .1, c .before .before .before .before .before .pre .2, c .before .before .before .before .before .pre .3)
-
-mul-tops-2 : tie.Need-mul-tops-2 Inv-loop μ-loop
-mul-tops-2 c = omega (arith, head-of (c .before .before .before .before .before .args .a .now) (c .before .before .before .before .before .pre .0), c .before .before .before .before .before .pre .1, c .before .before .before .before .before .pre .2, c .before .before .before .before .before .pre .3)
-
-add-tops : tie.Need-add-tops Inv-loop μ-loop
-add-tops c = omega (arith, head-of (c .before .before .before .before .before .args .a .now) (c .before .before .before .before .before .pre .0), c .before .before .before .before .before .pre .1, c .before .before .before .before .before .pre .2, c .before .before .before .before .before .pre .3)
-
-mul-tops-3 : tie.Need-mul-tops-3 Inv-loop μ-loop
-mul-tops-3 c = omega (arith, head-of (c .before .before .before .before .before .args .a .now) (c .before .before .before .before .before .pre .0), c .before .before .before .before .before .pre .1, c .before .before .before .before .before .pre .2, c .before .before .before .before .before .pre .3)
-
-shared-slice-read-tops : tie.Need-shared-slice-read-tops Inv-loop μ-loop
-shared-slice-read-tops c = omega (arith, head-of (c .before .before .before .before .before .before .args .a .now) (c .before .before .before .before .before .before .pre .0), c .before .before .before .before .before .before .pre .1, c .before .before .before .before .before .before .pre .2, c .before .before .before .before .before .before .pre .3)
+first-top-requires : tie.Need-first-top-requires Inv-loop μ-loop
+first-top-requires c κs = (c .before .before .before .before .before .before .before .before .before .pre .0, c .before .before .before .before .before .before .before .before .before .pre .1, omega arith)
 
 cast-tops : tie.Need-cast-tops Inv-loop μ-loop
-cast-tops c = omega (arith, c .before .before .before .before .before .before .pre .4 (c .before .before .before .before .loop .c) (omega arith) (c .before .if1 .taken))
+cast-tops c = omega (arith, c .first-top .ensures, first-small (c .before .before .before .before .before .before .before .before .before .before .args .a .now) (c .before .before .before .before .before .before .before .before .before .before .pre .0) (c .before .before .before .before .before .before .before .before .before .before .args .scratch .now) (c .before .before .before .before .loop .c) (c .before .before .before .before .before .before .before .before .before .before .pre .4 (c .before .before .before .before .loop .c) (omega arith) (c .before .if1 .taken)))
 
 slice-write-tops : tie.Need-slice-write-tops Inv-loop μ-loop
 slice-write-tops c = omega (arith, c .before .before .before .before .loop .inv .long)
 
 add-c : tie.Need-add-c Inv-loop μ-loop
-add-c c = omega (arith, head-of (c .before .before .before .before .before .args .a .now) (c .before .before .before .before .before .pre .0), c .before .before .before .before .before .pre .1, c .before .before .before .before .before .pre .2, c .before .before .before .before .before .pre .3)
+add-c c = omega (arith, c .before .before .before .loop .inv .within, head-of (c .before .before .before .before .before .before .before .before .before .args .a .now) (c .before .before .before .before .before .before .before .before .before .pre .0))
 
 loop-less : tie.Need-loop-less Inv-loop μ-loop
 loop-less c = omega arith
 
 loop-again : tie.Need-loop-again Inv-loop μ-loop
-loop-again c = ⊎-elim (λ w. copying-next _ _ _ (c .before .before .before .loop .inv) (omega arith) (w .2)) (λ w. copying-passed _ _ _ (c .before .before .before .loop .inv) (omega arith) (w .0 .left) (w .1)) (c .if1 .came)
+loop-again c = ⊎-elim (λ w. copying-next _ _ _ (c .before .before .before .loop .inv) (omega arith) _ (w .1 .ensures) (w .2)) (λ w. copying-passed _ _ _ (c .before .before .before .loop .inv) (omega arith) (w .0 .left) (w .1)) (c .if1 .came)
 
 same-length : tie.Need-same-length Inv-loop μ-loop
 same-length c = c .before .loop .inv .same-length
@@ -68,14 +56,10 @@ copy-tops-spec =
     Inv-loop
     μ-loop
     shared-slice-read-n
-    cast-n
     loop-holds
+    cast-t
     shared-slice-read-if1
-    mul-tops
-    mul-tops-2
-    add-tops
-    mul-tops-3
-    shared-slice-read-tops
+    first-top-requires
     cast-tops
     slice-write-tops
     add-c

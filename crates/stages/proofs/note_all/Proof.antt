@@ -24,7 +24,7 @@ cast-n : tie.Need-cast-n Inv-loop μ-loop
 cast-n c = omega (arith, c .shared-slice-known4 .given 1)
 
 first-requires : tie.Need-first-requires Inv-loop μ-loop
-first-requires c κs = tt
+first-requires c κs = let s = c .before .before .before .before .before .before in head-of (s .args .a .now) (s .pre .page-sound) .four
 
 loop-holds : tie.Need-loop-holds Inv-loop μ-loop
 loop-holds c = page-first (c .before .before .before .before .before .before .before .pre) (c .first .ensures)

@@ -7,7 +7,7 @@ use Rattle.stages.proofs.take_all.Statement.{statement}
 use Rattle.stages.proofs.take_all.Tie as tie
 
 abbrev Inv-loop : tie.InvT-loop
-Inv-loop a users scratch₀ moved₀ lows₀ look₀ first c₀ scratch moved lows look c = Taking a users scratch₀ scratch moved lows look₀ look c
+Inv-loop a users scratch₀ moved₀ lows₀ look₀ first c₀ scratch moved lows look c = Taking a users scratch₀ scratch moved lows₀ lows look₀ look c
 
 abbrev μ-loop : tie.MeasureT-loop
 μ-loop a users scratch₀ moved₀ lows₀ look₀ first c₀ scratch moved lows look c = waiters moved

@@ -46,5 +46,5 @@ returns c = (marking-last _ _ _ (c .before .before .loop .inv .0) (omega arith),
 
 pub wake-by-scan-spec : {M : Type 1} → statement M
 wake-by-scan-spec =
-    tie.close (tie.spec Inv-loop μ-loop shared-slice-read-count (λ c κs. tt) loop-holds next-requires wake-head-requires loop-less loop-again
+    tie.close (tie.spec Inv-loop μ-loop shared-slice-read-count (λ c κs. head-of (c .before .before .before .before .args .a .now) (c .before .before .before .before .pre .0) .four) loop-holds next-requires wake-head-requires loop-less loop-again
     same-length same-length-2 returns)

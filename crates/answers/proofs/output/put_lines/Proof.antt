@@ -57,5 +57,5 @@ returns c = let z = c .before .before .before .before .before .before .before .b
 
 pub put-lines-spec : {M : Type 1} → statement M
 put-lines-spec =
-    tie.close (tie.spec Inv-loop μ-loop shared-slice-read-lines (λ c κs. tt) loop-holds put-line-requires next-requires loop-less loop-again
+    tie.close (tie.spec Inv-loop μ-loop shared-slice-read-lines (λ c κs. head-of (c .before .before .before .before .args .page .now) (c .before .before .before .before .pre .0) .four) loop-holds put-line-requires next-requires loop-less loop-again
     same-length same-length-2 returns)
