@@ -18,6 +18,7 @@ abbrev pub IsPlain : Page → Assign → Type 0
 IsPlain page = IsLeast (page .conditions) (page .top) (T page)
 
 -- "The support of I is the safe J greatest in knowledge order." Safe: at or under all-[0;0], and at or under T at I joined with J
+-- (`Safe`); a condition that is unknown by default "may only hold [0;top]" in a safe J (ticket 7)
 abbrev pub IsSupportOf : Page → Assign → Assign → Type 0
 IsSupportOf page = IsSupport (page .conditions) (page .top) (T page) (unknownByDefault page)
 
