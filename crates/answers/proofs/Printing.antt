@@ -15,7 +15,7 @@ use Rattle.semantics.specs.Page.{Reading, K, W, Line, Page}
 use Rattle.semantics.specs.ReadPage.{pageRead, refusedPage, readPage, readOf}
 use Rattle.semantics.specs.Reading.{Reads}
 use Rattle.semantics.proofs.ReadProper.{accepted-proper}
-use Rattle.semantics.proofs.Soundness.{sound-proper}
+use Rattle.semantics.proofs.Soundness.{sound-proper, few-lines}
 use Rattle.page.specs.Lines.{Next}
 use Rattle.page.proofs.Head.{head-of, top-is, conditions-is}
 use Rattle.page.proofs.Scan.{line-at, rule-kind, fact-kind, query-kind, fields-none, entry-fits, entry-head, entry-fields, default-kind}
@@ -142,7 +142,7 @@ module _ (a out : List ℕ) {from line passed : ℕ} {out₁ : List ℕ} {at cou
 
 -- The output for a page: its first line, the answers, and its last line.
 pub lines-few : (a : List ℕ) → sound a ≡ true → length (queriesOf (pageOf a .lines)) ≤ 1024
-lines-few a ok = omega (arith, queries-most (pageOf a .lines), sound-proper a ok .few-lines)
+lines-few a ok = omega (arith, queries-most (pageOf a .lines), few-lines 1024 a ok)
 
 pub puts-page : (a : List ℕ) {out out₁ out₂ out₃ : List ℕ} {at₁ at₂ at₃ count : ℕ} → Wrote out 0 (printed (topFields (topOf a) ∷ [])) out₁ at₁
     → PutLines (pageOf a) (pageOf a .lines) out₁ at₁ 0 out₂ at₂ count → Wrote out₂ at₂ (printed (endFields count ∷ [])) out₃ at₃ → PutPage (pageOf a) out out₃ at₃
