@@ -17,7 +17,7 @@ use Rattle.fixpoint.specs.Interval.{Assign}
 use Rattle.fixpoint.proofs.Cond.{by-bool, cond-true, cond-false}
 use Rattle.fixpoint.proofs.KnowledgeOrder.{pair-eq}
 use Rattle.fixpoint.proofs.Tables.{turned-first}
-use Rattle.semantics.specs.Area.{pageOf, topOf, conditionsOf, allUnder}
+use Rattle.semantics.specs.Area.{sound, pageOf, topOf, conditionsOf, allUnder}
 use Rattle.semantics.specs.Body.{unknownByDefault}
 use Rattle.semantics.specs.Call.{Cause, cause}
 use Rattle.semantics.specs.Operation.{ends, zeros, scratchLength, closedCauses, indexLength, usedWorkspace, closedWorkspace, refusedClosing, closedAfter, ClosedOf}
@@ -42,8 +42,7 @@ use Rattle.stages.specs.Counted.{CountReady, Counted}
 use Rattle.semantics.proofs.RoundsReached.{count-over}
 use Rattle.settle.proofs.Raising.{S}
 use Rattle.rounds.proofs.Starting.{upto}
-use Rattle.page.specs.Solvable.{solvable}
-use Rattle.page.proofs.Solvable.{solvable-proper}
+use Rattle.page.proofs.Solvable.{sound-solvable, solvable-proper}
 
 -- the loop that begins: the conditions before c have [0;top]
 module _ (n top : ℕ) (s₀ : List ℕ) where
@@ -211,10 +210,10 @@ module _ (a qs s w : List ℕ) where
   abbrev behind : List Cause
   behind = cause (not (leb (scratchLength (pageOf a)) (length s))) 18 ∷ cause (not (leb (2 * length qs) (length w))) 19 ∷ []
 
-  pub causes-10 : solvable a ≡ false → FirstCause (some 10) a qs s w
+  pub causes-10 : sound a ≡ false → FirstCause (some 10) a qs s w
   causes-10 e = record { is = sym (first-10 a qs behind e) }
 
-  module _ (ok : solvable a ≡ true) where
+  module _ (ok : sound a ≡ true) where
     pub causes-11 : (leb 1 (length qs) && leb (length qs) 16) ≡ false → FirstCause (some 11) a qs s w
     causes-11 e = record { is = sym (first-11 a qs behind ok e) }
 
@@ -248,7 +247,7 @@ module _ (a qs s w : List ℕ) where
     solve-ready =
         let h = no-cause-holds (closedCauses a qs s w) (sym (e .is)) in
         record {
-          page-solvable = not-false _ (h .0);
+          page-solvable = sound-solvable a (not-false _ (h .0));
           under = not-false _ (h .1 .1 .0);
           long = leb-true (4 * conditionsOf a) (length s) (not-false _ (h .1 .1 .1 .0));
           room = leb-true (2 * length qs) (length w) (not-false _ (h .1 .1 .1 .1 .0));

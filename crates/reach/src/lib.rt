@@ -4,7 +4,7 @@ ghost use mathlib.Core.List.{map};
 ghost use Prim.Native.Nat.{_≤_, _+_, _-_, _<_, _*_};
 ghost use lib.Dec.{leb};
 ghost use lib.ListN.{length, getD, take, drop};
-ghost use Rattle.semantics.specs.Area.{lineAt, allUnder, literalOf, pageOf, topOf, conditionsOf, usedOf};
+ghost use Rattle.semantics.specs.Area.{sound, lineAt, allUnder, literalOf, pageOf, topOf, conditionsOf, usedOf};
 ghost use Rattle.semantics.specs.Operation.{openOf};
 ghost use Rattle.semantics.specs.Page.{mentions, names};
 ghost use Rattle.semantics.specs.RunArea.{markOf};
@@ -333,7 +333,7 @@ fn open_accepted(page: &[u16], queries: &[u16], run: &mut [u16]) -> OpenAnswer
 
 // Open a run on a page that is sound.
 pub fn open_sound(page: &[u16], queries: &[u16], run: &mut [u16]) -> OpenAnswer
-    requires { ⌜ solvable (now page) ≡ true ⌝ }
+    requires { ⌜ sound (now page) ≡ true ⌝ }
     ensures answer { λ r. ⌜ openingOf r ≡ openOf (now (page .entry)) (now (queries .entry)) (now (run .entry)) .answer ⌝ }
     ensures left { λ _. ⌜ now (run .exit) ≡ openOf (now (page .entry)) (now (queries .entry)) (now (run .entry)) .run ⌝ }
 {

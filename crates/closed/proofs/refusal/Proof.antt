@@ -6,18 +6,18 @@ use borrow.Author.Needs.{needs}
 use lib.Dec.{leb}
 use lib.ListN.{length}
 use borrow.Author.Tests.{not-true, not-false}
-use Rattle.semantics.specs.Area.{conditionsOf, allUnder}
+use Rattle.semantics.specs.Area.{sound, conditionsOf, allUnder}
 use Rattle.page.proofs.Head.{head-of}
 use Rattle.closed.proofs.Answering.{causes-10, causes-11, causes-12, causes-18, causes-19, causes-none}
 use Rattle.closed.proofs.refusal.Statement.{statement}
 use Rattle.closed.proofs.refusal.Tie as tie
-use Rattle.page.specs.Solvable.{solvable}
+use Rattle.page.proofs.Solvable.{sound-solvable}
 
 -- what the tests that passed say
 abbrev start : tie.Else1 → tie.Start
 start d = d .before .before .before .before .before .before
 
-is-sound : (d : tie.Else1) → solvable (start d .args .page .now) ≡ true
+is-sound : (d : tie.Else1) → sound (start d .args .page .now) ≡ true
 is-sound d = sym (d .before .page-sound .ensures) ∙ not-false _ (d .if1 .left)
 
 is-few : (d : tie.Else2) → (leb 1 (length (start (d .before .before) .args .queries .now)) && leb (length (start (d .before .before) .args .queries .now)) 16) ≡ true
@@ -39,7 +39,7 @@ returns-2 : tie.Need-returns-2
 returns-2 c = causes-11 _ _ _ _ (is-sound (c .before .before)) (sym (c .before .count-ok .ensures) ∙ not-true _ (c .if2 .taken))
 
 shared-slice-read-n : tie.Need-shared-slice-read-n
-shared-slice-read-n c = omega (arith, head-of (c .before .before .before .before .before .before .before .before .before .args .page .now) (is-sound (c .before .before .before)))
+shared-slice-read-n c = omega (arith, head-of (c .before .before .before .before .before .before .before .before .before .args .page .now) (sound-solvable (c .before .before .before .before .before .before .before .before .before .args .page .now) (is-sound (c .before .before .before))))
 
 all-below-requires : tie.Need-all-below-requires
 all-below-requires c κs = search needs
@@ -48,10 +48,10 @@ returns-3 : tie.Need-returns-3
 returns-3 c = causes-12 _ _ _ _ (is-sound (c .before .before .before .before .before)) (is-few (c .before .before .before)) (sym (c .before .all-below .ensures) ∙ not-true _ (c .if3 .taken))
 
 cast-if4 : tie.Need-cast-if4
-cast-if4 c = omega (arith, head-of (c .before .before .before .before .before .before .before .before .before .before .before .args .page .now) (is-sound (c .before .before .before .before .before)))
+cast-if4 c = omega (arith, head-of (c .before .before .before .before .before .before .before .before .before .before .before .args .page .now) (sound-solvable (c .before .before .before .before .before .before .before .before .before .before .before .args .page .now) (is-sound (c .before .before .before .before .before))))
 
 mul-if4 : tie.Need-mul-if4
-mul-if4 c = omega (arith, head-of (c .before .before .before .before .before .before .before .before .before .before .before .args .page .now) (is-sound (c .before .before .before .before .before)))
+mul-if4 c = omega (arith, head-of (c .before .before .before .before .before .before .before .before .before .before .before .args .page .now) (sound-solvable (c .before .before .before .before .before .before .before .before .before .before .before .args .page .now) (is-sound (c .before .before .before .before .before))))
 
 returns-4 : tie.Need-returns-4
 returns-4 c = causes-18 _ _ _ _ (is-sound (c .before .before .before .before .before .before)) (is-few (c .before .before .before .before)) (is-under (c .before)) (c .if4 .taken)
