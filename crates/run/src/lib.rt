@@ -260,8 +260,8 @@ pub struct Drove {
 
 // A drive that nothing refuses and that tells no line.
 pub fn drive_counted(page: &[u16], run: &mut [u16], allowance: u32) -> Drove
-    requires { ⌜ (solvable (now page) ≡ true) × (runSound (pageOf (now page)) (now run) ≡ true) ⌝ }
-    ensures { λ r. ⌜ Drives (driveLeft (now (page .entry)) (now (run .entry)) allowance) (r .taken) (r .rest) (now (run .exit)) ⌝ }
+    requires { ⌜ (sound (now page) ≡ true) × (runSound (pageOf (now page)) (now run) ≡ true) ⌝ }
+    ensures { λ r. ⌜ Drives (driveOf (now (page .entry)) (now (run .entry)) allowance) (r .taken) (r .rest) (now (run .exit)) ⌝ }
 {
     let mut values = [0u8; 1024];
     let none = &page[0..0];
