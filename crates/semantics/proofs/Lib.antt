@@ -80,6 +80,8 @@ pub mod Exactness
 pub mod ExactnessNeeds
 pub mod LayersRows
 pub mod LayersBench
+-- ticket 8: lists of trials
+pub mod TrialLists
 -- ticket 9: the check of picks
 pub mod Picks
 pub mod PicksRows
