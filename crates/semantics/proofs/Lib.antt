@@ -82,6 +82,7 @@ pub mod LayersRows
 pub mod LayersBench
 -- ticket 8: lists of trials
 pub mod TrialLists
+pub mod TrialPages
 -- ticket 9: the check of picks
 pub mod Picks
 pub mod PicksRows

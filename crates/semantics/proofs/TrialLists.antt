@@ -81,8 +81,7 @@ good-trial top n size k at before l ls e =
 form-small : (fs : List (List ℕ)) → isTrial fs ≡ true → LineSmall (trialIn fs)
 unfolding isTrial trialIn
 form-small fs e =
-    let h = every-true (trialForm fs) e in
-    (
+    let h = every-true (trialForm fs) e in (
       omega (arith, value-most (field fs 1) (h .1 .1 .0)),
       omega (arith, value-most (field fs 2) (h .1 .1 .1 .0)),
       omega (arith, value-most (field fs 3) (h .1 .1 .1 .1 .0)),
