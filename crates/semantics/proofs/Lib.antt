@@ -83,6 +83,7 @@ pub mod LayersBench
 -- ticket 8: lists of trials
 pub mod TrialLists
 pub mod TrialPages
+pub mod Trials
 -- ticket 9: the check of picks
 pub mod Picks
 pub mod PicksRows
