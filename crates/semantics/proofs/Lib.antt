@@ -84,6 +84,7 @@ pub mod LayersBench
 pub mod TrialLists
 pub mod TrialPages
 pub mod Trials
+pub mod TrialCuts
 -- ticket 9: the check of picks
 pub mod Picks
 pub mod PicksRows
