@@ -12,7 +12,7 @@ use borrow.Author.Tests.{eq-eqb, ne-eqb}
 use Rattle.fixpoint.specs.Interval.{Interval}
 use Rattle.semantics.specs.Fields.{numberText, joined}
 use Rattle.semantics.specs.Output.{Query, queriesOf, Answers, AreAnswers, topFields, answerFields, endFields, refusalFields, printed}
-use Rattle.semantics.specs.Page.{Line, fact, rule, query, default, Page}
+use Rattle.semantics.specs.Page.{Reading, Line, fact, rule, query, default, Page}
 use Rattle.semantics.specs.ReadPage.{Refusal, orElse, textRefusal, pageRead}
 use Rattle.semantics.specs.Trials.{TrialLine, listRefusal, listRead, Trial, inFront, trialsOf, changedPage, trialFields, trialAnswers, listAnswers, AreAnswered, listOutput, TrialsPrintedAs, IsTrialsOutput}
 use Rattle.semantics.proofs.FieldRanges.{else-none}
@@ -170,8 +170,49 @@ answered-length page [] (A ∷ As) a = absurd a
 answered-length page (t ∷ ts) [] a = absurd a
 answered-length page (t ∷ ts) (A ∷ As) a = ap suc (answered-length page ts As (a .1))
 
--- There are answers, and the lines printed for them are the same for any.
+-- What is printed depends only on the answers for the conditions of the page.
+abbrev pub Agree : ℕ → Answers → Answers → Type 0
+Agree n A B = (r : Reading) (c : ℕ) → c < n → A r c ≡ B r c
+
+abbrev pub AllAgree : ℕ → List Answers → List Answers → Type 0
+AllAgree n [] [] = Unit {0}
+AllAgree n [] (B ∷ Bs) = ⊥
+AllAgree n (A ∷ As) [] = ⊥
+AllAgree n (A ∷ As) (B ∷ Bs) = Agree n A B × AllAgree n As Bs
+
+agree-lines : (top n number : ℕ) (A B : Answers) → Agree n A B → (ls : List Line) → AllInRange top n ls
+    → trialAnswers number A (queriesOf ls) ≡ trialAnswers number B (queriesOf ls)
+unfolding queriesOf
+agree-lines top n number A B g [] r = refl
+agree-lines top n number A B g (fact c x y ∷ ls) r = agree-lines top n number A B g ls (r .1)
+agree-lines top n number A B g (rule c v op lits ∷ ls) r = agree-lines top n number A B g ls (r .1)
+agree-lines top n number A B g (query d c ∷ ls) r =
+    ap₂ {C = List (List (List ℕ))} (λ (p : Interval) (more : List (List (List ℕ))). trialFields number (record { reading = d; condition = c }) p ∷ more)
+    (g d c (r .0)) (agree-lines top n number A B g ls (r .1))
+agree-lines top n number A B g (default c ∷ ls) r = agree-lines top n number A B g ls (r .1)
+
 module _ (page : Page) (w : Proper page) where
+  pub agree-trial : (number : ℕ) (A B : Answers) → Agree (page .conditions) A B
+      → trialAnswers number A (queriesOf (page .lines)) ≡ trialAnswers number B (queriesOf (page .lines))
+  agree-trial number A B g = agree-lines (page .top) (page .conditions) number A B g (page .lines) (w .ranged)
+
+  agree-answers : (ts : List Trial) (As Bs : List Answers) → AllAgree (page .conditions) As Bs
+      → listAnswers ts As (queriesOf (page .lines)) ≡ listAnswers ts Bs (queriesOf (page .lines))
+  unfolding listAnswers
+  agree-answers [] As Bs g = refl
+  agree-answers (t ∷ ts) [] [] g = refl
+  agree-answers (t ∷ ts) [] (B ∷ Bs) g = absurd g
+  agree-answers (t ∷ ts) (A ∷ As) [] g = absurd g
+  agree-answers (t ∷ ts) (A ∷ As) (B ∷ Bs) g =
+      ap₂ {C = List (List (List ℕ))} (λ xs ys. xs ++ ys) (agree-trial (t .number) A B (g .0)) (agree-answers ts As Bs (g .1))
+
+  pub agree-output : (ts : List Trial) (As Bs : List Answers) → AllAgree (page .conditions) As Bs → listOutput page ts As ≡ listOutput page ts Bs
+  unfolding listOutput
+  agree-output ts As Bs g =
+      ap (λ (ls : List (List (List ℕ))). printed ((topFields (page .top) ∷ ls) ++ (endFields (length ts * length (queriesOf (page .lines))) ∷ [])))
+      (agree-answers ts As Bs g)
+
+  -- There are answers, and any two agree.
   pub answered-exist : (ts : List Trial) → TrialsTried (page .top) (page .conditions) ts → (As : List Answers) × AreAnswered page ts As
   answered-exist [] h = ([], tt)
   answered-exist (t ∷ ts) h =
@@ -179,41 +220,22 @@ module _ (page : Page) (w : Proper page) where
       let y = answered-exist ts (h .1) in
       (x .0 ∷ y .0, (x .1, y .1))
 
-  -- of one trial
-  module _ (number : ℕ) (ts : List TrialLine) (h : AllTried (page .top) (page .conditions) ts) where
-    same-trial-lines : {A B : Answers} → AreAnswers (changedPage page ts) A → AreAnswers (changedPage page ts) B
-        → (ls : List Line) → AllInRange (page .top) (page .conditions) ls → trialAnswers number A (queriesOf ls) ≡ trialAnswers number B (queriesOf ls)
-    unfolding queriesOf changedPage
-    same-trial-lines {A} {B} a b [] r = refl
-    same-trial-lines {A} {B} a b (fact c x y ∷ ls) r = same-trial-lines a b ls (r .1)
-    same-trial-lines {A} {B} a b (rule c v op lits ∷ ls) r = same-trial-lines a b ls (r .1)
-    same-trial-lines {A} {B} a b (query q c ∷ ls) r =
-        ap₂ {C = List (List (List ℕ))} (λ (p : Interval) (more : List (List (List ℕ))). trialFields number (record { reading = q; condition = c }) p ∷ more)
-        (answers-one (changedPage page ts) (changed-proper page w ts h) a b q c (r .0)) (same-trial-lines a b ls (r .1))
-    same-trial-lines {A} {B} a b (default c ∷ ls) r = same-trial-lines a b ls (r .1)
+  pub trial-agree : (ts : List TrialLine) → AllTried (page .top) (page .conditions) ts → {A B : Answers}
+      → AreAnswers (changedPage page ts) A → AreAnswers (changedPage page ts) B → Agree (page .conditions) A B
+  unfolding changedPage
+  trial-agree ts h {A} {B} a b r c l = answers-one (changedPage page ts) (changed-proper page w ts h) a b r c l
 
-    pub same-trial : {A B : Answers} → AreAnswers (changedPage page ts) A → AreAnswers (changedPage page ts) B
-        → trialAnswers number A (queriesOf (page .lines)) ≡ trialAnswers number B (queriesOf (page .lines))
-    same-trial {A} {B} a b = same-trial-lines a b (page .lines) (w .ranged)
-
-  same-answers : (ts : List Trial) → TrialsTried (page .top) (page .conditions) ts → (As Bs : List Answers) → AreAnswered page ts As → AreAnswered page ts Bs
-      → listAnswers ts As (queriesOf (page .lines)) ≡ listAnswers ts Bs (queriesOf (page .lines))
-  unfolding listAnswers
-  same-answers [] h As Bs a b = refl
-  same-answers (t ∷ ts) h [] Bs a b = absurd a
-  same-answers (t ∷ ts) h (A ∷ As) [] a b = absurd b
-  same-answers (t ∷ ts) h (A ∷ As) (B ∷ Bs) a b =
-      ap₂ {C = List (List (List ℕ))} (λ xs ys. xs ++ ys) (same-trial (t .number) (t .lines) (h .0) (a .0) (b .0)) (same-answers ts (h .1) As Bs (a .1) (b .1))
-
-  pub same-list-output : (ts : List Trial) → TrialsTried (page .top) (page .conditions) ts → (As Bs : List Answers) → AreAnswered page ts As → AreAnswered page ts Bs
-      → listOutput page ts As ≡ listOutput page ts Bs
-  unfolding listOutput
-  same-list-output ts h As Bs a b =
-      ap (λ (ls : List (List (List ℕ))). printed ((topFields (page .top) ∷ ls) ++ (endFields (length ts * length (queriesOf (page .lines))) ∷ [])))
-      (same-answers ts h As Bs a b)
+  pub answered-agree : (ts : List Trial) → TrialsTried (page .top) (page .conditions) ts → (As Bs : List Answers) → AreAnswered page ts As → AreAnswered page ts Bs
+      → AllAgree (page .conditions) As Bs
+  answered-agree [] h [] [] a b = tt
+  answered-agree [] h [] (B ∷ Bs) a b = absurd b
+  answered-agree [] h (A ∷ As) Bs a b = absurd a
+  answered-agree (t ∷ ts) h [] Bs a b = absurd a
+  answered-agree (t ∷ ts) h (A ∷ As) [] a b = absurd b
+  answered-agree (t ∷ ts) h (A ∷ As) (B ∷ Bs) a b = (trial-agree (t .lines) (h .0) (a .0) (b .0), answered-agree ts (h .1) As Bs (a .1) (b .1))
 
 -- what an accepted list's trials are
-accepted-trials : (text list : List ℕ) → listRefusal (pageRead text) list ≡ none
+pub accepted-trials : (text list : List ℕ) → listRefusal (pageRead text) list ≡ none
     → TrialsTried (pageRead text .top) (pageRead text .conditions) (trialsOf (listRead list))
 accepted-trials text list e =
     let page = pageRead text in
@@ -241,8 +263,10 @@ trials-one text list x y p q = go (orElse (textRefusal text) (listRefusal (pageR
     go (some r) e p q = p ∙ sym q
     go none e p q =
         let h = else-none (textRefusal text) (listRefusal (pageRead text) list) e in
+        let w = accepted-proper text (h .0) in
+        let ts = trialsOf (listRead list) in
         p .is
-        ∙ same-list-output (pageRead text) (accepted-proper text (h .0)) (trialsOf (listRead list)) (accepted-trials text list (h .1)) (p .answers) (q .answers) (p .are) (q .are)
+        ∙ agree-output (pageRead text) w ts (p .answers) (q .answers) (answered-agree (pageRead text) w ts (accepted-trials text list (h .1)) (p .answers) (q .answers) (p .are) (q .are))
         ∙ sym (q .is)
 
 -- The length of a trial's output.
