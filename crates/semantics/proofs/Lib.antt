@@ -85,6 +85,7 @@ pub mod TrialLists
 pub mod TrialPages
 pub mod Trials
 pub mod TrialCuts
+pub mod TrialRows
 -- ticket 9: the check of picks
 pub mod Picks
 pub mod PicksRows
