@@ -3,7 +3,10 @@
 use mathlib.Core.Path.{_≡_, refl, sym, _∙_, subst}
 use mathlib.Core.List.{List, [], _∷_, map}
 use mathlib.Core.Option.{Option, none, some}
-use Prim.Native.Nat.{ℕ}
+use Prim.Native.Nat.{ℕ, zero, suc, _+_, _*_, _≤_}
+use native.Mathlib.Omega.{arith}
+use lib.ListN.{length}
+use borrow.Author.Tests.{ne-eqb, lt-ltb, le-ltb, lt-leb}
 use Rattle.fixpoint.specs.Support.{roof, raise}
 use Rattle.semantics.specs.Body.{bodies, unknownByDefault, bodyless, largestOf, T}
 use Rattle.semantics.specs.Fields.{numberWithin, numberText}
@@ -223,3 +226,38 @@ listRows =
 pub list-bench : ListsHold listRows
 unfolding listRows trialPage textLines fieldsOf isNumber numberIn isTrial trialIn badTrial listRefusal
 list-bench = refl
+
+-- "the 1,025th" line: so many lines `T,0,0,0,0\n`
+unfoldable pub manyLines : ℕ → List ℕ
+manyLines zero = []
+manyLines (suc k) = 84 ∷ 44 ∷ 48 ∷ 44 ∷ 48 ∷ 44 ∷ 48 ∷ 44 ∷ 48 ∷ 10 ∷ manyLines k
+
+many-long : (m : ℕ) → length (manyLines m) ≡ 10 * m
+unfolding manyLines
+many-long zero = refl
+many-long (suc m) = omega (arith, many-long m)
+
+many-pass : (size k at m : ℕ) → k + m ≤ 1025 → at + 10 * m ≤ size → size ≤ 65535 → badTrial 4 3 size k at 0 (textLines (manyLines m)) ≡ none
+unfolding manyLines textLines fieldsOf isNumber numberIn isTrial trialIn badTrial
+many-pass size k at zero h i j = refl
+many-pass size k at (suc m) h i j =
+    rw (le-ltb size (at + 9 + 1) (omega arith), ne-eqb k 1025 (λ e. omega arith), lt-ltb at 65536 (omega arith), lt-leb 65536 (at + 9 + 1) (omega arith))
+    (many-pass size (suc k) (at + 9 + 1) m (omega arith) (omega arith) j)
+
+many-late : (size k at m : ℕ) → k + m ≡ 1025 → at + 10 * suc m ≤ size → size ≤ 65535
+    → badTrial 4 3 size k at 0 (textLines (manyLines (suc m))) ≡ some (record { number = 40; line = 1025; place = 0 })
+unfolding manyLines textLines fieldsOf isNumber numberIn isTrial trialIn badTrial
+many-late size k at zero h i j =
+    let e : k ≡ 1025 = omega arith in
+    rw (le-ltb size (at + 9 + 1) (omega arith), e)
+many-late size k at (suc m) h i j =
+    rw (le-ltb size (at + 9 + 1) (omega arith), ne-eqb k 1025 (λ e. omega arith), lt-ltb at 65536 (omega arith), lt-leb 65536 (at + 9 + 1) (omega arith))
+    (many-late size (suc k) (at + 9 + 1) m (omega arith) (omega arith) j)
+
+pub many-row : listRefusal trialPage (manyLines 1024) ≡ none
+unfolding trialPage listRefusal
+many-row = many-pass (length (manyLines 1024)) 1 0 1024 (omega arith) (omega (arith, many-long 1024)) (omega (arith, many-long 1024))
+
+pub late-row : listRefusal trialPage (manyLines 1025) ≡ some (record { number = 40; line = 1025; place = 0 })
+unfolding trialPage listRefusal
+late-row = many-late (length (manyLines 1025)) 1 0 1024 (omega arith) (omega (arith, many-long 1025)) (omega (arith, many-long 1025))
