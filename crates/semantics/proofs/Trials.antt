@@ -7,7 +7,8 @@ use mathlib.Core.Option.{Option, none, some}
 use Prim.Native.Nat.{ℕ, suc, _+_, _*_, _≤_, _<_}
 use native.Mathlib.Omega.{arith}
 use lib.Dec.{eqb}
-use lib.ListN.{length, length-append}
+use lib.ListN.{length, length-append, length-map}
+use native.Mathlib.Nat.{zero-mul, suc-mul}
 use borrow.Author.Tests.{eq-eqb, ne-eqb}
 use Rattle.fixpoint.specs.Interval.{Interval}
 use Rattle.semantics.specs.Fields.{numberText, joined}
@@ -19,7 +20,7 @@ use Rattle.semantics.proofs.FieldRanges.{else-none}
 use Rattle.semantics.proofs.Outputs.{printed-append, answers-exist, answers-one, answers-within, answer-short}
 use Rattle.semantics.proofs.Proper.{AllInRange, Proper}
 use Rattle.semantics.proofs.ReadProper.{accepted-proper}
-use Rattle.semantics.proofs.TextNumbers.{number-short}
+use Rattle.semantics.proofs.TextNumbers.{number-short, number-seven}
 use Rattle.semantics.proofs.TrialLists.{LineInRange, AllTried, AllSmall, accepted-tried}
 use Rattle.semantics.proofs.TrialPages.{changed-proper}
 
@@ -145,6 +146,22 @@ list-output page ts As =
     printed-append (top ∷ []) (listAnswers ts As qs ++ end)
     ∙ ap (λ (s : List ℕ). printed (top ∷ []) ++ s) (printed-append (listAnswers ts As qs) end)
     ∙ ap (λ (s : List ℕ). printed (top ∷ []) ++ (s ++ printed end)) (answers-printed ts As qs)
+
+-- "the count of answers" is that of the lines printed for the trials
+pub answers-counted : (page : Page) (ts : List Trial) (As : List Answers) → AreAnswered page ts As → (qs : List Query)
+    → length (listAnswers ts As qs) ≡ length ts * length qs
+unfolding listAnswers
+answers-counted page [] [] a qs = sym (zero-mul (length qs))
+answers-counted page [] (A ∷ As) a qs = absurd a
+answers-counted page (t ∷ ts) [] a qs = absurd a
+answers-counted page (t ∷ ts) (A ∷ As) a qs =
+    omega (
+      arith,
+      length-append (trialAnswers (t .number) A qs) (listAnswers ts As qs),
+      length-map qs (λ q. trialFields (t .number) q (A (q .reading) (q .condition))),
+      answers-counted page ts As (a .1) qs,
+      suc-mul (length ts) (length qs),
+    )
 
 -- trials behind trials
 pub outputs-append : (ts us : List Trial) (As Bs : List Answers) (qs : List Query) → length ts ≡ length As
@@ -304,3 +321,24 @@ module _ (page : Page) (w : Proper page) (number : ℕ) (small : number < 1000) 
 
   pub trial-short : length (trialOutput number A (queriesOf (page .lines))) ≤ 18 * length (queriesOf (page .lines))
   trial-short = lines-short (page .lines) (w .ranged)
+
+-- The lines before and behind the trials are at most 8 and 12 bytes long: there are at most 1,024 × 1,024 answers.
+pub count-short : (count : ℕ) → count < 10000000 → length (printed (endFields count ∷ [])) ≤ 12
+count-short count h =
+    omega (arith, length-append (numberText count) [], number-seven count h, length-append (joined (endFields count)) (10 ∷ []))
+
+pub outputs-short : (page : Page) → Proper page → (ts : List Trial) → TrialsTried (page .top) (page .conditions) ts → TrialsSmall ts → (As : List Answers) → AreAnswered page ts As
+    → length (trialOutputs ts As (queriesOf (page .lines))) ≤ 18 * (length ts * length (queriesOf (page .lines)))
+unfolding trialOutputs
+outputs-short page w [] h s [] a = omega arith
+outputs-short page w [] h s (A ∷ As) a = absurd a
+outputs-short page w (t ∷ ts) h s [] a = absurd a
+outputs-short page w (t ∷ ts) h s (A ∷ As) a =
+    let qs = queriesOf (page .lines) in
+    omega (
+      arith,
+      length-append (trialOutput (t .number) A qs) (trialOutputs ts As qs),
+      trial-short page w (t .number) (s .0) (t .lines) (h .0) (a .0),
+      outputs-short page w ts (h .1) (s .1) As (a .1),
+      suc-mul (length ts) (length qs),
+    )
