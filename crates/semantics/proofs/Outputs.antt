@@ -187,7 +187,7 @@ module _ (page : Page) (w : Proper page) {A : Answers} (a : AreAnswers page A) w
       )
 
 -- a refusal of a text has a small number and a small line
-text-small : (text : List ℕ) (r : Refusal) → textRefusal text ≡ some r → SmallRefusal (r .number) (r .line) (r .place)
+pub text-small : (text : List ℕ) (r : Refusal) → textRefusal text ≡ some r → SmallRefusal (r .number) (r .line) (r .place)
 unfolding readOf refusalOf
 text-small text r e = read-small text [] (rw e)
 

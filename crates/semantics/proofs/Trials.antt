@@ -8,7 +8,7 @@ use Prim.Native.Nat.{ℕ, suc, _+_, _*_, _≤_, _<_}
 use native.Mathlib.Omega.{arith}
 use lib.Dec.{eqb}
 use lib.ListN.{length, length-append, length-map}
-use native.Mathlib.Nat.{zero-mul, suc-mul}
+use native.Mathlib.Nat.{zero-mul, suc-mul, mul-le-mul}
 use borrow.Author.Tests.{eq-eqb, ne-eqb}
 use Rattle.fixpoint.specs.Interval.{Interval}
 use Rattle.semantics.specs.Fields.{numberText, joined}
@@ -17,11 +17,11 @@ use Rattle.semantics.specs.Page.{Reading, Line, fact, rule, query, defau
 use Rattle.semantics.specs.ReadPage.{Refusal, orElse, textRefusal, pageRead}
 use Rattle.semantics.specs.Trials.{TrialLine, listRefusal, listRead, Trial, inFront, trialsOf, changedPage, trialFields, trialAnswers, listAnswers, AreAnswered, listOutput, TrialsPrintedAs, IsTrialsOutput}
 use Rattle.semantics.proofs.FieldRanges.{else-none}
-use Rattle.semantics.proofs.Outputs.{printed-append, answers-exist, answers-one, answers-within, answer-short}
+use Rattle.semantics.proofs.Outputs.{text-small, refusal-short, top-short, queries-most, printed-append, answers-exist, answers-one, answers-within, answer-short}
 use Rattle.semantics.proofs.Proper.{AllInRange, Proper}
-use Rattle.semantics.proofs.ReadProper.{accepted-proper}
+use Rattle.semantics.proofs.ReadProper.{accepted-proper, accepted-few}
 use Rattle.semantics.proofs.TextNumbers.{number-short, number-seven}
-use Rattle.semantics.proofs.TrialLists.{LineInRange, AllTried, AllSmall, accepted-tried}
+use Rattle.semantics.proofs.TrialLists.{LineInRange, AllTried, AllSmall, accepted-tried, list-small}
 use Rattle.semantics.proofs.TrialPages.{changed-proper}
 
 -- The lines of one number that stand together are a trial.
@@ -67,6 +67,37 @@ trials-split k t [] us a n = front-alone k t (a .0) (trialsOf us) (trials-other 
 trials-split k t (s ∷ ts) us a n =
     ap (inFront t) (trials-split k s ts us (a .1) n)
     ∙ rw (eq-eqb (t .trial) k (a .0)) (ap (λ (j : ℕ). trial j (t ∷ s ∷ ts) ∷ trialsOf us) (a .0))
+
+-- Lines behind lines: the first of them begins a trial where the last line before it is of another number.
+abbrev pub Apart : List TrialLine → List TrialLine → Type 0
+Apart [] us = Unit {0}
+Apart (t ∷ []) us = BeginsOther (t .trial) us
+Apart (t ∷ s ∷ ts) us = Apart (s ∷ ts) us
+
+front-append : (t : TrialLine) (xs ys : List Trial) → 0 < length xs → inFront t (xs ++ ys) ≡ inFront t xs ++ ys
+front-append t [] ys l = absurd (omega arith)
+front-append t (x ∷ xs) ys l = go (eqb (t .trial) (x .number))
+  where
+    go : (b : Bool)
+        → cond b (trial (t .trial) (t ∷ x .lines) ∷ (xs ++ ys)) (trial (t .trial) (t ∷ []) ∷ x ∷ (xs ++ ys))
+        ≡ cond b (trial (t .trial) (t ∷ x .lines) ∷ xs) (trial (t .trial) (t ∷ []) ∷ x ∷ xs) ++ ys
+    go true = refl
+    go false = refl
+
+front-some : (t : TrialLine) (xs : List Trial) → 0 < length (inFront t xs)
+front-some t [] = omega arith
+front-some t (x ∷ xs) = go (eqb (t .trial) (x .number))
+  where
+    go : (b : Bool) → 0 < length (cond b (trial (t .trial) (t ∷ x .lines) ∷ xs) (trial (t .trial) (t ∷ []) ∷ x ∷ xs))
+    go true = omega arith
+    go false = omega arith
+
+pub trials-append : (ts us : List TrialLine) → Apart ts us → trialsOf (ts ++ us) ≡ trialsOf ts ++ trialsOf us
+unfolding trialsOf
+trials-append [] us a = refl
+trials-append (t ∷ []) us a = front-alone (t .trial) t refl (trialsOf us) (trials-other (t .trial) us a)
+trials-append (t ∷ s ∷ ts) us a =
+    ap (inFront t) (trials-append (s ∷ ts) us a) ∙ front-append t (trialsOf (s ∷ ts)) (trialsOf us) (front-some s (trialsOf ts))
 
 -- there are no more trials than lines
 front-few : (t : TrialLine) (xs : List Trial) → length (inFront t xs) ≤ suc (length xs)
@@ -342,3 +373,46 @@ outputs-short page w (t ∷ ts) h s (A ∷ As) a =
       outputs-short page w ts (h .1) (s .1) As (a .1),
       suc-mul (length ts) (length qs),
     )
+
+-- There are at most 1,048,576 answers, and the output has at most 18,874,388 bytes.
+pub answers-most : (text list : List ℕ) → textRefusal text ≡ none → listRefusal (pageRead text) list ≡ none
+    → length (trialsOf (listRead list)) * length (queriesOf (pageRead text .lines)) ≤ 1048576
+answers-most text list e f =
+    mul-le-mul
+    {n₁ = length (trialsOf (listRead list))}
+    {m₁ = length (queriesOf (pageRead text .lines))}
+    {n₂ = 1024}
+    {m₂ = 1024}
+    (omega (arith, trials-few (listRead list), accepted-tried (pageRead text) list f .few))
+    (omega (arith, queries-most (pageRead text .lines), accepted-few text e))
+
+pub trials-output-short : (text list output : List ℕ) → IsTrialsOutput text list output → length output ≤ 18874388
+unfolding IsTrialsOutput
+trials-output-short text list output p = go (textRefusal text) (listRefusal (pageRead text) list) refl refl p
+  where
+    go : (o q : Option Refusal) → textRefusal text ≡ o → listRefusal (pageRead text) list ≡ q
+        → TrialsPrintedAs (orElse o q) (pageRead text) (trialsOf (listRead list)) output → length output ≤ 18874388
+    go (some r) q e f p =
+        let s = text-small text r e in
+        omega (arith, ap length p, refusal-short (r .number) (r .line) (omega (arith, s .number-most)) (omega (arith, s .line-most)))
+    go none (some r) e f p =
+        let s = list-small (pageRead text) list r f in
+        omega (arith, ap length p, refusal-short (r .number) (r .line) (omega (arith, s .number-most)) (omega (arith, s .line-most)))
+    go none none e f p =
+        let page = pageRead text in
+        let w = accepted-proper text e in
+        let ts = trialsOf (listRead list) in
+        let qs = queriesOf (page .lines) in
+        let end = printed (endFields (length ts * length qs) ∷ []) in
+        let outputs = trialOutputs ts (p .answers) qs in
+        let m = answers-most text list e f in
+        omega (
+          arith,
+          m,
+          ap length (p .is ∙ list-output page ts (p .answers)),
+          length-append (printed (topFields (page .top) ∷ [])) (outputs ++ end),
+          length-append outputs end,
+          top-short (page .top) (omega (arith, w .top-most)),
+          outputs-short page w ts (accepted-trials text list f) (trials-small (listRead list) (accepted-tried page list f .small)) (p .answers) (p .are),
+          count-short (length ts * length qs) (omega (arith, m)),
+        )
