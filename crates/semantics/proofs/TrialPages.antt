@@ -69,49 +69,6 @@ tried-last before t after u =
     tried-append before (t ∷ after) (t .condition)
     ∙ rw (unnamed-none after (t .condition) u, eq-eqb (t .condition) (t .condition) refl)
 
--- what is given is in range
-abbrev Given : ℕ → Option Interval → Type 0
-Given top none = Unit {0}
-Given top (some p) = (p .low ≤ p .high) × (p .high ≤ top)
-
-given : (top n : ℕ) (ts : List TrialLine) → AllTried top n ts → (c : ℕ) → Given top (tried ts c)
-unfolding tried
-given top n [] w c = tt
-given top n (t ∷ ts) w c = go (tried ts c) (eqb (t .condition) c) (given top n ts (w .1) c)
-  where
-    go : (o : Option Interval) (b : Bool) → Given top o → Given top (orElse o (cond b (some (record { low = t .low; high = t .high })) none))
-    go (some p) b g = g
-    go none true g = (w .0 .1, w .0 .2)
-    go none false g = tt
-
--- The changed page is proper.
-range-append : (top n : ℕ) (xs ys : List Line) → AllInRange top n xs → AllInRange top n ys → AllInRange top n (xs ++ ys)
-range-append top n [] ys h k = k
-range-append top n (x ∷ xs) ys h k = (h .0, range-append top n xs ys (h .1) k)
-
-kept-if-ranged : (top n : ℕ) (o : Option Interval) (l : Line) → InRange top n l → AllInRange top n (keptIf o l)
-kept-if-ranged top n none l h = (h, tt)
-kept-if-ranged top n (some p) l h = tt
-
-kept-ranged : (top n : ℕ) (ts : List TrialLine) (ls : List Line) → AllInRange top n ls → AllInRange top n (keptLines ts ls)
-unfolding keptLines
-kept-ranged top n ts [] h = tt
-kept-ranged top n ts (fact c x y ∷ ls) h =
-    range-append top n (keptIf (tried ts c) (fact c x y)) (keptLines ts ls) (kept-if-ranged top n (tried ts c) (fact c x y) (h .0)) (kept-ranged top n ts ls (h .1))
-kept-ranged top n ts (rule c v op lits ∷ ls) h = (h .0, kept-ranged top n ts ls (h .1))
-kept-ranged top n ts (query r c ∷ ls) h = (h .0, kept-ranged top n ts ls (h .1))
-kept-ranged top n ts (default c ∷ ls) h = (h .0, kept-ranged top n ts ls (h .1))
-
-fact-ranged : (top n c : ℕ) → c < n → (o : Option Interval) → Given top o → AllInRange top n (factIf c o)
-fact-ranged top n c l none g = tt
-fact-ranged top n c l (some p) g = ((l, g .0, g .1), tt)
-
-facts-ranged : (top n : ℕ) (ts : List TrialLine) → AllTried top n ts → (k c : ℕ) → c + k ≤ n → AllInRange top n (triedFacts ts k c)
-unfolding triedFacts
-facts-ranged top n ts w zero c l = tt
-facts-ranged top n ts w (suc k) c l =
-    range-append top n (factIf c (tried ts c)) (triedFacts ts k (suc c)) (fact-ranged top n c (omega arith) (tried ts c) (given top n ts w c)) (facts-ranged top n ts w k (suc c) (omega arith))
-
 -- Lines that are no F lines.
 unfoldable pub othersOf : List Line → List Line
 othersOf [] = []
@@ -187,6 +144,49 @@ changed-defaults page ts c =
 pub changed-default : (page : Page) (ts : List TrialLine) (c : ℕ) → unknownByDefault (changedPage page ts) c ≡ unknownByDefault page c
 unfolding unknownByDefault
 changed-default page ts c = ap (λ (k : ℕ). leb 1 k) (changed-defaults page ts c)
+
+-- what is given is in range
+abbrev Given : ℕ → Option Interval → Type 0
+Given top none = Unit {0}
+Given top (some p) = (p .low ≤ p .high) × (p .high ≤ top)
+
+given : (top n : ℕ) (ts : List TrialLine) → AllTried top n ts → (c : ℕ) → Given top (tried ts c)
+unfolding tried
+given top n [] w c = tt
+given top n (t ∷ ts) w c = go (tried ts c) (eqb (t .condition) c) (given top n ts (w .1) c)
+  where
+    go : (o : Option Interval) (b : Bool) → Given top o → Given top (orElse o (cond b (some (record { low = t .low; high = t .high })) none))
+    go (some p) b g = g
+    go none true g = (w .0 .1, w .0 .2)
+    go none false g = tt
+
+-- The changed page is proper.
+range-append : (top n : ℕ) (xs ys : List Line) → AllInRange top n xs → AllInRange top n ys → AllInRange top n (xs ++ ys)
+range-append top n [] ys h k = k
+range-append top n (x ∷ xs) ys h k = (h .0, range-append top n xs ys (h .1) k)
+
+kept-if-ranged : (top n : ℕ) (o : Option Interval) (l : Line) → InRange top n l → AllInRange top n (keptIf o l)
+kept-if-ranged top n none l h = (h, tt)
+kept-if-ranged top n (some p) l h = tt
+
+kept-ranged : (top n : ℕ) (ts : List TrialLine) (ls : List Line) → AllInRange top n ls → AllInRange top n (keptLines ts ls)
+unfolding keptLines
+kept-ranged top n ts [] h = tt
+kept-ranged top n ts (fact c x y ∷ ls) h =
+    range-append top n (keptIf (tried ts c) (fact c x y)) (keptLines ts ls) (kept-if-ranged top n (tried ts c) (fact c x y) (h .0)) (kept-ranged top n ts ls (h .1))
+kept-ranged top n ts (rule c v op lits ∷ ls) h = (h .0, kept-ranged top n ts ls (h .1))
+kept-ranged top n ts (query r c ∷ ls) h = (h .0, kept-ranged top n ts ls (h .1))
+kept-ranged top n ts (default c ∷ ls) h = (h .0, kept-ranged top n ts ls (h .1))
+
+fact-ranged : (top n c : ℕ) → c < n → (o : Option Interval) → Given top o → AllInRange top n (factIf c o)
+fact-ranged top n c l none g = tt
+fact-ranged top n c l (some p) g = ((l, g .0, g .1), tt)
+
+facts-ranged : (top n : ℕ) (ts : List TrialLine) → AllTried top n ts → (k c : ℕ) → c + k ≤ n → AllInRange top n (triedFacts ts k c)
+unfolding triedFacts
+facts-ranged top n ts w zero c l = tt
+facts-ranged top n ts w (suc k) c l =
+    range-append top n (factIf c (tried ts c)) (triedFacts ts k (suc c)) (fact-ranged top n c (omega arith) (tried ts c) (given top n ts w c)) (facts-ranged top n ts w k (suc c) (omega arith))
 
 pub changed-proper : (page : Page) → Proper page → (ts : List TrialLine) → AllTried (page .top) (page .conditions) ts → Proper (changedPage page ts)
 unfolding changedPage

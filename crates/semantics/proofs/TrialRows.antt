@@ -167,7 +167,7 @@ refused-list-row = rw (text-none, page-is, far-refused)
 
 -- ".. after the page is accepted": an empty page, `refused,2,0\n`
 pub refused-page-row : IsTrialsOutput [] farLine (114 ∷ 101 ∷ 102 ∷ 117 ∷ 115 ∷ 101 ∷ 100 ∷ 44 ∷ 50 ∷ 44 ∷ 48 ∷ 10 ∷ [])
-unfolding IsTrialsOutput textRefusal numberText numberWithin
+unfolding IsTrialsOutput textRefusal listRefusal badTrial textLines fieldsOf isNumber numberIn isTrial trialIn pageIn numberText numberWithin
 refused-page-row = refl
 
 -- Refusals of lists for that page.
