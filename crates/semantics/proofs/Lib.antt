@@ -80,7 +80,7 @@ pub mod Exactness
 pub mod ExactnessNeeds
 pub mod LayersRows
 pub mod LayersBench
--- ticket 8: lists of trials
+-- ticket 8: lists of trials, the pages that they change, and what is printed for them
 pub mod TrialLists
 pub mod TrialPages
 pub mod Trials
