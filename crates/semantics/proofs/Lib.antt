@@ -80,6 +80,12 @@ pub mod Exactness
 pub mod ExactnessNeeds
 pub mod LayersRows
 pub mod LayersBench
+-- ticket 8: lists of trials, the pages that they change, and what is printed for them
+pub mod TrialLists
+pub mod TrialPages
+pub mod Trials
+pub mod TrialCuts
+pub mod TrialRows
 -- ticket 9: the check of picks
 pub mod Picks
 pub mod PicksRows

@@ -60,7 +60,7 @@ module _ (page : Page) (w : Proper page) where
   answers-one {A} {B} a b K c l = plain-one page w (a K) (b K) c l
   answers-one {A} {B} a b W c l = closed-one page w (a W) (b W) c l
 
-  answers-within : {A : Answers} → AreAnswers page A → (r : Reading) (c : ℕ) → c < page .conditions → Within (page .top) (A r c)
+  pub answers-within : {A : Answers} → AreAnswers page A → (r : Reading) (c : ℕ) → c < page .conditions → Within (page .top) (A r c)
   answers-within {A} a K c l = a K .within c l
   answers-within {A} a W c l = a W .closes .within c l
 
@@ -187,7 +187,7 @@ module _ (page : Page) (w : Proper page) {A : Answers} (a : AreAnswers page A) w
       )
 
 -- a refusal of a text has a small number and a small line
-text-small : (text : List ℕ) (r : Refusal) → textRefusal text ≡ some r → SmallRefusal (r .number) (r .line) (r .place)
+pub text-small : (text : List ℕ) (r : Refusal) → textRefusal text ≡ some r → SmallRefusal (r .number) (r .line) (r .place)
 unfolding readOf refusalOf
 text-small text r e = read-small text [] (rw e)
 
