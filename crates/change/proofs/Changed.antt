@@ -70,13 +70,20 @@ pub changed-numbers : (page : Page) (ts : List TrialLine) → defaultNumbers (ch
 unfolding changedPage
 changed-numbers page ts = λ i. table (page .conditions) (λ c. bit (changed-default ts c page i))
 
--- the numbers before the lines of a sound area
+-- the numbers before the lines
+area-head : (page : Page) → take (headLength (page .conditions)) (areaOf page)
+    ≡ page .top ∷ page .conditions ∷ length (page .lines) ∷ (headLength (page .conditions) + length (lineCodes (page .lines))) ∷ defaultNumbers page
+unfolding areaOf
+area-head page =
+    ap (λ (k : ℕ). take k (areaOf page)) (four-more (page .conditions))
+    ∙ ap (λ (ds : List ℕ). page .top ∷ page .conditions ∷ length (page .lines) ∷ (headLength (page .conditions) + length (lineCodes (page .lines))) ∷ ds)
+    (take-at (defaultNumbers page) (lineCodes (page .lines)) (page .conditions) (length-from (page .conditions) 0 (λ c. bit (unknownByDefault page c))))
+
 head-numbers : (a : List ℕ) → sound a ≡ true
     → take (firstLine a) a ≡ topOf a ∷ conditionsOf a ∷ length (pageOf a .lines) ∷ (firstLine a + length (lineCodes (pageOf a .lines))) ∷ defaultNumbers (pageOf a)
-unfolding areaOf pageOf
+unfolding pageOf
 head-numbers a e =
-    sym (take-take (firstLine a) (usedOf a) a (bounds a e .first)) ∙ ap (take (firstLine a)) (sound-exact a e)
-    ∙ rw (four-more (conditionsOf a), take-at (defaultNumbers (pageOf a)) (lineCodes (pageOf a .lines)) (conditionsOf a) (length-from (conditionsOf a) 0 (λ c. bit (unknownByDefault (pageOf a) c))))
+    sym (take-take (firstLine a) (usedOf a) a (bounds a e .first)) ∙ ap (take (firstLine a)) (sound-exact a e) ∙ area-head (pageOf a)
 
 -- the head of the page, its lines that stay, the facts of the trial, then the count of lines and the used length
 module _ (a : List ℕ) (ts : List TrialLine) (ok : sound a ≡ true) where
@@ -89,7 +96,9 @@ module _ (a : List ℕ) (ts : List TrialLine) (ok : sound a ≡ true) where
   changed-area : (area : List ℕ) → areaOf (changedPage (pageOf a) ts) ++ drop (usedOf (areaOf (changedPage (pageOf a) ts))) area
       ≡ topOf a ∷ conditionsOf a ∷ length lines ∷ (firstLine a + length (lineCodes lines)) ∷ rest area (firstLine a + length (lineCodes lines))
   unfolding areaOf changedPage pageOf
-  changed-area area = ?
+  changed-area area =
+      let used : ℕ = firstLine a + length (lineCodes lines) in
+      ap (λ (ds : List ℕ). topOf a ∷ conditionsOf a ∷ length lines ∷ used ∷ ((ds ++ lineCodes lines) ++ drop used area)) (changed-numbers (pageOf a) ts)
 
   module _ {area₀ area₁ area₂ area₃ : List ℕ} {m r₁ e₂ k₂ e₃ k₃ : ℕ} (f : m ≡ firstLine a) (w₁ : Wrote area₀ 0 (take m a) area₁ r₁)
       (w₂ : LinesWrote area₁ (firstLine a) 0 (keptLines ts (pageOf a .lines)) area₂ e₂ k₂) (w₃ : LinesWrote area₂ e₂ k₂ (triedFacts ts (conditionsOf a) 0) area₃ e₃ k₃) where
@@ -103,9 +112,13 @@ module _ (a : List ℕ) (ts : List TrialLine) (ok : sound a ≡ true) where
     written = wrote-then w₁ (rw behind-head (all-lines .codes))
 
     front : area₃ ≡ topOf a ∷ conditionsOf a ∷ length (pageOf a .lines) ∷ (firstLine a + length (lineCodes (pageOf a .lines))) ∷ rest area₀ e₃
-    front = ?
+    front =
+        let e : length (take m a ++ lineCodes lines) ≡ e₃ = omega (arith, written .behind) in
+        wrote-front written
+        ∙ ap₂ {C = List ℕ} (λ h k. (h ++ lineCodes lines) ++ drop k area₀) (ap (λ (k : ℕ). take k a) f ∙ head-numbers a ok) e
 
     pub changed : set (set area₃ 2 k₃) 3 e₃ ≡ areaOf (changedPage (pageOf a) ts) ++ drop (usedOf (areaOf (changedPage (pageOf a) ts))) area₀
     changed =
+        let k : k₃ ≡ length lines = omega (arith, all-lines .counted) in
         ap (λ (l : List ℕ). set (set l 2 k₃) 3 e₃) front
-        ∙ ap₂ {C = List ℕ} (λ k e. topOf a ∷ conditionsOf a ∷ k ∷ e ∷ rest area₀ e) (all-lines .counted) (all-lines .codes .behind) ∙ sym (changed-area area₀)
+        ∙ ap₂ {C = List ℕ} (λ k e. topOf a ∷ conditionsOf a ∷ k ∷ e ∷ rest area₀ e) k (all-lines .codes .behind) ∙ sym (changed-area area₀)

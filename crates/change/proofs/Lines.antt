@@ -34,9 +34,12 @@ pub lines-then : {area area₁ area₂ : List ℕ} {ks ls : List Line} {at m r n
 lines-then {area} {area₁} {area₂} {ks} {ls} {at} {m} {r} {n} {n₁} {n₂} p q =
     record { codes = wrote-as (sym (codes-append ks ls)) (wrote-then (p .codes) (q .codes)); counted = omega (arith, p .counted, q .counted, length-append ks ls) }
 
--- no number is added
+-- a write leaves the length of the area
+pub wrote-length : {area area′ vs : List ℕ} {at r : ℕ} → Wrote area at vs area′ r → length area′ ≡ length area
+wrote-length {area} {area′} {vs} {at} w = ap length (w .is) ∙ length-sets area at vs
+
 pub lines-length : {area area′ : List ℕ} {ls : List Line} {at r n n′ : ℕ} → LinesWrote area at n ls area′ r n′ → length area′ ≡ length area
-lines-length {area} {area′} {ls} {at} w = ap length (w .codes .is) ∙ length-sets area at (lineCodes ls)
+lines-length w = wrote-length (w .codes)
 
 -- the same lines
 pub lines-as : {area area′ : List ℕ} {ks ls : List Line} {at r n n′ : ℕ} → ks ≡ ls → LinesWrote area at n ks area′ r n′ → LinesWrote area at n ls area′ r n′

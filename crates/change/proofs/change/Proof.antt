@@ -1,67 +1,85 @@
+-- `change` meets its contract: the head, the lines that stay, the facts, and then two numbers of the head. Assumes nothing.
+use mathlib.Core.Path.{_∙_}
+use Prim.Native.Nat.{_-_}
+use native.Mathlib.Omega.{arith}
+use lib.ListN.{length-set}
+use lib.Seq.{length-take-le}
+use Rattle.semantics.specs.Area.{firstLine}
+use Rattle.change.specs.Trial.{linesIn}
+use Rattle.change.proofs.Lines.{wrote-length, lines-length}
+use Rattle.change.proofs.Keeping.{bounds}
+use Rattle.change.proofs.Changed.{changed}
 use borrow.Author.Needs.{needs}
 use Rattle.change.proofs.change.Statement.{statement}
 use Rattle.change.proofs.change.Tie as tie
-use Rattle.change.proofs.change.Reads as reads
-use Rattle.change.proofs.change.Lts as lts
-use Rattle.change.proofs.keep_lines.Reads as keep-lines-reads
-use Rattle.change.proofs.put_facts.Reads as put-facts-reads
-use Rattle.change.proofs.put_numbers.Reads as put-numbers-reads
 
--- src/lib.rt:171:13
 shared-slice-read-n : tie.Need-shared-slice-read-n
-shared-slice-read-n c = ?
+shared-slice-read-n c = omega (arith, bounds _ (c .before .before .before .before .pre .0) .four)
 
--- src/lib.rt:172:21
 cast-first : tie.Need-cast-first
-cast-first c = ?
+cast-first c = omega (arith, bounds _ (c .before .before .before .before .pre .0) .few)
 
--- src/lib.rt:172:17
 add-first : tie.Need-add-first
-add-first c = ?
+add-first c = omega (arith, bounds _ (c .before .before .before .before .pre .0) .few)
 
--- src/lib.rt:173:26
 sub-put-numbers : tie.Need-sub-put-numbers
 sub-put-numbers c = search needs
 
--- src/lib.rt:173:26
 part-put-numbers-start : tie.Need-part-put-numbers-start
 part-put-numbers-start c = search needs
 
--- src/lib.rt:173:26
 part-put-numbers-end : tie.Need-part-put-numbers-end
-part-put-numbers-end c = ?
+part-put-numbers-end c = let b = bounds _ (c .before .before .before .before .before .pre .0) in omega (arith, b .first, b .inside)
 
--- src/lib.rt:173:5
 put-numbers-requires : tie.Need-put-numbers-requires
-put-numbers-requires c κs = ?
+put-numbers-requires c κs =
+    let z = c .before .before .before .before .before .before in
+    let b = bounds _ (z .pre .0) in
+    omega (arith, b .few, z .pre .1, length-take-le (firstLine (z .args .a .now)) (z .args .a .now) (omega (arith, b .first, b .inside)))
 
--- src/lib.rt:174:9
 keep-lines-requires : tie.Need-keep-lines-requires
-keep-lines-requires c κs = ?
+keep-lines-requires c κs =
+    let z = c .before .before .before .before .before .before .before .before .before .before in
+    (z .pre .0, omega (arith, bounds _ (z .pre .0) .most, z .pre .1, wrote-length (c .before .before .before .put-numbers .ensures)))
 
--- src/lib.rt:175:9
 put-facts-requires : tie.Need-put-facts-requires
-put-facts-requires c κs = ?
+put-facts-requires c κs =
+    let z = c .before .before .before .before .before .before .before .before .before .before .before .before .before .before in
+    let b = bounds _ (z .pre .0) in
+    let k = c .before .before .before .keep-lines .ensures in
+    record {
+      room = omega (arith, b .few, b .most, z .pre .1, k .1, lines-length (k .0), wrote-length (c .before .before .before .before .before .before .before .put-numbers .ensures));
+      counts = omega (arith, b .few, k .2);
+    }
 
--- src/lib.rt:176:5
 slice-write-area : tie.Need-slice-write-area
 slice-write-area c = search needs
 
--- src/lib.rt:177:15
 cast-area : tie.Need-cast-area
-cast-area c = ?
+cast-area c =
+    let b = bounds _ (c .before .before .before .before .before .before .before .before .before .before .before .before .before .before .before .before .before .before .pre .0) in
+    omega (arith, b .few, b .most, c .before .before .before .before .before .before .before .keep-lines .ensures .1, c .before .before .before .put-facts .ensures .1)
 
--- src/lib.rt:177:5
 slice-write-area-2 : tie.Need-slice-write-area-2
-slice-write-area-2 c = ?
+slice-write-area-2 c =
+    simp length-set
+    (omega (
+      arith,
+      c .before .before .before .before .before .before .before .before .before .before .before .before .before .before .before .before .before .before .pre .1,
+      lines-length (c .before .before .before .put-facts .ensures .0),
+      lines-length (c .before .before .before .before .before .before .before .keep-lines .ensures .0),
+      wrote-length (c .before .before .before .before .before .before .before .before .before .before .before .put-numbers .ensures),
+    ))
 
--- src/lib.rt:167:1
 same-length : tie.Need-same-length
-same-length c = ?
+same-length c =
+    simp length-set
+    (lines-length (c .before .before .before .put-facts .ensures .0) ∙ lines-length (c .before .before .before .before .before .before .before .keep-lines .ensures .0) ∙ wrote-length (c .before .before .before .before .before .before .before .before .before .before .before .put-numbers .ensures))
 
--- src/lib.rt:167:1
 returns : tie.Need-returns
-returns c = ?
+returns c =
+    let z = c .before .before .before .before .before .before .before .before .before .before .before .before .before .before .before .before .before .before in
+    changed (z .args .a .now) (linesIn (z .args .lines .now)) (z .pre .0) {m = firstLine (z .args .a .now) - 0} (omega arith) (c .before .before .before .before .before .before .before .before .before .before .before .put-numbers .ensures) (c .before .before .before .before .before .before .before .keep-lines .ensures .0) (c .before .before .before .put-facts .ensures .0)
 
 pub change-spec : {M : Type 1} → statement M
 change-spec =
