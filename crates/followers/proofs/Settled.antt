@@ -8,18 +8,19 @@ use native.Mathlib.Omega.{arith}
 use lib.ListN.{replicate, List·getD-eq-default}
 use borrow.Author.Tests.{eq-eqb, le-leb, lt-leb}
 use Rattle.fixpoint.specs.Sum.{count}
-use Rattle.semantics.specs.Area.{sound, pageOf, conditionsOf}
+use Rattle.semantics.specs.Area.{pageOf, conditionsOf}
 use Rattle.semantics.specs.Followers.{Follows, FollowerCount, refusedFollowers, followedBy, FollowersOf}
 use Rattle.semantics.specs.Page.{Page}
 use Rattle.semantics.proofs.Followers.{set-exactly}
 use Rattle.semantics.proofs.Layers.{namer-inside}
 use Rattle.semantics.proofs.Proper.{Proper}
-use Rattle.semantics.proofs.Soundness.{sound-proper}
 use Rattle.bits.specs.Words.{has, Inserted}
 use Rattle.bits.proofs.Sets.{word-none}
 use Rattle.index.proofs.Parts.{cleared-zeros}
 use Rattle.reach.proofs.Visiting.{blank-none, not-so, count-past}
 use Rattle.followers.specs.Rows.{Covers, Seeks, PageFollowed, FollowerRow}
+use Rattle.page.specs.Solvable.{solvable}
+use Rattle.page.proofs.Solvable.{solvable-proper}
 
 -- an empty row, with c seen
 abbrev zeros : List ℕ
@@ -72,14 +73,14 @@ module _ (page : Page) (w : Proper page) (c : ℕ) where
 
 -- the answer of the call, cause by cause
 module _ (a : List ℕ) (c : ℕ) where
-  pub answer-10 : sound a ≡ false → FollowersOf (refusedFollowers 10) a c
+  pub answer-10 : solvable a ≡ false → FollowersOf (refusedFollowers 10) a c
   unfolding FollowersOf
   answer-10 e = rw e
 
-  pub answer-15 : sound a ≡ true → conditionsOf a ≤ c → FollowersOf (refusedFollowers 15) a c
+  pub answer-15 : solvable a ≡ true → conditionsOf a ≤ c → FollowersOf (refusedFollowers 15) a c
   unfolding FollowersOf pageOf
   answer-15 e l = rw (e, le-leb (conditionsOf a) c l)
 
-  pub answer-count : sound a ≡ true → c < conditionsOf a → {row : List ℕ} {marks : ℕ} → FollowerRow (pageOf a) c row → marks ≡ count 512 (has row) → FollowersOf (followedBy marks) a c
+  pub answer-count : solvable a ≡ true → c < conditionsOf a → {row : List ℕ} {marks : ℕ} → FollowerRow (pageOf a) c row → marks ≡ count 512 (has row) → FollowersOf (followedBy marks) a c
   unfolding FollowersOf pageOf
-  answer-count e l h q = rw (e, lt-leb (conditionsOf a) c l, q) (row-count (pageOf a) (sound-proper a e) c h)
+  answer-count e l h q = rw (e, lt-leb (conditionsOf a) c l, q) (row-count (pageOf a) (solvable-proper a e) c h)

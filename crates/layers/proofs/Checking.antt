@@ -7,13 +7,14 @@ use native.Mathlib.Decide.{decLe}
 use native.Mathlib.Omega.{arith}
 use lib.ListN.{length, getD, take, drop, replicate}
 use borrow.Author.Tests.{le-leb, lt-leb}
-use Rattle.semantics.specs.Area.{sound, pageOf, conditionsOf}
+use Rattle.semantics.specs.Area.{pageOf, conditionsOf}
 use Rattle.semantics.specs.Layers.{LowestLoop, LeastLayers, LayersAnswer, refusedLayers, loopsAt, layered, LayersOf}
 use Rattle.semantics.specs.Page.{Page}
 use Rattle.semantics.proofs.Table.{table-back}
 use Rattle.layers.specs.Levels.{LoopFound}
 use Rattle.layers.specs.Raising.{layerIn}
 use Rattle.layers.specs.Verdict.{Worked}
+use Rattle.page.specs.Solvable.{solvable}
 
 module _ (page : Page) where
   -- the layers are copied
@@ -36,15 +37,15 @@ module _ (page : Page) where
       ]
 
 module _ (a s : List ℕ) where
-  pub check-10 : sound a ≡ false → LayersOf (refusedLayers 10) a s s
+  pub check-10 : solvable a ≡ false → LayersOf (refusedLayers 10) a s s
   unfolding LayersOf
   check-10 e = rw e (refl, refl)
 
-  pub check-31 : sound a ≡ true → length s < conditionsOf a → LayersOf (refusedLayers 31) a s s
+  pub check-31 : solvable a ≡ true → length s < conditionsOf a → LayersOf (refusedLayers 31) a s s
   unfolding LayersOf pageOf
   check-31 e l = rw (e, lt-leb (conditionsOf a) (length s) l) (refl, refl)
 
-  pub check-worked : {answer : LayersAnswer} {s′ : List ℕ} → sound a ≡ true → conditionsOf a ≤ length s → Worked answer (pageOf a) s s′ → LayersOf answer a s s′
+  pub check-worked : {answer : LayersAnswer} {s′ : List ℕ} → solvable a ≡ true → conditionsOf a ≤ length s → Worked answer (pageOf a) s s′ → LayersOf answer a s s′
   unfolding LayersOf pageOf
   check-worked e l w = rw (e, le-leb (conditionsOf a) (length s) l) (w .is)
 

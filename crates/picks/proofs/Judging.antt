@@ -15,7 +15,7 @@ use borrow.Author.Tests.{ltb-true, leb-true, not-false}
 use Rattle.fixpoint.specs.KnowledgeOrder.{unknown}
 use Rattle.fixpoint.specs.Sum.{sum, count}
 use Rattle.fixpoint.proofs.Sum.{sum-le, sum-const}
-use Rattle.semantics.specs.Area.{sound, pageOf, topOf, conditionsOf, allUnder}
+use Rattle.semantics.specs.Area.{pageOf, topOf, conditionsOf, allUnder}
 use Rattle.semantics.specs.Call.{firstOf}
 use Rattle.semantics.specs.Demand.{performFrom}
 use Rattle.semantics.specs.Grade.{lower}
@@ -42,6 +42,7 @@ use Rattle.picks.specs.Answer.{Judged}
 use Rattle.picks.specs.Book.{SetIs, Holds, HoldSome, Evaluates}
 use Rattle.picks.specs.Figures.{tableAt, Compared}
 use Rattle.picks.proofs.Evaluating.{holds-grades, holds-at}
+use Rattle.page.specs.Solvable.{solvable}
 
 -- the bound of a page: no place told is greater than it by more than one, so each fits 32 bits
 bound-few : (page : Page) → Proper page → (m : List Bool) → bound page m ≤ 512 + 200 * (512 * 512)
@@ -201,11 +202,11 @@ module _ (a qs : List ℕ) (e : firstOf (queryCauses a qs) ≡ none) where
 
 -- the check, cause by cause
 module _ (a qs picks figures : List ℕ) where
-  pub check-10 : sound a ≡ false → PicksOf (refusedQueries 10) a qs picks figures
+  pub check-10 : solvable a ≡ false → PicksOf (refusedQueries 10) a qs picks figures
   unfolding PicksOf
   check-10 e = rw e
 
-  module _ (ok : sound a ≡ true) where
+  module _ (ok : solvable a ≡ true) where
     pub check-11 : (leb 1 (length qs) && leb (length qs) 16) ≡ false → PicksOf (refusedQueries 11) a qs picks figures
     unfolding PicksOf
     check-11 e = rw (ok, e)

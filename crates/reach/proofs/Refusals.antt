@@ -7,24 +7,25 @@ use Prim.Native.Nat.{ℕ, _*_, _≤_, _<_}
 use lib.Dec.{leb}
 use lib.ListN.{length}
 use borrow.Author.Tests.{le-leb, lt-leb}
-use Rattle.semantics.specs.Area.{sound, pageOf, conditionsOf, allUnder}
+use Rattle.semantics.specs.Area.{pageOf, conditionsOf, allUnder}
 use Rattle.semantics.specs.Call.{Cause, cause, firstOf}
 use Rattle.semantics.specs.Operation.{Opened, refusedOpening, queryCauses, openCauses, openAs, openOf}
 use Rattle.semantics.specs.Reading.{closure, passCount}
 use Rattle.reach.specs.Opening.{accepted}
+use Rattle.page.specs.Solvable.{solvable}
 
 -- 10, 11 and 12, whatever causes come behind them
 module _ (a qs : List ℕ) (rest : List Cause) where
   abbrev causes : Option ℕ
   causes = firstOf (queryCauses a qs ++ rest)
 
-  pub first-10 : sound a ≡ false → causes ≡ some 10
+  pub first-10 : solvable a ≡ false → causes ≡ some 10
   first-10 e = rw e
 
-  pub first-11 : sound a ≡ true → (leb 1 (length qs) && leb (length qs) 16) ≡ false → causes ≡ some 11
+  pub first-11 : solvable a ≡ true → (leb 1 (length qs) && leb (length qs) 16) ≡ false → causes ≡ some 11
   first-11 e f = rw (e, f)
 
-  module _ (e : sound a ≡ true) (f : (leb 1 (length qs) && leb (length qs) 16) ≡ true) where
+  module _ (e : solvable a ≡ true) (f : (leb 1 (length qs) && leb (length qs) 16) ≡ true) where
     pub first-12 : allUnder (conditionsOf a) qs ≡ false → causes ≡ some 12
     unfolding pageOf
     first-12 g = rw (e, f, g)
@@ -46,10 +47,10 @@ module _ (a qs r : List ℕ) where
   unfolding openOf
   open-as e = (ap (λ (o : Option ℕ). outcome o .answer) (sym e), ap (λ (o : Option ℕ). outcome o .run) (sym e))
 
-  pub open-10 : sound a ≡ false → (refusedOpening 10 ≡ openOf a qs r .answer) × (r ≡ openOf a qs r .run)
+  pub open-10 : solvable a ≡ false → (refusedOpening 10 ≡ openOf a qs r .answer) × (r ≡ openOf a qs r .run)
   open-10 e = open-as (first-10 a qs behind e)
 
-  module _ (e : sound a ≡ true) where
+  module _ (e : solvable a ≡ true) where
     pub open-11 : (leb 1 (length qs) && leb (length qs) 16) ≡ false → (refusedOpening 11 ≡ openOf a qs r .answer) × (r ≡ openOf a qs r .run)
     open-11 f = open-as (first-11 a qs behind e f)
 

@@ -6,17 +6,18 @@ use borrow.Author.Needs.{needs}
 use lib.Dec.{leb}
 use lib.ListN.{length}
 use borrow.Author.Tests.{not-true, not-false}
-use Rattle.semantics.specs.Area.{sound, conditionsOf, allUnder}
+use Rattle.semantics.specs.Area.{conditionsOf, allUnder}
 use Rattle.page.proofs.Head.{head-of}
 use Rattle.closed.proofs.Answering.{causes-10, causes-11, causes-12, causes-18, causes-19, causes-none}
 use Rattle.closed.proofs.refusal.Statement.{statement}
 use Rattle.closed.proofs.refusal.Tie as tie
+use Rattle.page.specs.Solvable.{solvable}
 
 -- what the tests that passed say
 abbrev start : tie.Else1 → tie.Start
 start d = d .before .before .before .before .before .before
 
-is-sound : (d : tie.Else1) → sound (start d .args .page .now) ≡ true
+is-sound : (d : tie.Else1) → solvable (start d .args .page .now) ≡ true
 is-sound d = sym (d .before .page-sound .ensures) ∙ not-false _ (d .if1 .left)
 
 is-few : (d : tie.Else2) → (leb 1 (length (start (d .before .before) .args .queries .now)) && leb (length (start (d .before .before) .args .queries .now)) 16) ≡ true

@@ -3,7 +3,6 @@ use mathlib.Core.Path.{_≡_, sym, _∙_}
 use mathlib.Core.Bool.{true}
 use native.Mathlib.Omega.{arith}
 use borrow.Author.Tests.{not-true, not-false}
-use Rattle.semantics.specs.Area.{sound}
 use Rattle.page.proofs.Head.{head-of}
 use Rattle.bits.specs.Words.{has}
 use Rattle.reach.proofs.Inserting.{size-most}
@@ -11,8 +10,9 @@ use Rattle.followers.proofs.Settled.{answer-10, answer-15, answer-count
 use borrow.Author.Needs.{needs}
 use Rattle.followers.proofs.count_followers.Statement.{statement}
 use Rattle.followers.proofs.count_followers.Tie as tie
+use Rattle.page.specs.Solvable.{solvable}
 
-page-ok : (c : tie.Else1) → sound (c .before .before .before .args .page .now) ≡ true
+page-ok : (c : tie.Else1) → solvable (c .before .before .before .args .page .now) ≡ true
 page-ok c = sym (c .before .page-sound .ensures) ∙ not-false (c .before .page-sound .result) (c .if1 .left)
 
 returns : tie.Need-returns
