@@ -3,11 +3,11 @@ use mathlib.Core.Path.{_≡_, refl, sym, _∙_, ap, ap₂}
 use mathlib.Core.Bool.{true}
 use mathlib.Core.List.{List, [], _∷_, _++_}
 use mathlib.Core.Option.{Option, none, some}
-use Prim.Native.Nat.{ℕ, zero, suc, _+_, _≤_}
+use Prim.Native.Nat.{ℕ, zero, suc, _+_}
 use native.Mathlib.Omega.{arith}
 use lib.Dec.{leb}
-use lib.ListN.{length, take, drop, set, length-append}
-use lib.Seq.{take-take, take-at, length-take-le, length-sets}
+use lib.ListN.{length, take, drop, set}
+use lib.Seq.{take-take, take-at, length-take-le}
 use Rattle.fixpoint.specs.Interval.{Interval}
 use Rattle.fixpoint.specs.Sum.{bit}
 use Rattle.semantics.specs.Page.{Line, fact, rule, query, default, Page, defaults}

@@ -62,8 +62,8 @@ module _ (ts : List TrialLine) (n : ℕ) (area₀ : List ℕ) (start count₀ : 
         record {
           facts = s .facts ++ factIf c (tried ts c);
           rest = s .rest ∙ ap (λ (m : ℕ). s .facts ++ triedFacts ts m c) e
-          ∙ sym (append-assoc (s .facts) (factIf c (tried ts c)) (triedFacts ts (n - (c + 1)) (suc c)))
-          ∙ ap (λ (m : ℕ). (s .facts ++ factIf c (tried ts c)) ++ triedFacts ts (n - (c + 1)) m) (sym (add-one c));
+              ∙ sym (append-assoc (s .facts) (factIf c (tried ts c)) (triedFacts ts (n - (c + 1)) (suc c)))
+              ∙ ap (λ (m : ℕ). (s .facts ++ factIf c (tried ts c)) ++ triedFacts ts (n - (c + 1)) m) (sym (add-one c));
           wrote = lines-then (s .wrote) w;
           size = lines-length w ∙ s .size;
           short = omega (arith, s .short, w .codes .behind, short .1);

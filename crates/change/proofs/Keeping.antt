@@ -12,7 +12,7 @@ use lib.Seq.{length-take-le}
 use borrow.Author.Tests.{leb-true}
 use Rattle.fixpoint.specs.Interval.{Interval}
 use Rattle.semantics.specs.Page.{Line, fact, rule, query, default}
-use Rattle.semantics.specs.Area.{kind, span, lineAs, lineAt, lineTests, lineCode, lineCodes, sound, pageOf, firstLine, topOf, conditionsOf, countOf, usedOf}
+use Rattle.semantics.specs.Area.{kind, lineAs, lineAt, lineTests, lineCode, lineCodes, sound, pageOf, firstLine, topOf, conditionsOf, countOf, usedOf}
 use Rattle.semantics.specs.Trials.{TrialLine, tried, keptIf, keptLine, keptLines}
 use Rattle.semantics.proofs.Soundness.{every-true, sound-parts}
 use Rattle.semantics.proofs.ExactAreas.{line-back}
@@ -21,7 +21,6 @@ use Rattle.page.specs.Graded.{SoundEntry}
 use Rattle.page.specs.Lines.{stepAt, EntryIn, Next}
 use Rattle.page.proofs.Scan.{rule-kind, fact-kind, over-five, line-at, span-at, entry-in}
 use Rattle.page.proofs.Scanning.{Scanning, linesLeft, scanning-begun, lines-first, entry-sound, scanning-next, scanning-moved, lines-moved, lines-none}
-use Rattle.print.specs.Wrote.{Wrote}
 use Rattle.change.specs.Trial.{isGiven, goes}
 use Rattle.change.specs.Written.{LinesWrote}
 use Rattle.change.proofs.Lines.{one-code, lines-then, lines-length, lines-as}
@@ -153,7 +152,7 @@ module _ (a : List ℕ) (ts : List TrialLine) (area₀ : List ℕ) where
             lines = s .lines;
             kept = s .kept ++ keptLine ts line;
             rest = s .rest ∙ ap (λ (ls : List Line). s .kept ++ keptLines ts ls) (lines-moved a (s .scanning) l m)
-            ∙ sym (append-assoc (s .kept) (keptLine ts line) (keptLines ts (linesLeft a at′ k′)));
+                ∙ sym (append-assoc (s .kept) (keptLine ts line) (keptLines ts (linesLeft a at′ k′)));
             wrote = lines-then (s .wrote) w;
             size = lines-length w ∙ s .size;
             long = s .long;

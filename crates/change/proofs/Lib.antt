@@ -9,3 +9,5 @@ pub mod Keeping
 pub mod Facts
 -- the area of the changed page
 pub mod Changed
+-- what a caller that lends a part of its list uses
+pub mod Parts

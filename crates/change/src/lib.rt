@@ -14,8 +14,8 @@ ghost use Rattle.page.specs.Lines.{stepAt};
 ghost use Rattle.page.specs.Graded.{SoundEntry};
 ghost use Rattle.change.specs.Trial.{trialAt, linesIn, givenOf, goes};
 ghost use Rattle.change.specs.Written.{LinesWrote, FactsFit};
-use page::span_of;
 use page::Cursor;
+use page::span_of;
 
 // What the lines of a trial give a condition: nothing, or an interval.
 enum Given {

@@ -22,12 +22,6 @@ cast-first c = omega (arith, bounds _ (c .before .before .before .before .pre .0
 add-first : tie.Need-add-first
 add-first c = omega (arith, bounds _ (c .before .before .before .before .pre .0) .few)
 
-sub-put-numbers : tie.Need-sub-put-numbers
-sub-put-numbers c = search needs
-
-part-put-numbers-start : tie.Need-part-put-numbers-start
-part-put-numbers-start c = search needs
-
 part-put-numbers-end : tie.Need-part-put-numbers-end
 part-put-numbers-end c = let b = bounds _ (c .before .before .before .before .before .pre .0) in omega (arith, b .first, b .inside)
 
@@ -51,9 +45,6 @@ put-facts-requires c κs =
       room = omega (arith, b .few, b .most, z .pre .1, k .1, lines-length (k .0), wrote-length (c .before .before .before .before .before .before .before .put-numbers .ensures));
       counts = omega (arith, b .few, k .2);
     }
-
-slice-write-area : tie.Need-slice-write-area
-slice-write-area c = search needs
 
 cast-area : tie.Need-cast-area
 cast-area c =
@@ -83,19 +74,4 @@ returns c =
 
 pub change-spec : {M : Type 1} → statement M
 change-spec =
-    tie.close
-    (tie.spec
-    shared-slice-read-n
-    cast-first
-    add-first
-    sub-put-numbers
-    part-put-numbers-start
-    part-put-numbers-end
-    put-numbers-requires
-    keep-lines-requires
-    put-facts-requires
-    slice-write-area
-    cast-area
-    slice-write-area-2
-    same-length
-    returns)
+    tie.close (tie.spec shared-slice-read-n cast-first add-first (search needs) (search needs) part-put-numbers-end put-numbers-requires keep-lines-requires put-facts-requires (search needs) cast-area slice-write-area-2 same-length returns)

@@ -45,16 +45,4 @@ returns c = keeping-done _ _ _ (c .before .before .loop .inv) (c .if1 .left)
 
 pub keep-lines-spec : {M : Type 1} → statement M
 keep-lines-spec =
-    tie.close
-    (tie.spec
-    Inv-loop
-    μ-loop
-    shared-slice-read-count
-    first-requires
-    loop-holds
-    keep-line-requires
-    next-requires
-    loop-less
-    loop-again
-    same-length
-    returns)
+    tie.close (tie.spec Inv-loop μ-loop shared-slice-read-count first-requires loop-holds keep-line-requires next-requires loop-less loop-again same-length returns)

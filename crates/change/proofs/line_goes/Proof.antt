@@ -7,32 +7,8 @@ use borrow.Author.Needs.{needs}
 use Rattle.change.proofs.line_goes.Statement.{statement}
 use Rattle.change.proofs.line_goes.Tie as tie
 
-add-if1 : tie.Need-add-if1
-add-if1 c = search needs
-
-mul-if1 : tie.Need-mul-if1
-mul-if1 c = search needs
-
-shared-slice-read-if1 : tie.Need-shared-slice-read-if1
-shared-slice-read-if1 c = search needs
-
 returns : tie.Need-returns
 returns c = let z = c .before .before .before .before .args in no-fact-stays (linesIn (z .lines .now)) (z .a .now) (z .at) (λ e. omega arith)
-
-mul-trial-gives : tie.Need-mul-trial-gives
-mul-trial-gives c = search needs
-
-shared-slice-read-trial-gives : tie.Need-shared-slice-read-trial-gives
-shared-slice-read-trial-gives c = search needs
-
-trial-gives-requires : tie.Need-trial-gives-requires
-trial-gives-requires c κs = search needs
-
-enum-told : tie.Need-enum-told
-enum-told c = search needs
-
-enum-told-2 : tie.Need-enum-told-2
-enum-told-2 c = search needs
 
 returns-2 : tie.Need-returns-2
 returns-2 c = let z = c .before .before .before .before .before .before .before .before .args in named-goes (linesIn (z .lines .now)) (z .a .now) (z .at) (omega arith) (ap givenOf (sym (c .enum-told .given .1)) ∙ c .before .before .trial-gives .ensures)
@@ -42,16 +18,4 @@ returns-3 c = let z = c .before .before .before .before .before .before .before 
 
 pub line-goes-spec : {M : Type 1} → statement M
 line-goes-spec =
-    tie.close
-    (tie.spec
-    add-if1
-    mul-if1
-    shared-slice-read-if1
-    returns
-    mul-trial-gives
-    shared-slice-read-trial-gives
-    trial-gives-requires
-    enum-told
-    enum-told-2
-    returns-2
-    returns-3)
+    tie.close (tie.spec (search needs) (search needs) (search needs) returns (search needs) (search needs) (λ c κs. search needs) (search needs) (search needs) returns-2 returns-3)

@@ -38,14 +38,4 @@ returns c = facts-done _ _ _ _ _ (c .before .loop .inv) (c .loop-test .left)
 
 pub put-facts-spec : {M : Type 1} → statement M
 put-facts-spec =
-    tie.close
-    (tie.spec
-    Inv-loop
-    μ-loop
-    loop-holds
-    put-fact-requires
-    add-c
-    loop-less
-    loop-again
-    same-length
-    returns)
+    tie.close (tie.spec Inv-loop μ-loop loop-holds put-fact-requires add-c loop-less loop-again same-length returns)

@@ -29,5 +29,4 @@ returns c = let l = c .before .loop in wrote-all (c .before .before .args .numbe
 
 pub put-numbers-spec : {M : Type 1} → statement M
 put-numbers-spec =
-    tie.close (tie.spec Inv-loop μ-loop loop-holds (search needs) (search needs) (search needs) (search needs) (search needs) (search needs) (omega arith) loop-again (search needs)
-    (search needs) returns)
+    tie.close (tie.spec Inv-loop μ-loop loop-holds (search needs) (search needs) (search needs) (search needs) (search needs) (search needs) (omega arith) loop-again (search needs) (search needs) returns)

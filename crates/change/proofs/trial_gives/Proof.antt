@@ -1,6 +1,5 @@
 -- `trial_gives` meets its contract. The loop's invariant: what the lines passed give stands unless a line still to come gives something.
 -- Assumes nothing.
-use mathlib.Core.Path.{sym}
 use Prim.Native.Nat.{_-_}
 use native.Mathlib.Omega.{arith}
 use Rattle.change.specs.Trial.{givenOf}
