@@ -11,7 +11,7 @@ use Rattle.semantics.specs.Page.{Line, fact}
 use Rattle.semantics.specs.Area.{lineCodes}
 use Rattle.semantics.specs.Trials.{TrialLine, tried, factIf, triedFacts}
 use Rattle.print.specs.Wrote.{Wrote}
-use Rattle.change.specs.Written.{LinesWrote, FactsFit}
+use Rattle.change.specs.Written.{LinesWrote, FactsFit, FactsWrote}
 use Rattle.change.proofs.Lines.{lines-none, lines-one, lines-then, lines-length, lines-as}
 
 -- one condition
@@ -71,10 +71,11 @@ module _ (ts : List TrialLine) (n : ℕ) (area₀ : List ℕ) (start count₀ : 
           most = omega arith;
         }
 
-    pub facts-done : n ≤ c → LinesWrote area₀ start count₀ (triedFacts ts n 0) area end count × (end ≤ start + 4 * n)
+    pub facts-done : n ≤ c → FactsWrote ts n area₀ start count₀ area end count
     unfolding triedFacts
     facts-done l =
-        let e : n - c ≡ 0 = omega arith in (
-          lines-as (sym (s .rest ∙ ap (λ (m : ℕ). s .facts ++ triedFacts ts m c) e ∙ append-nil (s .facts))) (s .wrote),
-          omega (arith, s .short, s .most),
-        )
+        let e : n - c ≡ 0 = omega arith in
+        record {
+          wrote = lines-as (sym (s .rest ∙ ap (λ (m : ℕ). s .facts ++ triedFacts ts m c) e ∙ append-nil (s .facts))) (s .wrote);
+          short = omega (arith, s .short, s .most);
+        }

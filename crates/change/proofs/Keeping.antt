@@ -22,7 +22,7 @@ use Rattle.page.specs.Lines.{stepAt, EntryIn, Next}
 use Rattle.page.proofs.Scan.{rule-kind, fact-kind, over-five, line-at, span-at, entry-in}
 use Rattle.page.proofs.Scanning.{Scanning, linesLeft, scanning-begun, lines-first, entry-sound, scanning-next, scanning-moved, lines-moved, lines-none}
 use Rattle.change.specs.Trial.{isGiven, goes}
-use Rattle.change.specs.Written.{LinesWrote}
+use Rattle.change.specs.Written.{LinesWrote, LinesKept}
 use Rattle.change.proofs.Lines.{one-code, lines-then, lines-length, lines-as}
 use Rattle.change.proofs.Lines as written
 
@@ -160,10 +160,11 @@ module _ (a : List ℕ) (ts : List TrialLine) (area₀ : List ℕ) where
             few = omega (arith, s .few, m .count, w .counted, short .0);
           }
 
-    pub keeping-done : countOf a ≤ k → LinesWrote area₀ (firstLine a) 0 (keptLines ts (pageOf a .lines)) area end count × (end ≤ usedOf a) × (count ≤ 1024)
+    pub keeping-done : countOf a ≤ k → LinesKept a ts area₀ area end count
     unfolding keptLines
-    keeping-done l = (
-      lines-as (sym (s .rest ∙ ap (λ (ls : List Line). s .kept ++ keptLines ts ls) (lines-none a at k l) ∙ append-nil (s .kept))) (s .wrote),
-      omega (arith, s .short, s .scanning .in-used),
-      omega (arith, s .few, s .scanning .in-count, s .lines),
-    )
+    keeping-done l =
+        record {
+          wrote = lines-as (sym (s .rest ∙ ap (λ (ls : List Line). s .kept ++ keptLines ts ls) (lines-none a at k l) ∙ append-nil (s .kept))) (s .wrote);
+          short = omega (arith, s .short, s .scanning .in-used);
+          few = omega (arith, s .few, s .scanning .in-count, s .lines);
+        }

@@ -6,7 +6,8 @@ use Prim.Native.Nat.{ℕ, zero, suc, _/_}
 use lib.ListN.{length, getD, drop}
 use Rattle.fixpoint.specs.Interval.{Interval}
 use Rattle.semantics.specs.Page.{Line, fact, rule, query, default}
-use Rattle.semantics.specs.Trials.{TrialLine, tried}
+use Rattle.semantics.specs.Area.{pageOf, areaOf}
+use Rattle.semantics.specs.Trials.{TrialLine, tried, changedPage}
 use Rattle.change.specs.declared.Given.{Given}
 use Rattle.change.specs.declared.Given.the-variants.{Nothing, Fact}
 
@@ -22,6 +23,10 @@ linesAt (suc k) p = trialAt p ∷ linesAt k (drop 4 p)
 -- all lines
 abbrev pub linesIn : List ℕ → List TrialLine
 linesIn p = linesAt (length p / 4) p
+
+-- the area of the page that the lines change
+abbrev pub changedArea : (a lines : List ℕ) → List ℕ
+changedArea a lines = areaOf (changedPage (pageOf a) (linesIn lines))
 
 -- what is given
 abbrev pub givenOf : Given → Option Interval

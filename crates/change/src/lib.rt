@@ -6,14 +6,14 @@ ghost use mathlib.Core.Bool.{true};
 ghost use mathlib.Core.List.{_++_};
 ghost use Prim.Native.Nat.{_+_, _*_, _-_, _≤_, _<_};
 ghost use lib.ListN.{length, drop};
-ghost use Rattle.semantics.specs.Area.{sound, pageOf, areaOf, lineAt, firstLine, topOf, conditionsOf, usedOf};
+ghost use Rattle.semantics.specs.Area.{sound, lineAt, topOf, conditionsOf, usedOf};
 ghost use Rattle.semantics.specs.ReadPage.{orElse};
-ghost use Rattle.semantics.specs.Trials.{intervalFor, tried, keptLine, keptLines, factIf, triedFacts, changedPage};
+ghost use Rattle.semantics.specs.Trials.{intervalFor, tried, keptLine, factIf};
 ghost use Rattle.print.specs.Wrote.{Wrote};
 ghost use Rattle.page.specs.Lines.{stepAt};
 ghost use Rattle.page.specs.Graded.{SoundEntry};
-ghost use Rattle.change.specs.Trial.{trialAt, linesIn, givenOf, goes};
-ghost use Rattle.change.specs.Written.{LinesWrote, FactsFit};
+ghost use Rattle.change.specs.Trial.{trialAt, linesIn, changedArea, givenOf, goes};
+ghost use Rattle.change.specs.Written.{LinesWrote, FactsFit, LinesKept, FactsWrote};
 use page::Cursor;
 use page::span_of;
 
@@ -113,7 +113,7 @@ fn keep_line(a: &[u16], at: usize, lines: &[u16], area: &mut [u16], to: Place) -
 // The entries of the page's lines that stay, from where its lines begin.
 fn keep_lines(a: &[u16], lines: &[u16], area: &mut [u16]) -> Place
     requires { ⌜ (sound (now a) ≡ true) × (usedOf (now a) ≤ length (now area)) ⌝ }
-    ensures { λ r. ⌜ LinesWrote (now (area .entry)) (firstLine (now (a .entry))) 0 (keptLines (linesIn (now (lines .entry))) (pageOf (now (a .entry)) .lines)) (now (area .exit)) (r .end) (r .count) × (r .end ≤ usedOf (now (a .entry))) × (r .count ≤ 1024) ⌝ }
+    ensures { λ r. ⌜ LinesKept (now (a .entry)) (linesIn (now (lines .entry))) (now (area .entry)) (now (area .exit)) (r .end) (r .count) ⌝ }
 {
     let count = a[2];
     let mut line = Cursor::first(a);
@@ -151,7 +151,7 @@ fn put_fact(lines: &[u16], c: u16, area: &mut [u16], to: Place) -> Place
 // The facts that the trial gives the n conditions, in their order.
 fn put_facts(lines: &[u16], n: u16, area: &mut [u16], to: Place) -> Place
     requires { ⌜ FactsFit n (now area) (to .end) (to .count) ⌝ }
-    ensures { λ r. ⌜ LinesWrote (now (area .entry)) (to .end) (to .count) (triedFacts (linesIn (now (lines .entry))) n 0) (now (area .exit)) (r .end) (r .count) × (r .end ≤ to .end + 4 * n) ⌝ }
+    ensures { λ r. ⌜ FactsWrote (linesIn (now (lines .entry))) n (now (area .entry)) (to .end) (to .count) (now (area .exit)) (r .end) (r .count) ⌝ }
 {
     let mut place = to;
     let mut c: u16 = 0;
@@ -166,7 +166,7 @@ fn put_facts(lines: &[u16], n: u16, area: &mut [u16], to: Place) -> Place
 // and the used length are written last.
 pub fn change(a: &[u16], lines: &[u16], area: &mut [u16])
     requires { ⌜ (sound (now a) ≡ true) × (14852 ≤ length (now area)) ⌝ }
-    ensures { λ _. ⌜ now (area .exit) ≡ areaOf (changedPage (pageOf (now (a .entry))) (linesIn (now (lines .entry)))) ++ drop (usedOf (areaOf (changedPage (pageOf (now (a .entry))) (linesIn (now (lines .entry)))))) (now (area .entry)) ⌝ }
+    ensures { λ _. ⌜ now (area .exit) ≡ changedArea (now (a .entry)) (now (lines .entry)) ++ drop (usedOf (changedArea (now (a .entry)) (now (lines .entry)))) (now (area .entry)) ⌝ }
 {
     let n = a[1];
     let first = 4 + n as usize;

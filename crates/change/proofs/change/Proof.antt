@@ -42,14 +42,14 @@ put-facts-requires c κs =
     let b = bounds _ (z .pre .0) in
     let k = c .before .before .before .keep-lines .ensures in
     record {
-      room = omega (arith, b .few, b .most, z .pre .1, k .1, lines-length (k .0), wrote-length (c .before .before .before .before .before .before .before .put-numbers .ensures));
-      counts = omega (arith, b .few, k .2);
+      room = omega (arith, b .few, b .most, z .pre .1, k .short, lines-length (k .wrote), wrote-length (c .before .before .before .before .before .before .before .put-numbers .ensures));
+      counts = omega (arith, b .few, k .few);
     }
 
 cast-area : tie.Need-cast-area
 cast-area c =
     let b = bounds _ (c .before .before .before .before .before .before .before .before .before .before .before .before .before .before .before .before .before .before .pre .0) in
-    omega (arith, b .few, b .most, c .before .before .before .before .before .before .before .keep-lines .ensures .1, c .before .before .before .put-facts .ensures .1)
+    omega (arith, b .few, b .most, c .before .before .before .before .before .before .before .keep-lines .ensures .short, c .before .before .before .put-facts .ensures .short)
 
 slice-write-area-2 : tie.Need-slice-write-area-2
 slice-write-area-2 c =
@@ -57,20 +57,20 @@ slice-write-area-2 c =
     (omega (
       arith,
       c .before .before .before .before .before .before .before .before .before .before .before .before .before .before .before .before .before .before .pre .1,
-      lines-length (c .before .before .before .put-facts .ensures .0),
-      lines-length (c .before .before .before .before .before .before .before .keep-lines .ensures .0),
+      lines-length (c .before .before .before .put-facts .ensures .wrote),
+      lines-length (c .before .before .before .before .before .before .before .keep-lines .ensures .wrote),
       wrote-length (c .before .before .before .before .before .before .before .before .before .before .before .put-numbers .ensures),
     ))
 
 same-length : tie.Need-same-length
 same-length c =
     simp length-set
-    (lines-length (c .before .before .before .put-facts .ensures .0) ∙ lines-length (c .before .before .before .before .before .before .before .keep-lines .ensures .0) ∙ wrote-length (c .before .before .before .before .before .before .before .before .before .before .before .put-numbers .ensures))
+    (lines-length (c .before .before .before .put-facts .ensures .wrote) ∙ lines-length (c .before .before .before .before .before .before .before .keep-lines .ensures .wrote) ∙ wrote-length (c .before .before .before .before .before .before .before .before .before .before .before .put-numbers .ensures))
 
 returns : tie.Need-returns
 returns c =
     let z = c .before .before .before .before .before .before .before .before .before .before .before .before .before .before .before .before .before .before in
-    changed (z .args .a .now) (linesIn (z .args .lines .now)) (z .pre .0) {m = firstLine (z .args .a .now) - 0} (omega arith) (c .before .before .before .before .before .before .before .before .before .before .before .put-numbers .ensures) (c .before .before .before .before .before .before .before .keep-lines .ensures .0) (c .before .before .before .put-facts .ensures .0)
+    changed (z .args .a .now) (linesIn (z .args .lines .now)) (z .pre .0) {m = firstLine (z .args .a .now) - 0} (omega arith) (c .before .before .before .before .before .before .before .before .before .before .before .put-numbers .ensures) (c .before .before .before .before .before .before .before .keep-lines .ensures .wrote) (c .before .before .before .put-facts .ensures .wrote)
 
 pub change-spec : {M : Type 1} → statement M
 change-spec =
