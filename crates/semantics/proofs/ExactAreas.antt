@@ -203,7 +203,7 @@ span-least queryKind y = omega arith
 span-least defaultKind y = omega arith
 span-least noKind y = omega arith
 
-line-back : (top n left : ℕ) (p : List ℕ) → left ≤ length p → Every (lineTests top n left p) → take (span p) p ≡ lineCode (lineAt p)
+pub line-back : (top n left : ℕ) (p : List ℕ) → left ≤ length p → Every (lineTests top n left p) → take (span p) p ≡ lineCode (lineAt p)
 unfolding span
 line-back top n left p l h = go p (omega (arith, leb-true (span p) left (h .0))) (h .1 .1)
   where
