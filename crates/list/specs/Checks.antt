@@ -27,7 +27,7 @@ abbrev pub Ended : List ℕ → Type 0
 Ended s = getD s (length s - 1) 10 ≡ 10
 
 -- what is wrong with the line at a place of an ended text, if it is not line 1,025
-abbrev pub faultIn : List ℕ → (at before top n : ℕ) → Option ℕ
+unfoldable pub faultIn : List ℕ → (at before top n : ℕ) → Option ℕ
 faultIn s at before top n = firstOf (trialCauses top n (length s) 0 at before (lineAt s at))
 
 -- a good line: its trial, and the place where the next line begins, behind its byte 10

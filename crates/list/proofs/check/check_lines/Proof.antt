@@ -1,58 +1,62 @@
+-- `check_lines` meets its contract: a turn checks one line, `Checking`. Assumes nothing.
+use borrow.Author.Needs.{needs}
+use Prim.Native.Nat.{_-_}
+use native.Mathlib.Omega.{arith}
+use lib.ListN.{length}
+use Rattle.list.specs.Checks.{LineGood}
+use Rattle.list.proofs.Passes.{Checking, checking-first, good-told, bad-told, refused-late, refused-line, checking-next, checking-done}
 use Rattle.list.proofs.check.check_lines.Statement.{statement}
 use Rattle.list.proofs.check.check_lines.Tie as tie
-use Rattle.list.proofs.check.check_lines.Reads as reads
-use Rattle.list.proofs.check.check_lines.Lts as lts
-use Rattle.list.proofs.check.check_line.Reads as check-line-reads
 
 abbrev Inv-loop : tie.InvT-loop
-Inv-loop bytes top conditions at₀ line₀ before₀ at line before = ?
+Inv-loop bytes top conditions at₀ line₀ before₀ at line before = Checking bytes top conditions at line before
 
 abbrev μ-loop : tie.MeasureT-loop
-μ-loop bytes top conditions at₀ line₀ before₀ at line before = ?
+μ-loop bytes top conditions at₀ line₀ before₀ at line before = length bytes - at
 
--- src/check.rt:72:5
+-- the line that is in order
+good-here : (c : tie.After-known-told Inv-loop μ-loop) → LineGood (c .before .before .before .before .before .before .before .before .args .bytes .now) (c .before .before .before .before .before .before .loop .at) (c .before .before .before .before .before .before .loop .before) (c .before .before .before .before .before .before .before .before .args .top) (c .before .before .before .before .before .before .before .before .args .conditions) (c .before .checked .given .0 .0) (c .before .checked .given .0 .1 .0)
+good-here c =
+    let a = c .before .before .before .before .before .before .before .before .args in
+    let l = c .before .before .before .before .before .before .loop in
+    good-told (a .bytes .now) (l .at) (l .before) (a .top) (a .conditions) (c .before .before .before .check-line .ensures) (c .before .checked .given .1)
+
 loop-holds : tie.Need-loop-holds Inv-loop μ-loop
-loop-holds c = ?
+loop-holds c = checking-first (c .before .args .bytes .now) (c .before .args .top) (c .before .args .conditions)
 
--- src/check.rt:74:13
 returns : tie.Need-returns Inv-loop μ-loop
-returns c = ?
+returns c = refused-late (c .before .before .before .before .args .bytes .now) (c .before .before .before .before .args .top) (c .before .before .before .before .args .conditions) (c .before .before .loop .inv) (c .before .before .before .before .pre) (c .before .loop-test .taken) (c .if1 .taken)
 
--- src/check.rt:76:13
 check-line-requires : tie.Need-check-line-requires Inv-loop μ-loop
-check-line-requires c κs = ?
+check-line-requires c κs = (record { inside = c .before .loop-test .taken; ended = c .before .before .before .before .pre }, c .before .before .loop .inv .near)
 
--- src/check.rt:78:29
 enum-known-checked : tie.Need-enum-known-checked Inv-loop μ-loop
-enum-known-checked c = ?
+enum-known-checked c = search needs
 
--- src/check.rt:82:26
 enum-known-checked-2 : tie.Need-enum-known-checked-2 Inv-loop μ-loop
-enum-known-checked-2 c = ?
+enum-known-checked-2 c = search needs
 
--- src/check.rt:83:17
 returns-2 : tie.Need-returns-2 Inv-loop μ-loop
-returns-2 c = ?
+returns-2 c = 
+    let a = c .before .before .before .before .before .before .before .before .args in
+    let l = c .before .before .before .before .before .before .loop in
+    refused-line (a .bytes .now) (a .top) (a .conditions) (l .inv) (c .before .before .before .before .before .before .before .before .pre) (c .before .before .before .before .before .loop-test .taken) (c .before .before .before .before .if1 .left)
+    (bad-told (a .bytes .now) (l .at) (l .before) (a .top) (a .conditions) (c .before .before .before .check-line .ensures) (c .before .checked2 .given .1))
 
--- src/check.rt:86:9
 add-line : tie.Need-add-line Inv-loop μ-loop
-add-line c = ?
+add-line c = omega (arith, c .before .before .before .before .before .before .loop .inv .most)
 
--- src/check.rt:72:5
 loop-less : tie.Need-loop-less Inv-loop μ-loop
-loop-less c = ?
+loop-less c = omega (arith, c .before .before .before .before .before .loop-test .taken, good-here c .end)
 
--- src/check.rt:72:5
 loop-again : tie.Need-loop-again Inv-loop μ-loop
-loop-again c = ?
+loop-again c = checking-next (c .before .before .before .before .before .before .before .before .args .bytes .now) (c .before .before .before .before .before .before .before .before .args .top) (c .before .before .before .before .before .before .before .before .args .conditions) (c .before .before .before .before .before .before .loop .inv) (c .before .before .before .before .before .before .before .before .pre) (c .before .before .before .before .before .loop-test .taken) (c .before .before .before .before .if1 .left) (good-here c)
 
--- src/check.rt:88:22
 sub-t13 : tie.Need-sub-t13 Inv-loop μ-loop
-sub-t13 c = ?
+sub-t13 c = omega (arith, c .before .loop .inv .least)
 
--- src/check.rt:65:1
 returns-3 : tie.Need-returns-3 Inv-loop μ-loop
-returns-3 c = ?
+returns-3 c = checking-done (c .before .before .before .args .bytes .now) (c .before .before .before .args .top) (c .before .before .before .args .conditions) (c .before .loop .inv) (c .loop-test .left)
 
 pub check-lines-spec : {M : Type 1} → statement M
 check-lines-spec =

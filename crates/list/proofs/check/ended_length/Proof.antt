@@ -1,45 +1,39 @@
+-- `ended_length` meets its contract: a turn goes back by one byte, `Seeking`. Assumes nothing.
+use borrow.Author.Needs.{needs}
+use native.Mathlib.Omega.{arith}
+use Rattle.list.proofs.Parts.{Seeking, seeking-first, seeking-inside, seeking-found, seeking-next, seeking-none}
 use Rattle.list.proofs.check.ended_length.Statement.{statement}
 use Rattle.list.proofs.check.ended_length.Tie as tie
-use Rattle.list.proofs.check.ended_length.Reads as reads
-use Rattle.list.proofs.check.ended_length.Lts as lts
 
 abbrev Inv-loop : tie.InvT-loop
-Inv-loop bytes end₀ end = ?
+Inv-loop bytes end₀ end = Seeking bytes end
 
 abbrev μ-loop : tie.MeasureT-loop
-μ-loop bytes end₀ end = ?
+μ-loop bytes end₀ end = end
 
--- src/check.rt:96:5
 loop-holds : tie.Need-loop-holds Inv-loop μ-loop
-loop-holds c = ?
+loop-holds c = seeking-first (c .args .bytes .now)
 
--- src/check.rt:97:18
 sub-if1 : tie.Need-sub-if1 Inv-loop μ-loop
-sub-if1 c = ?
+sub-if1 c = search needs
 
--- src/check.rt:97:12
 shared-slice-read-if1 : tie.Need-shared-slice-read-if1 Inv-loop μ-loop
-shared-slice-read-if1 c = ?
+shared-slice-read-if1 c = seeking-inside (c .before .before .before .args .bytes .now) (c .before .before .loop .inv) (c .before .loop-test .taken)
 
--- src/check.rt:98:13
 returns : tie.Need-returns Inv-loop μ-loop
-returns c = ?
+returns c = seeking-found (c .before .before .before .before .args .bytes .now) (c .before .before .before .loop .inv) (c .before .before .loop-test .taken) (c .if1 .taken)
 
--- src/check.rt:100:9
 sub-end : tie.Need-sub-end Inv-loop μ-loop
-sub-end c = ?
+sub-end c = search needs
 
--- src/check.rt:96:5
 loop-less : tie.Need-loop-less Inv-loop μ-loop
-loop-less c = ?
+loop-less c = search needs
 
--- src/check.rt:96:5
 loop-again : tie.Need-loop-again Inv-loop μ-loop
-loop-again c = ?
+loop-again c = seeking-next (c .before .before .before .before .args .bytes .now) (c .before .before .before .loop .inv) (c .before .before .loop-test .taken) (c .if1 .left)
 
--- src/check.rt:92:1
 returns-2 : tie.Need-returns-2 Inv-loop μ-loop
-returns-2 c = ?
+returns-2 c = seeking-none (c .before .before .args .bytes .now) (c .before .loop .inv) (c .loop-test .left)
 
 pub ended-length-spec : {M : Type 1} → statement M
 ended-length-spec =

@@ -1,31 +1,61 @@
+-- `range_fault` meets its contract: each test in its order. Assumes nothing.
+use borrow.Author.Tests.{lt-ltb, le-ltb, le-leb, lt-leb}
 use Rattle.list.proofs.check.range_fault.Statement.{statement}
 use Rattle.list.proofs.check.range_fault.Tie as tie
-use Rattle.list.proofs.check.range_fault.Reads as reads
-use Rattle.list.proofs.check.range_fault.Lts as lts
 
--- src/check.rt:20:9
 returns : tie.Need-returns
-returns c = ?
+returns c =
+    let a = c .before .before .args in
+    rw (le-leb (a .conditions) (a .line .condition) (c .if1 .taken))
 
--- src/check.rt:23:9
 returns-2 : tie.Need-returns-2
-returns-2 c = ?
+returns-2 c =
+    let a = c .before .before .before .before .args in
+    rw (
+      lt-leb (a .conditions) (a .line .condition) (c .before .before .if1 .left),
+      lt-ltb (a .top) (a .line .low) (c .if2 .taken),
+    )
 
--- src/check.rt:26:9
 returns-3 : tie.Need-returns-3
-returns-3 c = ?
+returns-3 c =
+    let a = c .before .before .before .before .before .before .args in
+    rw (
+      lt-leb (a .conditions) (a .line .condition) (c .before .before .before .before .if1 .left),
+      le-ltb (a .top) (a .line .low) (c .before .before .if2 .left),
+      lt-ltb (a .top) (a .line .high) (c .if3 .taken),
+    )
 
--- src/check.rt:29:9
 returns-4 : tie.Need-returns-4
-returns-4 c = ?
+returns-4 c =
+    let a = c .before .before .before .before .before .before .before .before .args in
+    rw (
+      lt-leb (a .conditions) (a .line .condition) (c .before .before .before .before .before .before .if1 .left),
+      le-ltb (a .top) (a .line .low) (c .before .before .before .before .if2 .left),
+      le-ltb (a .top) (a .line .high) (c .before .before .if3 .left),
+      lt-ltb (a .line .high) (a .line .low) (c .if4 .taken),
+    )
 
--- src/check.rt:32:9
 returns-5 : tie.Need-returns-5
-returns-5 c = ?
+returns-5 c =
+    let a = c .before .before .before .before .before .before .before .before .before .before .args in
+    rw (
+      lt-leb (a .conditions) (a .line .condition) (c .before .before .before .before .before .before .before .before .if1 .left),
+      le-ltb (a .top) (a .line .low) (c .before .before .before .before .before .before .if2 .left),
+      le-ltb (a .top) (a .line .high) (c .before .before .before .before .if3 .left),
+      le-ltb (a .line .high) (a .line .low) (c .before .before .if4 .left),
+      lt-ltb (a .line .trial) (a .before) (c .if5 .taken),
+    )
 
--- src/check.rt:16:1
 returns-6 : tie.Need-returns-6
-returns-6 c = ?
+returns-6 c =
+    let a = c .before .before .before .before .before .before .before .before .before .before .args in
+    rw (
+      lt-leb (a .conditions) (a .line .condition) (c .before .before .before .before .before .before .before .before .if1 .left),
+      le-ltb (a .top) (a .line .low) (c .before .before .before .before .before .before .if2 .left),
+      le-ltb (a .top) (a .line .high) (c .before .before .before .before .if3 .left),
+      le-ltb (a .line .high) (a .line .low) (c .before .before .if4 .left),
+      le-ltb (a .line .trial) (a .before) (c .if5 .left),
+    )
 
 pub range-fault-spec : {M : Type 1} → statement M
 range-fault-spec = tie.close (tie.spec returns returns-2 returns-3 returns-4 returns-5 returns-6)

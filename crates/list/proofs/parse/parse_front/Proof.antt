@@ -1,69 +1,75 @@
+-- `parse_front` meets its contract, by the laws of `Forms`. Assumes nothing.
 use borrow.Author.Needs.{needs}
+use mathlib.Core.Path.{_≡_, sym, _∙_}
+use Prim.Native.Nat.{_+_}
+use native.Mathlib.Omega.{arith}
+use lib.ListN.{getD}
+use Rattle.fields.proofs.Places.{byte-here}
+use Rattle.fields.proofs.Letters.{LetterThen, plain, letter-next, letter-here, letter-gone}
+use Rattle.fields.proofs.Tokens.{NumberThen, number-then, no-number-then, comma-class}
+use Rattle.fields.specs.Cursor.{fieldsAt}
+use lib.ListN.{drop}
+use Rattle.list.proofs.Forms.{other-letter, gone-letter, no-trial, no-condition, front-then}
 use Rattle.list.proofs.parse.parse_front.Statement.{statement}
 use Rattle.list.proofs.parse.parse_front.Tie as tie
-use Rattle.list.proofs.parse.parse_front.Reads as reads
-use Rattle.list.proofs.parse.parse_front.Lts as lts
-use Rattle.fields.proofs.number_before.Reads as number-before-reads
 
--- src/parse.rt:38:8
+-- the letter `T`, the trial and the condition
+the-byte : (c : tie.Else1) → getD (c .before .before .before .args .bytes .now) (c .before .before .before .args .at) 10 ≡ 84
+the-byte c = sym (byte-here (c .before .before .before .args .bytes .now) (c .before .before .before .args .at) (c .before .before .before .pre .inside)) ∙ c .if1 .left
+
+the-letter : (c : tie.Else2) → LetterThen (c .before .before .before .before .before .args .bytes .now) (c .before .before .before .before .before .args .at) 84
+the-letter c = letter-here (c .before .before .before .before .before .args .bytes .now) (c .before .before .before .before .before .args .at) (c .before .before .before .before .before .pre) (the-byte (c .before .before)) (plain 84 (omega arith)) (c .if2 .left)
+
+the-trial : (c : tie.After-known-told) → NumberThen (c .before .before .before .before .before .before .before .before .before .args .bytes .now) (c .before .before .before .before .before .before .before .before .before .args .at + 2) (c .before .trial .given .0 .0) (c .before .trial .given .0 .1 .0)
+the-trial c = number-then (c .before .before .before .before .before .before .before .before .before .args .bytes .now) (c .before .before .before .before .before .before .before .before .before .args .at + 2) (the-letter (c .before .before .before .before) .place) (c .before .before .before .number-before .ensures) (c .before .trial .given .1)
+
+the-condition : (c : tie.After-known-told2) → NumberThen (c .before .before .before .before .before .before .before .before .before .before .before .before .before .args .bytes .now) (c .before .before .before .before .before .trial .given .0 .1 .0) (c .before .condition .given .0 .0) (c .before .condition .given .0 .1 .0)
+the-condition c = number-then (c .before .before .before .before .before .before .before .before .before .before .before .before .before .args .bytes .now) (c .before .before .before .before .before .trial .given .0 .1 .0) (the-trial (c .before .before .before .before) .place) (c .before .before .before .number-before2 .ensures) (c .before .condition .given .1)
+
 shared-slice-read-if1 : tie.Need-shared-slice-read-if1
 shared-slice-read-if1 c = search needs
 
--- src/parse.rt:39:9
 returns : tie.Need-returns
-returns c = ?
+returns c = other-letter (c .before .before .before .args .bytes .now) (c .before .before .before .args .at) (λ z. c .if1 .taken (byte-here (c .before .before .before .args .bytes .now) (c .before .before .before .args .at) (c .before .before .before .pre .inside) ∙ z))
 
--- src/parse.rt:41:14
 add-if2 : tie.Need-add-if2
 add-if2 c = search needs
 
--- src/parse.rt:41:8
 shared-slice-read-if2 : tie.Need-shared-slice-read-if2
-shared-slice-read-if2 c = ?
+shared-slice-read-if2 c = letter-next (c .before .before .before .before .args .bytes .now) (c .before .before .before .before .args .at) (c .before .before .before .before .pre) (the-byte (c .before)) (plain 84 (omega arith)) .inside
 
--- src/parse.rt:42:9
 returns-2 : tie.Need-returns-2
-returns-2 c = ?
+returns-2 c = gone-letter (fieldsAt (drop (c .before .before .before .before .before .args .at) (c .before .before .before .before .before .args .bytes .now))) (letter-gone (c .before .before .before .before .before .args .bytes .now) (c .before .before .before .before .before .args .at) (c .before .before .before .before .before .pre) (the-byte (c .before .before)) (plain 84 (omega arith)) (c .if2 .taken))
 
--- src/parse.rt:44:56
 add-number-before : tie.Need-add-number-before
 add-number-before c = search needs
 
--- src/parse.rt:44:35
 number-before-requires : tie.Need-number-before-requires
-number-before-requires c κs = ?
+number-before-requires c κs = (the-letter c .place, comma-class)
 
--- src/parse.rt:44:23
 enum-known-trial : tie.Need-enum-known-trial
 enum-known-trial c = search needs
 
--- src/parse.rt:45:9
 enum-told : tie.Need-enum-told
 enum-told c = search needs
 
--- src/parse.rt:45:9
 returns-3 : tie.Need-returns-3
-returns-3 c = ?
+returns-3 c = no-trial (c .before .before .before .before .before .before .before .before .args .bytes .now) (c .before .before .before .before .before .before .before .before .args .at) (the-letter (c .before .before .before)) (no-number-then (c .before .before .before .before .before .before .before .before .args .bytes .now) (c .before .before .before .before .before .before .before .before .args .at + 2) (c .before .before .number-before .ensures) (c .enum-told .given .1))
 
--- src/parse.rt:47:42
 number-before-requires-2 : tie.Need-number-before-requires-2
-number-before-requires-2 c κs = ?
+number-before-requires-2 c κs = (the-trial c .place, comma-class)
 
--- src/parse.rt:47:23
 enum-known-condition : tie.Need-enum-known-condition
 enum-known-condition c = search needs
 
--- src/parse.rt:48:9
 enum-told-2 : tie.Need-enum-told-2
 enum-told-2 c = search needs
 
--- src/parse.rt:48:9
 returns-4 : tie.Need-returns-4
-returns-4 c = ?
+returns-4 c = no-condition (c .before .before .before .before .before .before .before .before .before .before .before .before .args .bytes .now) (c .before .before .before .before .before .before .before .before .before .before .before .before .args .at) (the-letter (c .before .before .before .before .before .before .before)) (the-trial (c .before .before .before)) (no-number-then (c .before .before .before .before .before .before .before .before .before .before .before .before .args .bytes .now) (c .before .before .before .before .trial .given .0 .1 .0) (c .before .before .number-before2 .ensures) (c .enum-told2 .given .1))
 
--- src/parse.rt:34:1
 returns-5 : tie.Need-returns-5
-returns-5 c = ?
+returns-5 c = front-then (c .before .before .before .before .before .before .before .before .before .before .before .before .before .args .bytes .now) (c .before .before .before .before .before .before .before .before .before .before .before .before .before .args .at) (the-letter (c .before .before .before .before .before .before .before .before)) (the-trial (c .before .before .before .before)) (the-condition c)
 
 pub parse-front-spec : {M : Type 1} → statement M
 parse-front-spec =

@@ -1,62 +1,59 @@
+-- `parse_trial` meets its contract, by the laws of `Forms`. Assumes nothing.
 use borrow.Author.Needs.{needs}
+use Rattle.fields.proofs.Tokens.{NumberThen, NumberLast, number-then, no-number-then, number-last, no-number-last, comma-class, newline-class}
+use Rattle.list.specs.Lines.{FrontThen}
+use Rattle.list.proofs.Forms.{some-front, no-front, no-low, no-high, number-end, a-trial}
 use Rattle.list.proofs.parse.parse_trial.Statement.{statement}
 use Rattle.list.proofs.parse.parse_trial.Tie as tie
-use Rattle.list.proofs.parse.parse_trial.Reads as reads
-use Rattle.list.proofs.parse.parse_trial.Lts as lts
-use Rattle.fields.proofs.number_before.Reads as number-before-reads
-use Rattle.list.proofs.parse.parse_front.Reads as parse-front-reads
 
--- src/parse.rt:58:44
+-- the trial and the condition, the low and the high end
+the-front : (c : tie.After-known-told) → FrontThen (c .before .before .before .before .before .args .bytes .now) (c .before .before .before .before .before .args .at) (c .before .trial .given .0 .0) (c .before .trial .given .0 .1 .0) (c .before .trial .given .0 .1 .1 .0)
+the-front c = some-front (c .before .before .before .before .before .args .bytes .now) (c .before .before .before .before .before .args .at) (c .before .before .before .parse-front .ensures) (c .before .trial .given .1)
+
+the-low : (c : tie.After-known-told2) → NumberThen (c .before .before .before .before .before .before .before .before .before .args .bytes .now) (c .before .before .before .before .before .trial .given .0 .1 .1 .0) (c .before .low .given .0 .0) (c .before .low .given .0 .1 .0)
+the-low c = number-then (c .before .before .before .before .before .before .before .before .before .args .bytes .now) (c .before .before .before .before .before .trial .given .0 .1 .1 .0) (the-front (c .before .before .before .before) .place) (c .before .before .before .number-before .ensures) (c .before .low .given .1)
+
+the-high : (c : tie.After-known-told3) → NumberLast (c .before .before .before .before .before .before .before .before .before .before .before .before .before .args .bytes .now) (c .before .before .before .before .before .low .given .0 .1 .0) (c .before .high .given .0 .0) (c .before .high .given .0 .1 .0)
+the-high c = number-last (c .before .before .before .before .before .before .before .before .before .before .before .before .before .args .bytes .now) (c .before .before .before .before .before .low .given .0 .1 .0) (c .before .before .before .number-before2 .ensures) (c .before .high .given .1)
+
 parse-front-requires : tie.Need-parse-front-requires
 parse-front-requires c κs = search needs
 
--- src/parse.rt:58:21
 enum-known-trial : tie.Need-enum-known-trial
 enum-known-trial c = search needs
 
--- src/parse.rt:59:9
 enum-told : tie.Need-enum-told
 enum-told c = search needs
 
--- src/parse.rt:59:9
 returns : tie.Need-returns
-returns c = ?
+returns c = no-front (c .before .before .before .before .args .bytes .now) (c .before .before .before .before .args .at) (c .before .before .parse-front .ensures) (c .enum-told .given .1)
 
--- src/parse.rt:61:33
 number-before-requires : tie.Need-number-before-requires
-number-before-requires c κs = ?
+number-before-requires c κs = (the-front c .place, comma-class)
 
--- src/parse.rt:61:23
 enum-known-low : tie.Need-enum-known-low
 enum-known-low c = search needs
 
--- src/parse.rt:62:9
 enum-told-2 : tie.Need-enum-told-2
 enum-told-2 c = search needs
 
--- src/parse.rt:62:9
 returns-2 : tie.Need-returns-2
-returns-2 c = ?
+returns-2 c = no-low (c .before .before .before .before .before .before .before .before .args .bytes .now) (c .before .before .before .before .before .before .before .before .args .at) (the-front (c .before .before .before)) (no-number-then (c .before .before .before .before .before .before .before .before .args .bytes .now) (c .before .before .before .before .trial .given .0 .1 .1 .0) (c .before .before .number-before .ensures) (c .enum-told2 .given .1))
 
--- src/parse.rt:64:37
 number-before-requires-2 : tie.Need-number-before-requires-2
-number-before-requires-2 c κs = ?
+number-before-requires-2 c κs = (the-low c .place, newline-class)
 
--- src/parse.rt:64:23
 enum-known-high : tie.Need-enum-known-high
 enum-known-high c = search needs
 
--- src/parse.rt:65:9
 enum-told-3 : tie.Need-enum-told-3
 enum-told-3 c = search needs
 
--- src/parse.rt:65:9
 returns-3 : tie.Need-returns-3
-returns-3 c = ?
+returns-3 c = no-high (c .before .before .before .before .before .before .before .before .before .before .before .before .args .bytes .now) (c .before .before .before .before .before .before .before .before .before .before .before .before .args .at) (the-front (c .before .before .before .before .before .before .before)) (the-low (c .before .before .before)) (no-number-last (c .before .before .before .before .before .before .before .before .before .before .before .before .args .bytes .now) (c .before .before .before .before .low .given .0 .1 .0) (c .before .before .number-before2 .ensures) (c .enum-told3 .given .1))
 
--- src/parse.rt:54:1
 returns-4 : tie.Need-returns-4
-returns-4 c = ?
+returns-4 c = a-trial (c .before .before .before .before .before .before .before .before .before .before .before .before .before .args .bytes .now) (c .before .before .before .before .before .before .before .before .before .before .before .before .before .args .at) (the-front (c .before .before .before .before .before .before .before .before)) (the-low (c .before .before .before .before)) (c .before .before .before .before .before .before .before .before .before .before .before .before .before .pre) (the-high c) (number-end (c .before .before .before .before .before .before .before .before .before .before .before .before .before .args .bytes .now) (c .before .before .before .before .before .low .given .0 .1 .0) 10 (c .before .before .before .number-before2 .ensures) (c .before .high .given .1))
 
 pub parse-trial-spec : {M : Type 1} → statement M
 parse-trial-spec =

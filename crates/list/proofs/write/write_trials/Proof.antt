@@ -1,47 +1,40 @@
+-- `write_trials` meets its contract: a turn writes one line, `Writing`. Assumes nothing.
+use Prim.Native.Nat.{_-_}
+use native.Mathlib.Omega.{arith}
+use lib.ListN.{length}
+use Rattle.list.proofs.Writes.{Writing, writing-first, known-here, four-room, writing-next, writing-done}
 use Rattle.list.proofs.write.write_trials.Statement.{statement}
 use Rattle.list.proofs.write.write_trials.Tie as tie
-use Rattle.list.proofs.write.write_trials.Reads as reads
-use Rattle.list.proofs.write.write_trials.Lts as lts
-use Rattle.list.proofs.parse.checked_trial.Reads as checked-trial-reads
-use Rattle.list.proofs.write.put_trial.Reads as put-trial-reads
 
 abbrev Inv-loop : tie.InvT-loop
-Inv-loop bytes list₀ at₀ end₀ list at end = ?
+Inv-loop bytes list₀ at₀ end₀ list at end = Writing bytes list₀ list at end
 
 abbrev μ-loop : tie.MeasureT-loop
-μ-loop bytes list₀ at₀ end₀ list at end = ?
+μ-loop bytes list₀ at₀ end₀ list at end = length bytes - at
 
--- src/write.rt:31:5
 loop-holds : tie.Need-loop-holds Inv-loop μ-loop
-loop-holds c = ?
+loop-holds c = writing-first (c .before .before .args .bytes .now) (c .before .before .args .list .now) (c .before .before .pre)
 
--- src/write.rt:32:13
 checked-trial-requires : tie.Need-checked-trial-requires Inv-loop μ-loop
-checked-trial-requires c κs = ?
+checked-trial-requires c κs = known-here (c .before .before .before .before .args .bytes .now) (c .before .before .before .before .args .list .now) (c .before .loop .inv) (c .loop-test .taken)
 
--- src/write.rt:34:9
 put-trial-requires : tie.Need-put-trial-requires Inv-loop μ-loop
-put-trial-requires c κs = ?
+put-trial-requires c κs = omega (arith, four-room (c .before .before .before .before .before .before .before .args .bytes .now) (c .before .before .before .before .before .before .before .args .list .now) (c .before .before .before .before .loop .inv) (c .before .before .before .loop-test .taken) (c .before .before .checked-trial .ensures))
 
--- src/write.rt:36:9
 add-end : tie.Need-add-end Inv-loop μ-loop
-add-end c = ?
+add-end c = omega (arith, four-room (c .before .before .before .before .before .before .before .before .before .before .args .bytes .now) (c .before .before .before .before .before .before .before .before .before .before .args .list .now) (c .before .before .before .before .before .before .before .loop .inv) (c .before .before .before .before .before .before .loop-test .taken) (c .before .before .before .before .before .checked-trial .ensures))
 
--- src/write.rt:31:5
 loop-less : tie.Need-loop-less Inv-loop μ-loop
-loop-less c = ?
+loop-less c = omega (arith, c .before .before .before .before .before .before .loop-test .taken, c .before .before .before .before .before .checked-trial .ensures .end)
 
--- src/write.rt:31:5
 loop-again : tie.Need-loop-again Inv-loop μ-loop
-loop-again c = ?
+loop-again c = writing-next (c .before .before .before .before .before .before .before .before .before .before .args .bytes .now) (c .before .before .before .before .before .before .before .before .before .before .args .list .now) (c .before .before .before .before .before .before .before .loop .inv) (c .before .before .before .before .before .before .loop-test .taken) (c .before .before .before .before .before .checked-trial .ensures) (c .before .before .put-trial .ensures)
 
--- src/write.rt:25:1
 same-length : tie.Need-same-length Inv-loop μ-loop
-same-length c = ?
+same-length c = c .before .loop .inv .same
 
--- src/write.rt:25:1
 returns : tie.Need-returns Inv-loop μ-loop
-returns c = ?
+returns c = writing-done (c .before .before .before .before .args .bytes .now) (c .before .before .before .before .args .list .now) (c .before .loop .inv) (c .loop-test .left)
 
 pub write-trials-spec : {M : Type 1} → statement M
 write-trials-spec =
