@@ -1,20 +1,21 @@
 -- What is wrong with a line of a list, and with the lines from it on. Assumes nothing.
 use mathlib.Core.Path.{_≡_, refl, sym, _∙_, ap}
 use mathlib.Core.Bool.{Bool, true, false, not, _&&_}
-use mathlib.Core.List.{List, [], _∷_}
+use mathlib.Core.List.{List, [], _∷_, _++_}
 use mathlib.Core.Option.{Option, none, some}
-use Prim.Native.Nat.{ℕ, suc, _+_, _≤_, _<_}
+use Prim.Native.Nat.{ℕ, suc, _≤_, _<_}
 use native.Mathlib.Omega.{arith}
 use lib.Dec.{eqb, ltb, leb}
 use lib.ListN.{length, drop}
 use borrow.Author.Tests.{eq-eqb, ne-eqb, lt-ltb, le-ltb, le-leb, lt-leb}
 use Rattle.semantics.specs.Call.{Cause, cause, firstOf}
 use Rattle.semantics.specs.Text.{fieldsOf}
+use Rattle.semantics.specs.ReadPage.{orElse}
 use Rattle.semantics.specs.Trials.{TrialLine, isTrial, trialIn, lineEnd, trialRangeCauses, trialCauses, badTrial}
 use Rattle.fields.specs.Cursor.{fieldsAt}
 use Rattle.list.specs.declared.parse.Trial.{Trial}
 use Rattle.list.specs.Lines.{lineOf, lineAt, Says}
-use Rattle.list.specs.Checks.{faultOf, faultIn, LineGood, refusal}
+use Rattle.list.specs.Checks.{faultOf, rangeCauses, orderCauses, faultIn, LineGood, refusal}
 
 -- one of the causes of 40 holds
 second-forty : (t : Bool) (cs : List Cause) → firstOf (cause t 40 ∷ cause true 40 ∷ cs) ≡ some 40
@@ -24,6 +25,12 @@ second-forty false cs = refl
 third-forty : (t u : Bool) (cs : List Cause) → firstOf (cause t 40 ∷ cause u 40 ∷ cause true 40 ∷ cs) ≡ some 40
 third-forty true u cs = refl
 third-forty false u cs = second-forty u cs
+
+-- the first of the causes of two lists
+first-append : (cs ds : List Cause) → firstOf (cs ++ ds) ≡ orElse (firstOf cs) (firstOf ds)
+first-append [] ds = refl
+first-append (cause true k ∷ cs) ds = refl
+first-append (cause false k ∷ cs) ds = first-append cs ds
 
 -- A line that is not line 1,025, in an ended text.
 module _ (s : List ℕ) (at before top n : ℕ) where
@@ -57,14 +64,22 @@ module _ (s : List ℕ) (at before top n : ℕ) where
         let m : l < 65536 = omega (arith, w .end) in
         rw (form-here, le-ltb (length s) l not-over, lt-ltb at 65536 (omega arith), lt-leb 65536 l m, line-says)
 
-    module _ (h : at ≤ 65535) (k : next < 65536) {number : ℕ} (f : faultOf number ≡ firstOf (trialRangeCauses top n before (lineOf line))) where
+    -- by the numbers for the range and for the order
+    module _ (h : at ≤ 65535) (k : next < 65536) (range order number : ℕ) (r : faultOf range ≡ firstOf (rangeCauses top n (lineOf line)))
+        (o : faultOf order ≡ firstOf (orderCauses before (line .trial))) (f : faultOf number ≡ orElse (faultOf range) (faultOf order)) where
+      both-told : faultIn s at before top n ≡ faultOf number
+      both-told =
+          range-told h k
+          ∙ first-append (rangeCauses top n (lineOf line)) (orderCauses before (line .trial))
+          ∙ sym (f ∙ ap (λ (x : Option ℕ). orElse x (faultOf order)) r ∙ ap (orElse (firstOf (rangeCauses top n (lineOf line)))) o)
+
       pub number-told : (number ≡ 0 → ⊥) → faultIn s at before top n ≡ some number
-      number-told m = range-told h k ∙ sym f ∙ rw (ne-eqb number 0 m)
+      number-told m = both-told ∙ rw (ne-eqb number 0 m)
 
       pub a-good-line : number ≡ 0 → LineGood s at before top n (line .trial) next
       a-good-line e =
           record {
-            good = range-told h k ∙ sym f ∙ rw (eq-eqb number 0 e);
+            good = both-told ∙ rw (eq-eqb number 0 e);
             is = ap (λ (t : TrialLine). t .trial) (w .is);
             lines = w .lines;
             end = w .end;

@@ -3,17 +3,16 @@ use mathlib.Core.Path.{_≡_, refl, sym, _∙_, ap, subst}
 use mathlib.Core.Bool.{true, false, _&&_}
 use mathlib.Core.List.{List, [], _∷_, append-nil}
 use mathlib.Core.Logic.{_⊎_, inl, inr, ⊎-elim}
-use Prim.Native.Nat.{ℕ, _+_, _≤_, _<_}
+use Prim.Native.Nat.{ℕ, _+_, _≤_}
 use native.Mathlib.Omega.{arith}
 use lib.Dec.{eqb}
 use lib.ListN.{length, getD, drop}
 use borrow.Author.Tests.{ne-eqb}
-use Rattle.semantics.specs.Text.{textLines, fieldsOf, field, isLetter, isNumber, numberIn}
+use Rattle.semantics.specs.Text.{textLines, isLetter, isNumber, numberIn}
 use Rattle.semantics.specs.Fields.{joined}
-use Rattle.semantics.specs.Trials.{trialForm, isTrial, trialIn, lineEnd}
+use Rattle.semantics.specs.Trials.{trialForm, isTrial, trialIn}
 use Rattle.semantics.proofs.TestLists.{fails}
 use Rattle.semantics.proofs.TextParts.{joined-fields-of}
-use Rattle.semantics.proofs.Soundness.{both-true}
 use Rattle.fields.specs.Cursor.{InText, fieldsAt, fieldAt, linesAfter, letterThen, numberBefore}
 use Rattle.fields.specs.declared.Field.{Field}
 use Rattle.fields.specs.declared.Field.the-variants.{Number}

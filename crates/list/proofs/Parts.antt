@@ -1,13 +1,13 @@
 -- A list as a whole: its ended lines, and the line that is not ended. Assumes nothing.
-use mathlib.Core.Path.{_≡_, refl, sym, _∙_, ap, subst}
-use mathlib.Core.List.{List, [], _∷_, _++_, append-nil}
+use mathlib.Core.Path.{_≡_, sym, _∙_, ap, subst}
+use mathlib.Core.List.{List, [], _∷_, _++_}
 use mathlib.Core.Option.{some}
 use Prim.Native.Nat.{ℕ, suc, _+_, _-_, _≤_, _<_}
 use native.Mathlib.Omega.{arith}
-use lib.ListN.{length, getD, take, drop, length-append, length-drop, drop-of-length-le, take-append-drop}
+use lib.ListN.{length, getD, take, drop, length-drop, drop-of-length-le, take-append-drop}
 use lib.Seq.{drop-cons, take-all, length-take-le, getD-take}
 use Rattle.semantics.specs.Text.{textLines}
-use Rattle.semantics.specs.Trials.{lineEnd, badTrial}
+use Rattle.semantics.specs.Trials.{badTrial}
 use Rattle.fields.specs.Cursor.{linesAfter}
 use Rattle.fields.proofs.Places.{byte-here}
 use Rattle.reader.proofs.LinePlaces.{line-here, other-front}
@@ -57,9 +57,9 @@ module _ (s : List ℕ) {end : ℕ} (w : Seeking s end) where
         record {
           inside = omega (arith, w .inside);
           line = other-front s (end - 1) m
-          ∙ ap (λ (i : ℕ). getD s (end - 1) 10 ∷ lineAt s i) k
-          ∙ ap (λ (t : List ℕ). getD s (end - 1) 10 ∷ t) (w .line)
-          ∙ sym (drop-cons s (end - 1) 10 seeking-inside ∙ ap (λ (i : ℕ). getD s (end - 1) 10 ∷ drop i s) k′);
+              ∙ ap (λ (i : ℕ). getD s (end - 1) 10 ∷ lineAt s i) k
+              ∙ ap (λ (t : List ℕ). getD s (end - 1) 10 ∷ t) (w .line)
+              ∙ sym (drop-cons s (end - 1) 10 seeking-inside ∙ ap (λ (i : ℕ). getD s (end - 1) 10 ∷ drop i s) k′);
         }
 
 -- the slice of the first `end` bytes

@@ -1,5 +1,5 @@
 -- The lines of an ended text, one after the other. Assumes nothing.
-use mathlib.Core.Path.{_≡_, refl, sym, _∙_, ap, subst}
+use mathlib.Core.Path.{_≡_, refl, _∙_, ap, subst}
 use mathlib.Core.List.{List, [], _∷_, _++_}
 use mathlib.Core.Option.{some}
 use Prim.Native.Nat.{ℕ, suc, _+_, _-_, _≤_, _<_}
@@ -7,7 +7,7 @@ use native.Mathlib.Omega.{arith}
 use native.Mathlib.Numerals.{add-one}
 use lib.ListN.{length, drop, drop-of-length-le}
 use Rattle.semantics.specs.Text.{textLines, fieldsOf}
-use Rattle.semantics.specs.Trials.{trialIn, lineEnd, badTrial}
+use Rattle.semantics.specs.Trials.{trialIn, badTrial}
 use Rattle.fields.specs.Cursor.{fieldsAt, linesAfter}
 use Rattle.reader.proofs.LinePlaces.{line-here}
 use Rattle.list.specs.declared.check.Checked.{Checked}
@@ -47,10 +47,10 @@ module _ (s : List ℕ) (top n : ℕ) {at k before : ℕ} (w : Checking s top n 
       record {
         before = before;
         rest = λ size ls m.
-        w .bad size ls m
-        ∙ ap (λ (ms : List (List ℕ)). badTrial top n size k at before (ms ++ ls)) e
-        ∙ ap (λ (x : ℕ). badTrial top n size x at before ls) i
-        ∙ ap (λ (x : ℕ). badTrial top n size (k - 1 + 1) x before ls) j;
+            w .bad size ls m
+            ∙ ap (λ (ms : List (List ℕ)). badTrial top n size k at before (ms ++ ls)) e
+            ∙ ap (λ (x : ℕ). badTrial top n size x at before ls) i
+            ∙ ap (λ (x : ℕ). badTrial top n size (k - 1 + 1) x before ls) j;
         count = omega (arith, w .count, w .least, ap length e);
         few = omega (arith, w .most);
       }
@@ -75,10 +75,10 @@ module _ (s : List ℕ) (top n : ℕ) {at k before : ℕ} (w : Checking s top n 
       checking-next {trial} {next} q =
           record {
             bad = λ size ls m.
-            here size ls m
-            ∙ passed-line s at before top n size k e (line-inside s at h ended) m (linesAfter (drop at s) ++ ls) (q .good)
-            ∙ rw (q .lines, ← q .end, add-one k)
-            (ap (λ (x : ℕ). badTrial top n size (suc k) next x (textLines (drop next s) ++ ls)) (says q));
+                here size ls m
+                ∙ passed-line s at before top n size k e (line-inside s at h ended) m (linesAfter (drop at s) ++ ls) (q .good)
+                ∙ rw (q .lines, ← q .end, add-one k)
+                (ap (λ (x : ℕ). badTrial top n size (suc k) next x (textLines (drop next s) ++ ls)) (says q));
             count = w .count ∙ rw (line-here s at h, q .lines) (omega arith);
             least = omega (arith, w .least);
             most = omega (arith, w .most);

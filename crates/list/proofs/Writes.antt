@@ -1,10 +1,10 @@
 -- The numbers that the second pass writes, line by line. Assumes nothing.
 use mathlib.Core.Path.{_≡_, refl, sym, _∙_, ap, subst}
 use mathlib.Core.Bool.{true}
-use mathlib.Core.List.{List, [], _∷_, _++_}
-use Prim.Native.Nat.{ℕ, suc, _+_, _≤_, _<_}
+use mathlib.Core.List.{List, _∷_, _++_}
+use Prim.Native.Nat.{ℕ, _+_, _≤_, _<_}
 use native.Mathlib.Omega.{arith}
-use lib.ListN.{length, drop, drop-of-length-le, length-append}
+use lib.ListN.{length, drop, drop-of-length-le}
 use lib.Seq.{sets, length-sets}
 use Rattle.semantics.specs.Text.{textLines, fieldsOf}
 use Rattle.semantics.specs.Trials.{isTrial, trialIn, trialLinesIn}

@@ -3,13 +3,13 @@ use mathlib.Core.Path.{_≡_}
 use mathlib.Core.Bool.{true, cond}
 use mathlib.Core.List.{List, [], _∷_, _++_}
 use mathlib.Core.Option.{Option, none, some}
-use Prim.Native.Nat.{ℕ, suc, _+_, _-_, _≤_}
-use lib.Dec.{eqb}
+use Prim.Native.Nat.{ℕ, _+_, _-_, _≤_}
+use lib.Dec.{eqb, ltb}
 use lib.ListN.{length, getD, take, drop}
-use Rattle.semantics.specs.Call.{firstOf}
+use Rattle.semantics.specs.Call.{Cause, cause, firstOf}
 use Rattle.semantics.specs.Text.{textLines, fieldsOf}
 use Rattle.semantics.specs.ReadPage.{Refusal}
-use Rattle.semantics.specs.Trials.{isTrial, trialIn, lineEnd, trialCauses, badTrial, trialLinesIn}
+use Rattle.semantics.specs.Trials.{TrialLine, isTrial, trialIn, lineEnd, trialRangeCauses, trialCauses, badTrial, trialLinesIn}
 use Rattle.fields.specs.Cursor.{fieldsAt, linesAfter}
 use Rattle.list.specs.Codes.{listCodes}
 use Rattle.list.specs.Lines.{lineAt}
@@ -21,6 +21,13 @@ use Rattle.list.specs.declared.check.Checked.the-variants.{Good, Bad}
 -- the number of a refusal, where 0 is none
 abbrev pub faultOf : ℕ → Option ℕ
 faultOf number = cond (eqb number 0) none (some number)
+
+-- the causes of 41, and the cause of 42 where `before` is the trial of the line before
+abbrev pub rangeCauses : (top n : ℕ) → TrialLine → List Cause
+rangeCauses top n t = take 4 (trialRangeCauses top n 0 t)
+
+abbrev pub orderCauses : (before trial : ℕ) → List Cause
+orderCauses before trial = cause (ltb trial before) 42 ∷ []
 
 -- a text whose last byte is 10, or an empty one
 abbrev pub Ended : List ℕ → Type 0

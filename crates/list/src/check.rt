@@ -3,18 +3,18 @@
 ghost use mathlib.Core.Path.{_≡_};
 ghost use Prim.Native.Nat.{_≤_};
 ghost use Rattle.semantics.specs.Call.{firstOf};
-ghost use Rattle.semantics.specs.Trials.{trialRangeCauses};
+ghost use Rattle.semantics.specs.ReadPage.{orElse};
 ghost use Rattle.fields.specs.Cursor.{InText};
 ghost use Rattle.list.specs.Lines.{lineOf};
-ghost use Rattle.list.specs.Checks.{faultOf, Ended, EndedPart, CheckedLine, LinesAs, CheckedAs};
+ghost use Rattle.list.specs.Checks.{faultOf, rangeCauses, orderCauses, Ended, EndedPart, CheckedLine, LinesAs, CheckedAs};
 use crate::ListAnswer;
 use crate::parse::Parsed;
 use crate::parse::Trial;
 use crate::parse::parse_trial;
 
-// The number of the refusal for a line that has the form, where `before` is the trial of the line before it; 0 for none.
-fn range_fault(line: Trial, before: u16, top: u16, conditions: u16) -> u16
-    ensures { λ r. ⌜ faultOf r ≡ firstOf (trialRangeCauses top conditions before (lineOf line)) ⌝ }
+// The number of the refusal for a line whose condition or ends are out of range; 0 for none.
+fn range_fault(line: Trial, top: u16, conditions: u16) -> u16
+    ensures { λ r. ⌜ faultOf r ≡ firstOf (rangeCauses top conditions (lineOf line)) ⌝ }
 {
     if conditions <= line.condition {
         return 41;
@@ -28,10 +28,27 @@ fn range_fault(line: Trial, before: u16, top: u16, conditions: u16) -> u16
     if line.high < line.low {
         return 41;
     }
-    if line.trial < before {
+    0
+}
+
+// The number of the refusal for a line whose trial is below that of the line before it; 0 for none.
+fn order_fault(trial: u16, before: u16) -> u16
+    ensures { λ r. ⌜ faultOf r ≡ firstOf (orderCauses before trial) ⌝ }
+{
+    if trial < before {
         return 42;
     }
     0
+}
+
+// The first of two numbers, where 0 is none.
+fn first_fault(first: u16, second: u16) -> u16
+    ensures { λ r. ⌜ faultOf r ≡ orElse (faultOf first) (faultOf second) ⌝ }
+{
+    if first != 0 {
+        return first;
+    }
+    second
 }
 
 // What a line comes to: its trial and the place of the next line, or the number of its refusal.
@@ -51,7 +68,9 @@ fn check_line(bytes: &[u8], at: usize, before: u16, top: u16, conditions: u16) -
     if 65536 <= next {
         return Checked::Bad(40);
     }
-    let number = range_fault(line, before, top, conditions);
+    let range = range_fault(line, top, conditions);
+    let order = order_fault(line.trial, before);
+    let number = first_fault(range, order);
     if number != 0 {
         return Checked::Bad(number);
     }

@@ -28,11 +28,17 @@ returns-2 c = far-told (c .before .before .before .before .before .before .args 
 range-fault-requires : tie.Need-range-fault-requires
 range-fault-requires c κs = search needs
 
+order-fault-requires : tie.Need-order-fault-requires
+order-fault-requires c κs = search needs
+
+first-fault-requires : tie.Need-first-fault-requires
+first-fault-requires c κs = search needs
+
 returns-3 : tie.Need-returns-3
-returns-3 c = number-told (c .before .before .before .before .before .before .before .before .args .bytes .now) (c .before .before .before .before .before .before .before .before .args .at) (c .before .before .before .before .before .before .before .before .args .before) (c .before .before .before .before .before .before .before .before .args .top) (c .before .before .before .before .before .before .before .before .args .conditions) (the-line (c .before .before .before)) (c .before .before .before .before .before .before .before .before .pre .1) (c .before .before .if1 .left) (c .before .range-fault .ensures) (c .if2 .taken)
+returns-3 c = number-told (c .before .before .before .before .before .before .before .before .before .before .args .bytes .now) (c .before .before .before .before .before .before .before .before .before .before .args .at) (c .before .before .before .before .before .before .before .before .before .before .args .before) (c .before .before .before .before .before .before .before .before .before .before .args .top) (c .before .before .before .before .before .before .before .before .before .before .args .conditions) (the-line (c .before .before .before .before .before)) (c .before .before .before .before .before .before .before .before .before .before .pre .1) (c .before .before .before .before .if1 .left) (c .before .before .before .range-fault .result) (c .before .before .order-fault .result) (c .before .first-fault .result) (c .before .before .before .range-fault .ensures) (c .before .before .order-fault .ensures) (c .before .first-fault .ensures) (c .if2 .taken)
 
 returns-4 : tie.Need-returns-4
-returns-4 c = a-good-line (c .before .before .before .before .before .before .before .before .args .bytes .now) (c .before .before .before .before .before .before .before .before .args .at) (c .before .before .before .before .before .before .before .before .args .before) (c .before .before .before .before .before .before .before .before .args .top) (c .before .before .before .before .before .before .before .before .args .conditions) (the-line (c .before .before .before)) (c .before .before .before .before .before .before .before .before .pre .1) (c .before .before .if1 .left) (c .before .range-fault .ensures) (c .if2 .left)
+returns-4 c = a-good-line (c .before .before .before .before .before .before .before .before .before .before .args .bytes .now) (c .before .before .before .before .before .before .before .before .before .before .args .at) (c .before .before .before .before .before .before .before .before .before .before .args .before) (c .before .before .before .before .before .before .before .before .before .before .args .top) (c .before .before .before .before .before .before .before .before .before .before .args .conditions) (the-line (c .before .before .before .before .before)) (c .before .before .before .before .before .before .before .before .before .before .pre .1) (c .before .before .before .before .if1 .left) (c .before .before .before .range-fault .result) (c .before .before .order-fault .result) (c .before .first-fault .result) (c .before .before .before .range-fault .ensures) (c .before .before .order-fault .ensures) (c .before .first-fault .ensures) (c .if2 .left)
 
 pub check-line-spec : {M : Type 1} → statement M
 check-line-spec =
@@ -44,5 +50,7 @@ check-line-spec =
     returns
     returns-2
     range-fault-requires
+    order-fault-requires
+    first-fault-requires
     returns-3
     returns-4)

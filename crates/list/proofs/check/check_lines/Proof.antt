@@ -37,7 +37,7 @@ enum-known-checked-2 : tie.Need-enum-known-checked-2 Inv-loop μ-loop
 enum-known-checked-2 c = search needs
 
 returns-2 : tie.Need-returns-2 Inv-loop μ-loop
-returns-2 c = 
+returns-2 c =
     let a = c .before .before .before .before .before .before .before .before .args in
     let l = c .before .before .before .before .before .before .loop in
     refused-line (a .bytes .now) (a .top) (a .conditions) (l .inv) (c .before .before .before .before .before .before .before .before .pre) (c .before .before .before .before .before .loop-test .taken) (c .before .before .before .before .if1 .left)

@@ -1,6 +1,5 @@
 -- `ended_length` meets its contract: a turn goes back by one byte, `Seeking`. Assumes nothing.
 use borrow.Author.Needs.{needs}
-use native.Mathlib.Omega.{arith}
 use Rattle.list.proofs.Parts.{Seeking, seeking-first, seeking-inside, seeking-found, seeking-next, seeking-none}
 use Rattle.list.proofs.check.ended_length.Statement.{statement}
 use Rattle.list.proofs.check.ended_length.Tie as tie

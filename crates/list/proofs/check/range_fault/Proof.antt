@@ -37,25 +37,13 @@ returns-4 c =
 
 returns-5 : tie.Need-returns-5
 returns-5 c =
-    let a = c .before .before .before .before .before .before .before .before .before .before .args in
+    let a = c .before .before .before .before .before .before .before .before .args in
     rw (
-      lt-leb (a .conditions) (a .line .condition) (c .before .before .before .before .before .before .before .before .if1 .left),
-      le-ltb (a .top) (a .line .low) (c .before .before .before .before .before .before .if2 .left),
-      le-ltb (a .top) (a .line .high) (c .before .before .before .before .if3 .left),
-      le-ltb (a .line .high) (a .line .low) (c .before .before .if4 .left),
-      lt-ltb (a .line .trial) (a .before) (c .if5 .taken),
-    )
-
-returns-6 : tie.Need-returns-6
-returns-6 c =
-    let a = c .before .before .before .before .before .before .before .before .before .before .args in
-    rw (
-      lt-leb (a .conditions) (a .line .condition) (c .before .before .before .before .before .before .before .before .if1 .left),
-      le-ltb (a .top) (a .line .low) (c .before .before .before .before .before .before .if2 .left),
-      le-ltb (a .top) (a .line .high) (c .before .before .before .before .if3 .left),
-      le-ltb (a .line .high) (a .line .low) (c .before .before .if4 .left),
-      le-ltb (a .line .trial) (a .before) (c .if5 .left),
+      lt-leb (a .conditions) (a .line .condition) (c .before .before .before .before .before .before .if1 .left),
+      le-ltb (a .top) (a .line .low) (c .before .before .before .before .if2 .left),
+      le-ltb (a .top) (a .line .high) (c .before .before .if3 .left),
+      le-ltb (a .line .high) (a .line .low) (c .if4 .left),
     )
 
 pub range-fault-spec : {M : Type 1} → statement M
-range-fault-spec = tie.close (tie.spec returns returns-2 returns-3 returns-4 returns-5 returns-6)
+range-fault-spec = tie.close (tie.spec returns returns-2 returns-3 returns-4 returns-5)

@@ -3,12 +3,11 @@ use borrow.Author.Needs.{needs}
 use mathlib.Core.Path.{_≡_, sym, _∙_}
 use Prim.Native.Nat.{_+_}
 use native.Mathlib.Omega.{arith}
-use lib.ListN.{getD}
+use lib.ListN.{getD, drop}
+use Rattle.fields.specs.Cursor.{fieldsAt}
 use Rattle.fields.proofs.Places.{byte-here}
 use Rattle.fields.proofs.Letters.{LetterThen, plain, letter-next, letter-here, letter-gone}
 use Rattle.fields.proofs.Tokens.{NumberThen, number-then, no-number-then, comma-class}
-use Rattle.fields.specs.Cursor.{fieldsAt}
-use lib.ListN.{drop}
 use Rattle.list.proofs.Forms.{other-letter, gone-letter, no-trial, no-condition, front-then}
 use Rattle.list.proofs.parse.parse_front.Statement.{statement}
 use Rattle.list.proofs.parse.parse_front.Tie as tie
