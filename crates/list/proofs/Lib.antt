@@ -8,6 +8,9 @@ pub mod Faults
 pub mod Passes
 -- the list as a whole
 pub mod Parts
--- what the second pass writes, and what reading a list comes to
+-- a list that is not bad, the numbers of its lines, and how they are written
+pub mod GoodLines
+pub mod Codes
 pub mod Writes
+-- what reading a list comes to
 pub mod Results

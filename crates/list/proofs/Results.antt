@@ -1,49 +1,32 @@
 -- What reading a list answers and leaves, by what the two passes come to. Assumes nothing.
 use mathlib.Core.Path.{_≡_, refl, sym, _∙_, ap, subst}
-use mathlib.Core.List.{List, [], _∷_, _++_}
-use mathlib.Core.Option.{Option, none, some}
-use Prim.Native.Nat.{ℕ, suc, _+_, _*_, _≤_}
+use mathlib.Core.List.{List, _++_}
+use Prim.Native.Nat.{ℕ, _+_, _*_, _≤_}
 use native.Mathlib.Omega.{arith}
 use lib.ListN.{length, drop}
 use lib.Seq.{sets, sets-eq}
-use borrow.Author.Tests.{not-false}
-use Rattle.semantics.specs.Call.{firstOf}
-use Rattle.semantics.specs.Text.{textLines, fieldsOf}
-use Rattle.semantics.specs.ReadPage.{placed, toldAt}
-use Rattle.semantics.specs.Trials.{TrialLine, isTrial, trialIn, lineEnd, trialCauses, badTrial, trialLinesIn}
-use Rattle.semantics.proofs.FieldRanges.{some-none, else-none}
-use Rattle.semantics.proofs.Invariant.{no-cause-holds}
+use Rattle.semantics.specs.Page.{Page}
+use Rattle.semantics.specs.Text.{textLines}
+use Rattle.semantics.specs.Trials.{listRefusal, trialLinesIn}
 use Rattle.list.specs.declared.ListAnswer.{ListAnswer}
 use Rattle.list.specs.declared.ListAnswer.the-variants.{Read, Refused}
-use Rattle.list.specs.Codes.{listCodes}
-use Rattle.list.specs.Checks.{Accepted, CheckedAs, AllTrials, codesFrom, LinesFit}
-use Rattle.list.specs.Answers.{ListRefused, ListRead}
+use Rattle.list.specs.Checks.{badIn, Accepted, CheckedAs, codesFrom, LinesFit}
+use Rattle.list.specs.Answers.{ListRefused, ListRead, ListAs}
+use Rattle.list.proofs.GoodLines.{all-trials}
+use Rattle.list.proofs.Codes.{length-trials, length-codes}
 
--- nothing is told where no cause holds
-told-none : (k : ℕ) (o : Option ℕ) → toldAt k (placed 0 o) ≡ none → o ≡ none
-told-none k none e = refl
-told-none k (some number) e = some-none e
+-- what is wrong with a list for a page
+pub refusal-for : (page : Page) (bytes : List ℕ) → listRefusal page bytes ≡ badIn bytes (page .top) (page .conditions)
+unfolding listRefusal
+refusal-for page bytes = refl
 
--- the lines of a list that is not bad have the form
-pub all-trials : (top n size k at before : ℕ) (ls : List (List ℕ)) → badTrial top n size k at before ls ≡ none → AllTrials ls
-unfolding badTrial
-all-trials top n size k at before [] e = tt
-all-trials top n size k at before (l ∷ ls) e =
-    let t = trialIn (fieldsOf l) .trial in
-    let cs = trialCauses top n size k at before l in
-    let w = else-none (toldAt k (placed 0 (firstOf cs))) (badTrial top n size (suc k) (lineEnd at l) t ls) e in
-    let c = no-cause-holds cs (told-none k (firstOf cs) (w .0)) in
-    (not-false (isTrial (fieldsOf l)) (c .0), all-trials top n size (suc k) (lineEnd at l) t ls (w .1))
+-- the answer of `read_list` by its cases
+module _ (bytes : List ℕ) (top n : ℕ) (list list′ : List ℕ) {r : ListAnswer} (q : ListAs bytes top n list list′ r) where
+  pub refused-told : {number line : ℕ} → r ≡ Refused number line → ListRefused bytes top n number line list list′
+  refused-told e = subst (ListAs bytes top n list list′) e q
 
-pub length-trials : (ls : List (List ℕ)) → length (trialLinesIn ls) ≡ length ls
-unfolding trialLinesIn
-length-trials [] = refl
-length-trials (l ∷ ls) = ap suc (length-trials ls)
-
-pub length-codes : (ts : List TrialLine) → length (listCodes ts) ≡ 4 * length ts
-unfolding listCodes
-length-codes [] = refl
-length-codes (t ∷ ts) = omega (arith, length-codes ts)
+  pub read-told : {k : ℕ} → r ≡ Read k → ListRead bytes top n k list list′
+  read-told e = subst (ListAs bytes top n list list′) e q
 
 module _ (s : List ℕ) (top n : ℕ) (list : List ℕ) {r : ListAnswer} (q : CheckedAs s top n r) where
   pub list-refused : {number line : ℕ} → r ≡ Refused number line → ListRefused s top n number line list list
