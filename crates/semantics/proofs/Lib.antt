@@ -55,6 +55,8 @@ pub mod OutputRow
 pub mod Invariant
 pub mod Areas
 pub mod Demand
+-- a drive that is allowed enough, from any list of queries
+pub mod PlainRuns
 -- evaluations on run areas
 pub mod Steps
 -- the operations, cause by cause
