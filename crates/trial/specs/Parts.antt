@@ -78,5 +78,6 @@ pub record TrialPut (page : Page) (list : List ℕ) (from lines : ℕ) (out out�
   pub first : trialsOf (linesFrom list from lines) ≡ trial ∷ trialsOf (linesFrom list end lines)
   pub counted : count ≡ length (queriesOf (page .lines))
   pub few : count ≤ 1024
+  pub fits : size ≤ 27648
   pub wrote : (A : Answers) → AreAnswers (changedPage page (trial .lines)) A
       → Wrote out 0 (printed (trialAnswers (trial .number) A (queriesOf (page .lines)))) out′ size
