@@ -1,11 +1,12 @@
 //! The test program; see the library's notes for its arguments.
 
+use std::path::Path;
 use std::process::exit;
 
 use outside::{attach, cases, runner, trials};
 
 const USAGE: &str =
-    "arguments: none | calls [quick] | quick | only TEXT | item NUMBER only TEXT | stack | attach PATH | trials PATH | documents PATH | mutants [all]";
+    "arguments: none | calls [quick] | quick | only TEXT | item NUMBER only TEXT | stack | attach PATH | trials PATH | documents PATH | mutants [all | only TEXT]";
 
 /// This program as the stand-in for another.
 fn stand_in(word: &str) -> Vec<String> {
@@ -44,7 +45,7 @@ fn main() {
             runner::run(&attach::cases(), 10, text)
         }
         ["trials", path] => {
-            trials::set_program(path);
+            trials::set_program(Path::new(path));
             runner::run(&trials::cases(), 1, "")
         }
         ["trials", "standin", "only", text] => {
@@ -53,12 +54,14 @@ fn main() {
         }
         ["documents", path] => {
             let _ = attach::PROGRAM.set(vec![path.to_string()]);
+            trials::set_program(&Path::new(path).with_file_name("trials"));
             let mut cases = outside::examples::cases();
             cases.extend(outside::documents::cases());
             runner::run(&cases, 1, "")
         }
-        ["mutants"] => outside::standin::mutants(false),
-        ["mutants", "all"] => outside::standin::mutants(true),
+        ["mutants"] => outside::standin::mutants(false, ""),
+        ["mutants", "all"] => outside::standin::mutants(true, ""),
+        ["mutants", "only", text] => outside::standin::mutants(false, text),
         ["standin-attach"] => exit(outside::standin::attach()),
         ["standin-trials"] => exit(outside::standin::trials()),
         _ => {

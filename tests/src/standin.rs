@@ -1589,69 +1589,63 @@ fn trials_lines(page: &Page, list: &[u8]) -> Result<Vec<Tried>, (Refusal, usize)
     if fault("trials_long_list_refused_at_line_0") && list.len() > LIST_MAX {
         return Err((LIST_FORM, 0));
     }
-    let list = &trials_overlooked(list);
-    let mut ranges = Page {
-        top: page.top,
-        count: page.count,
+    let list = trials_overlooked(list);
+    let ranges = Page {
+        top: page.top + u16::from(fault("trials_grade_over_top_taken")),
+        count: page.count + u16::from(fault("trials_condition_c_taken")),
         lines: Vec::new(),
     };
-    ranges.count += u16::from(fault("trials_condition_c_taken"));
-    ranges.top += u16::from(fault("trials_grade_over_top_taken"));
-    let mut result = list::read(&ranges, list);
     let whole: Vec<&[u8]> = list.split_inclusive(|byte| *byte == 10).collect();
-    let alone = |line: usize| list::read(&ranges, whole[line - 1]);
-    let trial_of = |line: usize| {
-        let any = String::from_utf8_lossy(whole[line - 1]).into_owned();
-        let field = any.split(',').nth(1).unwrap_or_default().parse::<u32>();
-        field.unwrap_or(0)
-    };
-    if fault("trials_1025_lines_taken") && whole.len() == LIST_LINES_MAX + 1 {
-        let most: Vec<u8> = whole[..LIST_LINES_MAX].concat();
-        if let (Ok(mut lines), Ok(last)) = (list::read(&ranges, &most), alone(whole.len())) {
-            lines.extend(last);
-            result = Ok(lines);
-        }
+    let read = list::read(&ranges, &list);
+    let mut lines = read.or_else(|refusal| trials_refused(&ranges, &whole, refusal))?;
+    if fault("trials_1024_lines_refused") && lines.len() == LIST_LINES_MAX {
+        return Err((LIST_FORM, LIST_LINES_MAX));
     }
-    if fault("trials_1024_lines_refused") && whole.len() == LIST_LINES_MAX && result.is_ok() {
-        result = Err((LIST_FORM, LIST_LINES_MAX));
-    }
-    if let (Err((number, line)), true) = (result.clone(), result != Err((LIST_FORM, 0))) {
-        if fault("trials_42_before_41")
-            && number == LIST_RANGE
-            && line > 1
-            && trial_of(line) < trial_of(line - 1)
-        {
-            result = Err((TRIAL_FALLS, line));
-        }
-        if fault("trials_last_bad_line_decides") {
-            let later = (line + 1..=whole.len()).filter_map(|at| Some((alone(at).err()?.0, at)));
-            result = Err(later.last().unwrap_or((number, line)));
-        }
-        if fault("trials_falling_number_taken") && number == TRIAL_FALLS {
-            result = (1..=whole.len())
-                .map(alone)
-                .collect::<Result<Vec<_>, _>>()
-                .map(|all| all.concat());
-        }
-        if fault("trials_line_from_zero") {
-            result = Err((number, line - 1));
-        }
-    }
-    let mut lines = result?;
     if fault("trials_equal_number_refused") {
-        let equal = lines
-            .windows(2)
-            .position(|pair| pair[0].trial == pair[1].trial);
-        if let Some(at) = equal {
+        let mut pairs = lines.windows(2);
+        if let Some(at) = pairs.position(|pair| pair[0].trial == pair[1].trial) {
             return Err((TRIAL_FALLS, at + 2));
         }
     }
+    // What a fault lets in has no place in the page.
     lines.retain(|line| line.cond < page.count);
     for line in &mut lines {
         line.low = line.low.min(page.top);
         line.high = line.high.min(page.top);
     }
     Ok(lines)
+}
+
+/// What becomes of a list that is refused.
+fn trials_refused(
+    ranges: &Page,
+    lines: &[&[u8]],
+    (number, line): (Refusal, usize),
+) -> Result<Vec<Tried>, (Refusal, usize)> {
+    let alone = |at: usize| list::read(ranges, lines[at - 1]);
+    let trial = |at: usize| {
+        let line = String::from_utf8_lossy(lines[at - 1]).into_owned();
+        let field = line.split(',').nth(1).map(str::parse::<u32>);
+        field.and_then(Result::ok).unwrap_or(0)
+    };
+    if fault("trials_1025_lines_taken") && lines.len() == LIST_LINES_MAX + 1 {
+        let mut most = list::read(ranges, &lines[..LIST_LINES_MAX].concat())?;
+        most.extend(alone(lines.len())?);
+        return Ok(most);
+    }
+    if fault("trials_falling_number_taken") && number == TRIAL_FALLS {
+        let all: Result<Vec<_>, _> = (1..=lines.len()).map(alone).collect();
+        return all.map(|all| all.concat());
+    }
+    if fault("trials_42_before_41") && number == LIST_RANGE && line > 1 {
+        let falls = trial(line) < trial(line - 1);
+        return Err((if falls { TRIAL_FALLS } else { number }, line));
+    }
+    if fault("trials_last_bad_line_decides") {
+        let later = (line + 1..=lines.len()).filter_map(|at| Some((alone(at).err()?.0, at)));
+        return Err(later.last().unwrap_or((number, line)));
+    }
+    Err((number, line - usize::from(fault("trials_line_from_zero"))))
 }
 
 /// The trials of a list.
@@ -3821,10 +3815,11 @@ pub unsafe extern "C" fn simjorad_season(
     }
 }
 
-/// Plants one fault after another and runs the case that is named beside it, or all cases; true if every fault is noticed.
-pub fn mutants(every_case: bool) -> bool {
+/// Plants one fault after another and runs the case that is named beside it, or all cases; true if every fault is noticed. `only` keeps the
+/// faults whose name contains it.
+pub fn mutants(every_case: bool, only: &str) -> bool {
     let (mut noticed, mut missed) = (0, 0);
-    for (name, words, case) in FAULTS {
+    for (name, words, case) in FAULTS.iter().filter(|(name, ..)| name.contains(only)) {
         let words = match every_case && !words.contains("standin") {
             true => "quick",
             false => words,
