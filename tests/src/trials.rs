@@ -1,6 +1,8 @@
 //! Tests of the program `trials`: a page and a list of trials in the files `page` and `trials` of its folder, its answer on its standard
 //! output. Document 02, ticket 8.
 
+use std::io::ErrorKind;
+use std::os::unix::fs::symlink;
 use std::path::{Path, PathBuf};
 use std::process::Command;
 use std::sync::atomic::{AtomicU64, Ordering::SeqCst};
@@ -40,24 +42,29 @@ struct Folder(PathBuf);
 
 impl Folder {
     fn new(files: &[(&str, File)]) -> Check<Folder> {
-        static NEXT: AtomicU64 = AtomicU64::new(0);
-        let name = format!(
-            "simjorad-trials-{}-{}",
-            std::process::id(),
-            NEXT.fetch_add(1, SeqCst)
-        );
-        let folder = Folder(std::env::temp_dir().join(name));
-        let lay_out = || {
-            std::fs::create_dir(&folder.0)?;
-            for (name, bytes) in files {
-                if let Some(bytes) = bytes {
-                    std::fs::write(folder.0.join(name), bytes)?;
-                }
+        let folder = Folder::empty().map_err(|error| format!("no folder: {error}"))?;
+        for (name, bytes) in files {
+            if let Some(bytes) = bytes {
+                let written = std::fs::write(folder.0.join(name), bytes);
+                written.map_err(|error| format!("{name}: {error}"))?;
             }
-            Ok(())
-        };
-        lay_out().map_err(|error: std::io::Error| format!("{}: {error}", folder.0.display()))?;
+        }
         Ok(folder)
+    }
+
+    /// A folder with a name that no other has.
+    fn empty() -> std::io::Result<Folder> {
+        static NEXT: AtomicU64 = AtomicU64::new(0);
+        loop {
+            let number = NEXT.fetch_add(1, SeqCst);
+            let name = format!("simjorad-trials-{}-{number}", std::process::id());
+            let path = std::env::temp_dir().join(name);
+            match std::fs::create_dir(&path) {
+                Ok(()) => return Ok(Folder(path)),
+                Err(error) if error.kind() == ErrorKind::AlreadyExists => {}
+                Err(error) => return Err(error),
+            }
+        }
     }
 
     /// The names of what the folder holds, sorted.
@@ -319,7 +326,7 @@ fn stated_answers(trial: &mut Trial, _: u64) -> Check {
     Ok(())
 }
 
-/// A file that is missing, empty, or a link to no file; and nothing is read from standard input in its place.
+/// A file that is missing, empty, or a link that leads to no file; and nothing is read from standard input in its place.
 fn missing_files(trial: &mut Trial, _: u64) -> Check {
     let page: &[u8] = b"G,10,1\nF,0,5,6\nQ,K,0\n";
     let list: &[u8] = b"T,1,0,1,1\n";
@@ -335,14 +342,18 @@ fn missing_files(trial: &mut Trial, _: u64) -> Check {
         ([("page", None), ("trials", Some(list))], "page", no_page),
         ([("page", Some(page)), ("trials", None)], "trials", no_list),
     ] {
-        trial.engine.calls += 2;
+        trial.engine.calls += 4;
         let folder = Folder::new(&files)?;
         for given in [page, list] {
             same_output(&run_in(&folder, given, LIMIT)?.out, wanted)?;
         }
-        std::os::unix::fs::symlink("nothing", folder.0.join(link))
-            .map_err(|error| error.to_string())?;
-        same_output(&run_in(&folder, b"", LIMIT)?.out, wanted)?;
+        // To a file that is not there, and to itself.
+        let place = folder.0.join(link);
+        for target in ["nothing", link] {
+            symlink(target, &place).map_err(|error| error.to_string())?;
+            same_output(&run_in(&folder, b"", LIMIT)?.out, wanted)?;
+            std::fs::remove_file(&place).map_err(|error| error.to_string())?;
+        }
     }
     Ok(())
 }
@@ -516,7 +527,9 @@ fn page_first(trial: &mut Trial, _: u64) -> Check {
         "T,0,9,0,0\n",
         "T,1,0,0,0\nT,0,0,0,0\n",
     ];
+    let too_many = format!("G,10,3\n{}", "Q,K,0\n".repeat(LINES_MAX + 1));
     for (page, refusal) in [
+        (&*too_many, "refused,5,1026\n"),
         ("\n", "refused,3,1\n"),
         ("G,10,3", "refused,2,0\n"),
         ("G,10\n", "refused,3,1\n"),
