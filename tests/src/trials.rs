@@ -916,38 +916,57 @@ fn spoilt_pages(trial: &mut Trial, _: u64) -> Check {
     compare(trial, &text, &list)
 }
 
-/// A thousand trials of a page, in less than this time from the program's start to its end. The answers of the first trials are compared,
-/// the others counted.
-fn timed(trial: &mut Trial, item: u64, page: &Page, compared: u16, limit: Duration) -> Check {
+/// A thousand trials of a page.
+struct Thousand {
+    page: Page,
+    /// The answers of so many trials are compared, those of the others counted.
+    compared: u16,
+    /// The program takes less time than this, from its start to its end.
+    limit: Duration,
+    /// The quickest of so many runs counts.
+    runs: usize,
+}
+
+fn timed(trial: &mut Trial, item: u64, thousand: &Thousand) -> Check {
     trial.pages += 1;
-    trial.engine.calls += 1;
+    let page = &thousand.page;
     let lines = gen::thousand_trials(&mut trial.rng, page);
     figure("the lines", lines.len(), LIST_LINES_MAX)?;
     figure("the trials", list::trials(&lines).len(), 1000)?;
     let is_query = |line: &&Line| matches!(line, Line::Query { .. });
     let count = 1000 * page.lines.iter().filter(is_query).count();
     let (text, list) = (page.text(), list::text(&lines));
-    let first = lines.partition_point(|line| line.trial < compared);
+    let first = lines.partition_point(|line| line.trial < thousand.compared);
     let wanted = expected_fast(&text, &list::text(&lines[..first]));
     let (start, _) = wanted.split_once("end,").ok_or(wanted.clone())?;
-    // The reference and the program each have the time of an item.
-    slot::mine().begin_item(item);
-    let ended = run_program(Some(&text), Some(&list), limit)?;
-    trial.engine.longest = trial.engine.longest.max(ended.time);
-    let got = String::from_utf8_lossy(&ended.out).into_owned();
-    same_output(&ended.out[..start.len().min(ended.out.len())], start)?;
-    figure("the lines of the output", got.lines().count(), count + 2)?;
-    let last = format!("end,{count}");
-    figure("its last line", got.lines().last(), Some(&*last))?;
-    match ended.time < limit {
-        true => Ok(()),
-        false => Err(format!("it takes {:.1} s", ended.time.as_secs_f64())),
+    let mut quickest = Duration::MAX;
+    for _ in 0..thousand.runs {
+        trial.engine.calls += 1;
+        // The reference and each run have the time of an item.
+        slot::mine().begin_item(item);
+        let ended = run_program(Some(&text), Some(&list), MINUTE)?;
+        let got = String::from_utf8_lossy(&ended.out).into_owned();
+        same_output(&ended.out[..start.len().min(ended.out.len())], start)?;
+        figure("the lines of the output", got.lines().count(), count + 2)?;
+        let last = format!("end,{count}");
+        figure("its last line", got.lines().last(), Some(&*last))?;
+        trial.engine.longest = trial.engine.longest.max(ended.time);
+        quickest = quickest.min(ended.time);
+        if quickest < thousand.limit {
+            return Ok(());
+        }
     }
+    Err(format!("it takes {:.1} s", quickest.as_secs_f64()))
 }
 
 fn typical_time(trial: &mut Trial, item: u64) -> Check {
-    let seconds = Duration::from_secs(2);
-    timed(trial, item, &gen::bench_typical(), 1000, seconds)
+    let typical = Thousand {
+        page: gen::bench_typical(),
+        compared: 1000,
+        limit: Duration::from_secs(2),
+        runs: 3,
+    };
+    timed(trial, item, &typical)
 }
 
 /// The page that the measurements call largest, then those of `gen::limit_page`, at every limit but that of queries: each has one in each
@@ -966,5 +985,11 @@ fn largest_time(trial: &mut Trial, item: u64) -> Check {
             page
         }
     };
-    timed(trial, item, &page, 200, MINUTE)
+    let largest = Thousand {
+        page,
+        compared: 200,
+        limit: MINUTE,
+        runs: 1,
+    };
+    timed(trial, item, &largest)
 }
