@@ -9,7 +9,7 @@ use native.Mathlib.Nat.{mul-one, mul-add, mul-le-mul-left}
 use native.Mathlib.Omega.{arith}
 use lib.ListN.{length, getD, take, drop, length-append}
 use lib.Seq.{take-at}
-use borrow.Author.Tests.{le-leb, lt-leb}
+use borrow.Author.Tests.{leb-true, le-leb, lt-leb}
 use Rattle.fixpoint.specs.Interval.{Interval}
 use Rattle.semantics.specs.Area.{sound, pageOf, topOf, conditionsOf, countOf, usedOf, lineAt, firstLine}
 use Rattle.semantics.specs.Fields.{joined}
@@ -18,7 +18,7 @@ use Rattle.semantics.specs.ReadPage.{pageRead, refusedPage, readPage, readOf}
 use Rattle.semantics.specs.Output.{Query, queriesOf, Answers, AreAnswers, topFields, answerFields, endFields, refusalFields, printed, answerLines, pageOutput, IsOutput, Prints}
 use Rattle.semantics.proofs.Outputs.{answers-append, queries-append, queries-most, answer-short, page-output, answers-exist, answers-within, read-refused, read-accepted, page-accepted}
 use Rattle.semantics.proofs.ReadProper.{accepted-proper}
-use Rattle.semantics.proofs.Soundness.{few-lines}
+use Rattle.semantics.proofs.Soundness.{sound-parts, few-lines}
 use Rattle.semantics.proofs.UsedLength.{mostUsed}
 use Rattle.page.specs.Lines.{Next}
 use Rattle.page.specs.Solvable.{solvable}
@@ -188,6 +188,9 @@ module _ (a lead out : List ℕ) {from line passed : ℕ} {out₁ : List ℕ} {a
       rw e at (p .puts)
 
 -- The output for a page: its first line, the answers, and its last line.
+pub count-few : (a : List ℕ) → sound a ≡ true → countOf a ≤ 1024
+count-few a ok = leb-true (countOf a) 1024 (sound-parts a ok .head .1 .1 .1 .1 .1 .1 .1 .0)
+
 pub lines-few : (a : List ℕ) → sound a ≡ true → length (queriesOf (pageOf a .lines)) ≤ 1024
 lines-few a ok = omega (arith, queries-most (pageOf a .lines), few-lines 1024 a ok)
 
