@@ -16,18 +16,20 @@ use Rattle.solve.specs.Figures.{figuresIn}
 abbrev pub ledLines : (lead : List ℕ) → List (List (List ℕ)) → List ℕ
 ledLines lead ls = endedLines (map (λ fs. lead ++ joined fs) ls)
 
--- every figure has at most three digits
-pub record SmallFigures (plain closed : List ℕ) : Type 0 where
-  pub plain-size : length plain ≡ 3072
-  pub closed-size : length closed ≡ 3072
-  pub small : (r : Reading) (k : ℕ) → getD (figuresIn r plain closed) k 0 < 1000
-
 -- the query at a place of an area, and the interval that the figures give the query with the number i
 abbrev pub queryAt : List ℕ → ℕ → Query
 queryAt a line = record { reading = readingOf (getD a (line + 2) 0); condition = getD a line 0 }
 
 abbrev pub figured : (plain closed : List ℕ) → Reading → ℕ → Interval
 figured plain closed r i = record { low = getD (figuresIn r plain closed) (2 * i) 0; high = getD (figuresIn r plain closed) (2 * i + 1) 0 }
+
+-- the figures have their size, and those of the query with the number i at most three digits in a reading
+pub record SmallFigures (plain closed : List ℕ) (r : Reading) (i : ℕ) : Type 0 where
+  pub plain-size : length plain ≡ 3072
+  pub closed-size : length closed ≡ 3072
+  pub within : i < 1536
+  pub low : figured plain closed r i .low < 1000
+  pub high : figured plain closed r i .high < 1000
 
 -- the line at a place is answered by the figures with the number `count` if it is a Q line, and nothing is written if it is not
 pub record PutLine (a : List ℕ) (line : ℕ) (plain closed lead out : List ℕ) (at count : ℕ) (out′ : List ℕ) (at′ count′ : ℕ) : Type 0 where

@@ -102,7 +102,7 @@ fn put_line(
     out: &mut [u8],
     done: Written,
 ) -> Written
-    requires { ⌜ (line + 4 ≤ length (now page)) × (every (lineTests (topOf (now page)) (conditionsOf (now page)) (usedOf (now page) - line) (drop line (now page))) ≡ true) × (conditionsOf (now page) ≤ 512) × SmallFigures (now plain) (now closed) × (2 * done .count + 1 < 3072) × (done .at + 14 + length (now lead) ≤ length (now out)) ⌝ }
+    requires { ⌜ (line + 4 ≤ length (now page)) × (every (lineTests (topOf (now page)) (conditionsOf (now page)) (usedOf (now page) - line) (drop line (now page))) ≡ true) × (conditionsOf (now page) ≤ 512) × (getD (now page) (line + 1) 0 ≡ 6 → SmallFigures (now plain) (now closed) (readingOf (getD (now page) (line + 2) 0)) (done .count)) × (done .at + 14 + length (now lead) ≤ length (now out)) ⌝ }
     ensures { λ r. ⌜ PutLine (now (page .entry)) line (now (plain .entry)) (now (closed .entry)) (now (lead .entry)) (now (out .entry)) (done .at) (done .count) (now (out .exit)) (r .at) (r .count) ⌝ }
 {
     let k = page[line + 1];

@@ -1,7 +1,7 @@
 -- `answers::letter` meets its contract. Assumes nothing.
 use borrow.Author.Tests.{eq-eqb, ne-eqb}
-use Rattle.answers.proofs.output.letter.Statement.{statement}
-use Rattle.answers.proofs.output.letter.Tie as tie
+use Rattle.answers.proofs.letter.Statement.{statement}
+use Rattle.answers.proofs.letter.Tie as tie
 
 returns : tie.Need-returns
 returns c = rw (eq-eqb (c .before .args .reading) 0 (c .if1 .taken))

@@ -8,12 +8,12 @@ use Rattle.fixpoint.specs.Interval.{Interval}
 use Rattle.semantics.specs.Fields.{numberText}
 use Rattle.semantics.proofs.TextNumbers.{number-short}
 use Rattle.print.proofs.Writing.{wrote-then, wrote-as}
-use Rattle.answers.specs.Asked.{readingOf}
+use Rattle.solve.specs.Asked.{readingOf}
 use Rattle.semantics.specs.Output.{Query}
 use Rattle.answers.proofs.PrintedLines.{answer-text}
 use borrow.Author.Needs.{needs}
-use Rattle.answers.proofs.output.put_answer.Statement.{statement}
-use Rattle.answers.proofs.output.put_answer.Tie as tie
+use Rattle.answers.proofs.put_answer.Statement.{statement}
+use Rattle.answers.proofs.put_answer.Tie as tie
 
 put-field-requires : tie.Need-put-field-requires
 put-field-requires c κs = let s = c .before .before .before .before .before .before .before .before .before .before .before in omega (arith, number-short (s .args .c) (s .pre .1), c .before .before .before .before .before .before .before .put-byte .ensures .behind, c .before .before .before .before .before .before .before .put-byte .kept .0, c .before .before .before .put-byte2 .ensures .behind, c .before .before .before .put-byte2 .kept .0)

@@ -1,61 +1,82 @@
--- `answers::put_lines` meets its contract: a turn passes one line, `Printing`. Assumes nothing.
+-- `answers::put_lines` meets its contract: a turn passes one line (`Printing`). Assumes nothing.
 use mathlib.Core.Path.{_≡_, refl, _∙_}
 use Prim.Native.Nat.{_-_}
 use native.Mathlib.Omega.{arith}
 use lib.ListN.{length}
 use Rattle.page.proofs.Scanning.{entry-ok, room, entry-here}
 use Rattle.page.proofs.Head.{head-of}
-use Rattle.answers.proofs.Printing.{Printing, printing-first, printing-few, printing-short, printing-next, printing-last}
-use Rattle.answers.proofs.output.put_lines.Statement.{statement}
-use Rattle.answers.proofs.output.put_lines.Tie as tie
+use Rattle.answers.proofs.Printing.{Printing, printing-first, printing-room, small-here, printing-next, printing-last}
+use Rattle.answers.proofs.put_lines.Statement.{statement}
+use Rattle.answers.proofs.put_lines.Tie as tie
 
 abbrev Inv-loop : tie.InvT-loop
-Inv-loop page workspace₀ out₀ from lines line₀ done₀ workspace out line done = (length workspace ≡ length workspace₀) × (length out ≡ length out₀) × Printing page out₀ from (line .at) (line .passed) out (done .at) (done .count)
+Inv-loop page plain closed lead out₀ from lines line₀ done₀ out line done = (length out ≡ length out₀) × Printing page lead out₀ from (line .at) (line .passed) out (done .at) (done .count)
 
 abbrev μ-loop : tie.MeasureT-loop
-μ-loop page workspace₀ out₀ from lines line₀ done₀ workspace out line done = lines - line .passed
+μ-loop page plain closed lead out₀ from lines line₀ done₀ out line done = lines - line .passed
 
 shared-slice-read-lines : tie.Need-shared-slice-read-lines Inv-loop μ-loop
-shared-slice-read-lines c = omega (arith, head-of (c .before .before .before .before .args .page .now) (c .before .before .before .before .pre .0))
+shared-slice-read-lines c = let z = c .before .before .before .before .before .before in omega (arith, head-of (z .args .page .now) (z .pre .0))
+
+first-requires : tie.Need-first-requires Inv-loop μ-loop
+first-requires c κs = let z = c .before .before .before .before .before .before in head-of (z .args .page .now) (z .pre .0) .four
 
 loop-holds : tie.Need-loop-holds Inv-loop μ-loop
-loop-holds c = let z = c .before .before .before .before .before in (refl, refl, printing-first (z .args .page .now) (z .args .out .now) (z .args .from) (z .pre .0) (omega (arith, z .pre .1)) (c .first .ensures))
+loop-holds c = let z = c .before .before .before .before .before .before .before in (refl, printing-first (z .args .page .now) (z .args .lead .now) (z .args .out .now) (z .args .from) (z .pre .0) (omega (arith, z .pre .2)) (c .first .ensures))
 
 put-line-requires : tie.Need-put-line-requires Inv-loop μ-loop
-put-line-requires c κs =
-    let z = c .before .before .before .before .before .before .before .before .before .before in
+put-line-requires c κs = 
+    let z = c .before .before .before .before .before .before .before .before .before .before .before in
     let a = z .args .page .now in
-    let l = c .before .before .before .before .loop in
-    let p = l .inv .2 in
-    let h = head-of a (z .pre .0) in
-    (z .pre .0, room a (p .scan) (omega arith), entry-ok a (p .scan) (omega arith), omega (arith, z .pre .1, l .inv .1, printing-short a (z .args .out .now) p, h .count), omega (arith, printing-few a (z .args .out .now) p, h .count))
+    let l = c .before .before .before .loop in
+    let p = l .inv .1 in
+    (
+      room a (p .scan) (omega arith),
+      entry-ok a (p .scan) (omega arith),
+      head-of a (z .pre .0) .few,
+      λ e. small-here a (z .args .lead .now) (z .args .out .now) p (omega arith) e (z .pre .1) _ (z .pre .0),
+      omega (arith, printing-room a (z .args .lead .now) (z .args .out .now) p (omega arith) (z .pre .2), l .inv .0),
+    )
 
 next-requires : tie.Need-next-requires Inv-loop μ-loop
-next-requires c κs =
-    let z = c .before .before .before .before .before .before .before .before .before .before .before .before .before .before .before in
+next-requires c κs = 
+    let z = c .before .before .before .before .before .before .before .before .before .before .before .before .before .before in
     let a = z .args .page .now in
-    (entry-here a (c .before .before .before .before .before .before .before .before .before .loop .inv .2 .scan) (omega arith), omega (arith, head-of a (z .pre .0)))
+    (entry-here a (c .before .before .before .before .before .before .loop .inv .1 .scan) (omega arith), omega (arith, head-of a (z .pre .0)))
 
 loop-less : tie.Need-loop-less Inv-loop μ-loop
 loop-less c = omega (arith, c .next .ensures .count)
 
 loop-again : tie.Need-loop-again Inv-loop μ-loop
-loop-again c =
-    let z = c .before .before .before .before .before .before .before .before .before .before .before .before .before .before .before .before in
-    let l = c .before .before .before .before .before .before .before .before .before .before .loop in
-    let w = c .before .before .before .before .before .put-line in
-    (w .kept .1 .1 .0 ∙ l .inv .0, w .kept .1 .1 .1 .0 ∙ l .inv .1, printing-next (z .args .page .now) (z .args .out .now) (l .inv .2) (omega arith) (w .ensures) (c .next .ensures))
+loop-again c = 
+    let z = c .before .before .before .before .before .before .before .before .before .before .before .before .before .before .before in
+    let a = z .args .page .now in
+    let l = c .before .before .before .before .before .before .before .loop in
+    let p = l .inv .1 in
+    let w = c .before .before .before .put-line in
+    (
+      w .kept .1 .1 .1 .1 .1 .0 ∙ l .inv .0,
+      printing-next a (z .args .lead .now) (z .args .out .now) p (omega arith) (omega (arith, printing-room a (z .args .lead .now) (z .args .out .now) p (omega arith) (z .pre .2), l .inv .0)) (z .pre .1) (w .ensures) (c .next .ensures),
+    )
 
 same-length : tie.Need-same-length Inv-loop μ-loop
 same-length c = c .before .before .loop .inv .0
 
-same-length-2 : tie.Need-same-length-2 Inv-loop μ-loop
-same-length-2 c = c .before .before .loop .inv .1
-
 returns : tie.Need-returns Inv-loop μ-loop
-returns c = let z = c .before .before .before .before .before .before .before .before in printing-last (z .args .page .now) (z .args .out .now) (c .before .before .loop .inv .2) (omega arith)
+returns c = let z = c .before .before .before .before .before .before .before .before .before .before in printing-last (z .args .page .now) (z .args .lead .now) (z .args .out .now) (c .before .before .loop .inv .1) (omega arith)
 
 pub put-lines-spec : {M : Type 1} → statement M
 put-lines-spec =
-    tie.close (tie.spec Inv-loop μ-loop shared-slice-read-lines (λ c κs. head-of (c .before .before .before .before .args .page .now) (c .before .before .before .before .pre .0) .four) loop-holds put-line-requires next-requires loop-less loop-again
-    same-length same-length-2 returns)
+    tie.close
+    (tie.spec
+    Inv-loop
+    μ-loop
+    shared-slice-read-lines
+    first-requires
+    loop-holds
+    put-line-requires
+    next-requires
+    loop-less
+    loop-again
+    same-length
+    returns)

@@ -7,8 +7,8 @@ use Rattle.semantics.proofs.TextNumbers.{number-short, number-four}
 use Rattle.print.proofs.Writing.{wrote-then, wrote-as}
 use Rattle.answers.proofs.PrintedLines.{refusal-text}
 use borrow.Author.Needs.{needs}
-use Rattle.answers.proofs.output.put_refusal.Statement.{statement}
-use Rattle.answers.proofs.output.put_refusal.Tie as tie
+use Rattle.answers.proofs.put_refusal.Statement.{statement}
+use Rattle.answers.proofs.put_refusal.Tie as tie
 
 put-field-requires : tie.Need-put-field-requires
 put-field-requires c κs = let s = c .before .before .before .before .before .before .before in omega (arith, number-short (s .args .number) (s .pre .1), c .before .before .before .put-all .ensures .behind, c .before .before .before .put-all .kept .0)
