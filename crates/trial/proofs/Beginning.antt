@@ -17,7 +17,9 @@ use Rattle.semantics.proofs.UsedLength.{mostUsed}
 use Rattle.print.specs.Wrote.{Wrote}
 use Rattle.list.specs.Answers.{ListRefused, ListRead}
 use Rattle.list.proofs.Results.{refusal-for}
-use Rattle.trial.specs.Parts.{ListBegun, RefusalBegun, BothBegun, OutputBegun}
+use Rattle.trial.specs.declared.Begun.{Begun}
+use Rattle.trial.specs.declared.Begun.the-variants.{Refused, Read}
+use Rattle.trial.specs.Parts.{BegunList, BegunAs, ListBegun, RefusalBegun, BothBegun, OutputBegun}
 use Rattle.trial.proofs.Listing.{list-in}
 
 -- a list for a page that is read
@@ -59,7 +61,7 @@ module _ (text bytes area : List ℕ) (long : mostUsed ≤ length area) where
     same-page : pageOf a ≡ pageRead text
     same-page = ap pageOf q ∙ page-accepted text area long (read-accepted text area long e)
 
-    pub refused-after : {out out′ : List ℕ} {size : ℕ} → RefusalBegun (listRefusal (pageOf a) bytes) out out′ size → OutputBegun text bytes out out′ size
+    refused-after : {out out′ : List ℕ} {size : ℕ} → RefusalBegun (listRefusal (pageOf a) bytes) out out′ size → OutputBegun text bytes out out′ size
     unfolding IsTrialsOutput
     refused-after h =
         let o : listRefusal (pageRead text) bytes ≡ some (h .refusal) = ap (λ (p : Page). listRefusal p bytes) (sym same-page) ∙ h .told in
@@ -69,5 +71,10 @@ module _ (text bytes area : List ℕ) (long : mostUsed ≤ length area) where
           wrote = h .wrote;
         }
 
-    pub both-begun : {list out out′ : List ℕ} {size lines : ℕ} → sound a ≡ true → ListBegun bytes a list out out′ size lines → BothBegun text bytes a list out out′ size lines
+    both-begun : {list out out′ : List ℕ} {size lines : ℕ} → sound a ≡ true → ListBegun bytes a list out out′ size lines → BothBegun text bytes a list out out′ size lines
     both-begun ok h = record { accepted = read-accepted text area long e; page-sound = ok; page-is = same-page; list-begun = h }
+
+    -- whichever the list comes to
+    pub begun-after : sound a ≡ true → (list out out′ : List ℕ) (r : Begun) → BegunList bytes a list out out′ r → BegunAs text bytes a list out out′ r
+    begun-after ok list out out′ (Refused size) h = refused-after h
+    begun-after ok list out out′ (Read size lines) h = both-begun ok h
