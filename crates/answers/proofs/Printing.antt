@@ -125,8 +125,7 @@ module _ (a lead out : List ℕ) {from line passed : ℕ} {out₁ : List ℕ} {a
         let n : length xs ≡ count = omega (arith, p .puts .counted) in
         let f : queriesOf (pageOf a .lines) ≡ xs ++ (q ∷ queriesOf ls) =
         ap queriesOf (sym (p .whole) ∙ ap (λ (ys : List Line). p .lines ++ ys) (lines-on a (p .scan) l))
-        ∙ queries-append (p .lines) (x ∷ ls) ∙ ap (λ (ys : List Query). xs ++ ys) (queries-append (x ∷ []) ls ∙ ap (λ (ys : List Query). ys ++ queriesOf ls) (a-query a line e)) in
-        (
+        ∙ queries-append (p .lines) (x ∷ ls) ∙ ap (λ (ys : List Query). xs ++ ys) (queries-append (x ∷ []) ls ∙ ap (λ (ys : List Query). ys ++ queriesOf ls) (a-query a line e)) in (
           ap (λ (qs : List Query). getD (conditionsAsked qs) count 0) f ∙ ap (λ (k : ℕ). getD (conditionsAsked (xs ++ (q ∷ queriesOf ls))) k 0) (sym n) ∙ condition-at xs q (queriesOf ls),
           omega (arith, n, conditions-length (queriesOf (pageOf a .lines)), ap length f, length-append xs (q ∷ queriesOf ls)),
         )
