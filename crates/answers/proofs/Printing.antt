@@ -76,7 +76,7 @@ module _ (a plain closed lead out : List ℕ) (line at count : ℕ) where
   pub put-other : getD a (line + 1) 0 ≢ 6 → PutLine a line plain closed lead out at count out at count
   put-other n = record { other = λ k. (refl, refl, refl); one = λ e. absurd (n e); short = omega arith }
 
-  pub put-one : (c : getD a line 0 < 1000) → SmallFigures plain closed (readingOf (getD a (line + 2) 0)) count → getD a (line + 1) 0 ≡ 6 → {out₁ out₂ : List ℕ} {at₁ at₂ : ℕ}
+  pub put-one : getD a line 0 < 1000 → SmallFigures plain closed (readingOf (getD a (line + 2) 0)) count → getD a (line + 1) 0 ≡ 6 → {out₁ out₂ : List ℕ} {at₁ at₂ : ℕ}
       → Wrote out at lead out₁ at₁ → Wrote out₁ at₁ (printed (answerFields (queryAt a line) (figured plain closed (readingOf (getD a (line + 2) 0)) count) ∷ [])) out₂ at₂
       → PutLine a line plain closed lead out at count out₂ at₂ (count + 1)
   put-one c s e w v =
@@ -103,7 +103,7 @@ printing-first a lead out from e h q =
 
 module _ (a lead out : List ℕ) {from line passed : ℕ} {out₁ : List ℕ} {at count : ℕ} (p : Printing a lead out from line passed out₁ at count) where
   -- at most so many bytes and one answer for each line passed
-  pub printing-few : count ≤ passed
+  printing-few : count ≤ passed
   printing-few = omega (arith, p .puts .counted, queries-most (p .lines), p .size)
 
   pub printing-room : passed < countOf a → from + (14 + length lead) * countOf a ≤ length out → at + 14 + length lead ≤ length out
@@ -125,8 +125,7 @@ module _ (a lead out : List ℕ) {from line passed : ℕ} {out₁ : List ℕ} {a
         let n : length xs ≡ count = omega (arith, p .puts .counted) in
         let f : queriesOf (pageOf a .lines) ≡ xs ++ (q ∷ queriesOf ls) =
         ap queriesOf (sym (p .whole) ∙ ap (λ (ys : List Line). p .lines ++ ys) (lines-on a (p .scan) l))
-        ∙ queries-append (p .lines) (x ∷ ls) ∙ ap (λ (ys : List Query). xs ++ ys) (queries-append (x ∷ []) ls ∙ ap (λ (ys : List Query). ys ++ queriesOf ls) (a-query a line e)) in
-        (
+        ∙ queries-append (p .lines) (x ∷ ls) ∙ ap (λ (ys : List Query). xs ++ ys) (queries-append (x ∷ []) ls ∙ ap (λ (ys : List Query). ys ++ queriesOf ls) (a-query a line e)) in (
           ap (λ (qs : List Query). getD (conditionsAsked qs) count 0) f ∙ ap (λ (k : ℕ). getD (conditionsAsked (xs ++ (q ∷ queriesOf ls))) k 0) (sym n) ∙ condition-at xs q (queriesOf ls),
           omega (arith, n, conditions-length (queriesOf (pageOf a .lines)), ap length f, length-append xs (q ∷ queriesOf ls)),
         )

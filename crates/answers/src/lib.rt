@@ -4,7 +4,7 @@ ghost use mathlib.Core.Bool.{true};
 ghost use mathlib.Core.List.{[], _∷_};
 ghost use Prim.Native.Nat.{_+_, _*_, _-_, _≤_, _<_};
 ghost use lib.ListN.{length, getD, drop};
-ghost use Rattle.semantics.specs.Area.{pageOf, topOf, conditionsOf, countOf, usedOf, every, lineTests, lineAt};
+ghost use Rattle.semantics.specs.Area.{pageOf, topOf, conditionsOf, countOf, usedOf, every, lineTests};
 ghost use Rattle.semantics.specs.Fields.{numberText, readingLetter};
 ghost use Rattle.semantics.specs.Output.{topFields, answerFields, endFields, refusalFields, printed, Prints};
 ghost use Rattle.page.specs.Solvable.{solvable};

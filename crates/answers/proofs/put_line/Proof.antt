@@ -1,12 +1,9 @@
 -- `answers::put_line` meets its contract. Assumes nothing.
-use mathlib.Core.Path.{_≡_}
-use Prim.Native.Nat.{_+_, _-_, _<_}
+use Prim.Native.Nat.{_-_, _<_}
 use native.Mathlib.Omega.{arith}
 use lib.ListN.{getD}
 use Rattle.semantics.specs.Area.{topOf, conditionsOf, usedOf}
 use Rattle.page.proofs.Scan.{entry-head}
-use Rattle.solve.specs.Asked.{readingOf}
-use Rattle.answers.specs.Printing.{SmallFigures}
 use Rattle.answers.proofs.Printing.{put-other, put-one}
 use borrow.Author.Needs.{needs}
 use Rattle.answers.proofs.put_line.Statement.{statement}
@@ -35,7 +32,7 @@ shared-slice-read-reading : tie.Need-shared-slice-read-reading
 shared-slice-read-reading c = search needs
 
 figures-at-requires : tie.Need-figures-at-requires
-figures-at-requires c κs = 
+figures-at-requires c κs =
     let z = c .before .before .before .before .before .before .before .before in
     let k = z .pre .3 (c .before .match .keys1) in
     (omega (arith, k .within, k .plain-size), omega (arith, k .within, k .closed-size))
@@ -50,7 +47,7 @@ shared-slice-read-put-answer : tie.Need-shared-slice-read-put-answer
 shared-slice-read-put-answer c = search needs
 
 put-answer-requires : tie.Need-put-answer-requires
-put-answer-requires c κs = 
+put-answer-requires c κs =
     let z = c .before .before .before .before .before .before .before .before .before .before .before .before .before .before .before in
     let k = z .pre .3 (c .before .before .before .before .before .before .before .before .match .keys1) in
     let f = c .before .before .before .before .before .before .figures-at .ensures in
@@ -63,7 +60,7 @@ same-length : tie.Need-same-length
 same-length c = search needs
 
 returns : tie.Need-returns
-returns c = 
+returns c =
     let z = c .before .before .before .before .before .before .before .before .before .before .before .before .before .before .before .before .before .before .before in
     let e = c .before .before .before .before .before .before .before .before .before .before .before .before .match .keys1 in
     let f = c .before .before .before .before .before .before .before .before .before .before .figures-at .ensures in

@@ -25,12 +25,11 @@ loop-holds : tie.Need-loop-holds Inv-loop μ-loop
 loop-holds c = let z = c .before .before .before .before .before .before .before in (refl, printing-first (z .args .page .now) (z .args .lead .now) (z .args .out .now) (z .args .from) (z .pre .0) (omega (arith, z .pre .2)) (c .first .ensures))
 
 put-line-requires : tie.Need-put-line-requires Inv-loop μ-loop
-put-line-requires c κs = 
+put-line-requires c κs =
     let z = c .before .before .before .before .before .before .before .before .before .before .before in
     let a = z .args .page .now in
     let l = c .before .before .before .loop in
-    let p = l .inv .1 in
-    (
+    let p = l .inv .1 in (
       room a (p .scan) (omega arith),
       entry-ok a (p .scan) (omega arith),
       head-of a (z .pre .0) .few,
@@ -39,7 +38,7 @@ put-line-requires c κs =
     )
 
 next-requires : tie.Need-next-requires Inv-loop μ-loop
-next-requires c κs = 
+next-requires c κs =
     let z = c .before .before .before .before .before .before .before .before .before .before .before .before .before .before in
     let a = z .args .page .now in
     (entry-here a (c .before .before .before .before .before .before .loop .inv .1 .scan) (omega arith), omega (arith, head-of a (z .pre .0)))
@@ -48,13 +47,12 @@ loop-less : tie.Need-loop-less Inv-loop μ-loop
 loop-less c = omega (arith, c .next .ensures .count)
 
 loop-again : tie.Need-loop-again Inv-loop μ-loop
-loop-again c = 
+loop-again c =
     let z = c .before .before .before .before .before .before .before .before .before .before .before .before .before .before .before in
     let a = z .args .page .now in
     let l = c .before .before .before .before .before .before .before .loop in
     let p = l .inv .1 in
-    let w = c .before .before .before .put-line in
-    (
+    let w = c .before .before .before .put-line in (
       w .kept .1 .1 .1 .1 .1 .0 ∙ l .inv .0,
       printing-next a (z .args .lead .now) (z .args .out .now) p (omega arith) (omega (arith, printing-room a (z .args .lead .now) (z .args .out .now) p (omega arith) (z .pre .2), l .inv .0)) (z .pre .1) (w .ensures) (c .next .ensures),
     )

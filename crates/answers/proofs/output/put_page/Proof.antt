@@ -36,12 +36,11 @@ slice-aggregate-put-lines-3 : tie.Need-slice-aggregate-put-lines-3
 slice-aggregate-put-lines-3 c = search needs
 
 put-lines-requires : tie.Need-put-lines-requires
-put-lines-requires c κs = 
+put-lines-requires c κs =
     let z = c .before .before .before .before .before .before .before .before .before .before .before .before .before .before .before .before in
     let a = z .args .page .now in
     let ok = sound-solvable a (z .pre .0) in
-    let t = c .before .before .before .before .before .before .put-top in
-    (
+    let t = c .before .before .before .before .before .before .put-top in (
       ok,
       c .before .before .before .before .before .before .before .before .before .before .before .solve .ensures,
       omega (arith, z .pre .1, t .kept .0, t .ensures .behind, top-short (topOf a) (omega (arith, head-of a ok)), count-few a (z .pre .0)),
@@ -51,7 +50,7 @@ cast-put-end : tie.Need-cast-put-end
 cast-put-end c = search needs
 
 put-end-requires : tie.Need-put-end-requires
-put-end-requires c κs = 
+put-end-requires c κs =
     let z = c .before .before .before .before .before .before .before .before .before .before .before .before .before .before .before .before .before .before .before .before .before in
     let a = z .args .page .now in
     let t = c .before .before .before .before .before .before .before .before .before .before .before .put-top in
