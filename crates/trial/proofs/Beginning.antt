@@ -1,5 +1,5 @@
 -- The beginning of the output: the refused line of a page or a list, or the first line. Assumes nothing.
-use mathlib.Core.Path.{_≡_, refl, sym, _∙_, ap}
+use mathlib.Core.Path.{_≡_, refl, sym, _∙_, ap, subst}
 use mathlib.Core.Bool.{true}
 use mathlib.Core.List.{List, [], _∷_, _++_}
 use mathlib.Core.Option.{Option, none, some}
@@ -78,3 +78,11 @@ module _ (text bytes area : List ℕ) (long : mostUsed ≤ length area) where
     pub begun-after : sound a ≡ true → (list out out′ : List ℕ) (r : Begun) → BegunList bytes a list out out′ r → BegunAs text bytes a list out out′ r
     begun-after ok list out out′ (Refused size) h = refused-after h
     begun-after ok list out out′ (Read size lines) h = both-begun ok h
+
+-- the answer of `begin` by its cases
+module _ (text bytes a list out out′ : List ℕ) {r : Begun} (h : BegunAs text bytes a list out out′ r) where
+  pub begun-refused : {size : ℕ} → r ≡ Refused size → OutputBegun text bytes out out′ size
+  begun-refused e = subst (BegunAs text bytes a list out out′) e h
+
+  pub begun-read : {size lines : ℕ} → r ≡ Read size lines → BothBegun text bytes a list out out′ size lines
+  begun-read e = subst (BegunAs text bytes a list out out′) e h
