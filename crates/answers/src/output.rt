@@ -11,14 +11,14 @@ use crate::put_refusal;
 use crate::put_top;
 use reader::ReadAnswer;
 
-// The output for a page that is read: both readings are solved once, and the Q lines answered with nothing before each.
+// The output for a page that is read: "a K query opens a run of its own", and nothing stands before an answer.
 fn put_page(page: &[u16], out: &mut [u8]) -> usize
     requires { ⌜ (sound (now page) ≡ true) × (14353 ≤ length (now out)) ⌝ }
     ensures { λ r. ⌜ PutPage (pageOf (now (page .entry))) (now (out .entry)) (now (out .exit)) r ⌝ }
 {
     let mut plain = [0u16; 3072];
     let mut closed = [0u16; 3072];
-    solve::solve(page, &mut plain, &mut closed);
+    solve::solve(page, &mut plain, &mut closed, true);
     let at = put_top(out, page[0]);
     let done = put_lines(page, &plain, &closed, b"", out, at);
     put_end(out, done.at, done.count as u32)

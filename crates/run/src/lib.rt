@@ -273,7 +273,12 @@ pub fn drive_counted(page: &[u16], run: &mut [u16], allowance: u32) -> Drove
 }
 
 // The same with an index, which is built in the workspace.
-pub fn drive_built(page: &[u16], run: &mut [u16], workspace: &mut [u16], allowance: u32) -> DriveAnswer
+pub fn drive_built(
+    page: &[u16],
+    run: &mut [u16],
+    workspace: &mut [u16],
+    allowance: u32,
+) -> DriveAnswer
     requires { ⌜ (solvable (now page) ≡ true) × (runSound (pageOf (now page)) (now run) ≡ true) × (length (now workspace) ≡ indexLength (now page)) ⌝ }
     ensures { λ r. ⌜ Answered (driveLeft (now (page .entry)) (now (run .entry)) allowance) (driveAnswerOf r) (now (run .exit)) ⌝ }
 {

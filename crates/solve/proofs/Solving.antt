@@ -1,14 +1,14 @@
 -- Both readings of the queries of a page: what a drive from the start leaves, and what is written of it. Assumes nothing.
-use mathlib.Core.Path.{_≡_, refl, sym, _∙_, ap}
+use mathlib.Core.Path.{_≡_, refl, sym, _∙_, ap, ap₂}
 use mathlib.Core.Bool.{Bool, true}
 use mathlib.Core.List.{List, [], _∷_, _++_}
 use mathlib.Core.Option.{none}
 use Prim.Native.Nat.{ℕ, zero, suc, _+_, _*_, _-_, _≤_, _<_}
 use native.Mathlib.Omega.{arith}
-use lib.ListN.{length, getD, take, drop, length-append, length-take, length-drop}
+use lib.ListN.{length, getD, set, take, drop, length-set}
 use lib.Dec.{ltb}
-use lib.Seq.{length-take-le}
-use borrow.Author.Tests.{ltb-true}
+use lib.Seq.{length-take-le, drop-cons}
+use borrow.Author.Tests.{ltb-true, lt-ltb}
 use Rattle.fixpoint.specs.Interval.{Interval, Assign}
 use Rattle.semantics.specs.Area.{pageOf, topOf, conditionsOf, allUnder}
 use Rattle.semantics.specs.Call.{Answer, drive, outcome}
@@ -34,6 +34,7 @@ use Rattle.reach.proofs.Bounds.{bound-few}
 use Rattle.reach.proofs.Writing.{accepted-run}
 use Rattle.rounds.specs.Round.{closedAt}
 use Rattle.closed.specs.Solving.{SolveReady, Solved}
+use Rattle.closed.proofs.Answering.{Answering, answering-first, answering-next, answering-last}
 use Rattle.run.specs.Answers.{Answered}
 use Rattle.run.specs.Steps.{driveLeft}
 use Rattle.solve.proofs.Queries.{asked-under}
@@ -96,6 +97,39 @@ module _ (a : List ℕ) (ok : solvable a ≡ true) (qs : List ℕ) (under : allU
         → PlainSolved (pageOf a) qs answers answers′
     plain-solved {run₂ = run₂} answers answers′ d e P p =
         e ∙ ap (λ (l : List ℕ). l ++ drop (2 * length qs) answers) (ends-listed (intervalAt run₂) P qs (driven-answers d P p))
+
+-- a run for each query: the first i are answered
+pub record Apart (page : Page) (qs answers₀ answers : List ℕ) (i : ℕ) : Type 0 where
+  pub same-length : length answers ≡ length answers₀
+  pub answered : (P : Assign) → IsPlain page P → Answering P qs answers₀ answers i
+
+-- the list of the query at a place alone
+pub one-query : (qs : List ℕ) (i : ℕ) → i < length qs → take (i + 1 - i) (drop i qs) ≡ getD qs i 0 ∷ []
+one-query qs i l =
+    let e : i + 1 - i ≡ 1 = omega arith in
+    ap (λ (k : ℕ). take k (drop i qs)) e ∙ ap (λ (p : List ℕ). take 1 p) (drop-cons qs i 0 l)
+
+pub one-under : (n : ℕ) (qs : List ℕ) → allUnder n qs ≡ true → (i : ℕ) → i < length qs → allUnder n (take (i + 1 - i) (drop i qs)) ≡ true
+unfolding allUnder
+one-under n qs u i l = rw (one-query qs i l, lt-ltb (getD qs i 0) n (under-at n qs u i l))
+
+pub apart-first : (page : Page) (qs answers : List ℕ) → 2 * length qs ≤ length answers → Apart page qs answers answers 0
+apart-first page qs answers h = record { same-length = refl; answered = λ P p. answering-first P qs answers h }
+
+pub apart-next : (page : Page) (qs answers₀ : List ℕ) {answers : List ℕ} {i : ℕ} → Apart page qs answers₀ answers i → i < length qs → (two two′ : List ℕ)
+    → PlainSolved page (take (i + 1 - i) (drop i qs)) two two′ → Apart page qs answers₀ (set (set answers (2 * i) (getD two′ 0 0)) (2 * i + 1) (getD two′ 1 0)) (i + 1)
+apart-next page qs answers₀ {answers} {i} s l two two′ h =
+    record {
+      same-length = length-set (set answers (2 * i) (getD two′ 0 0)) (2 * i + 1) (getD two′ 1 0) ∙ length-set answers (2 * i) (getD two′ 0 0) ∙ s .same-length;
+      answered = λ P p.
+          let q : ℕ = getD qs i 0 in
+          let e : two′ ≡ P q .low ∷ P q .high ∷ drop 2 two =
+          h P p ∙ ap (λ (t : List ℕ). ends P t ++ drop (2 * length t) two) (one-query qs i l) in
+          answering-next P qs answers₀ (s .answered P p) l (ap₂ (λ (x y : ℕ). set (set answers (2 * i) x) (2 * i + 1) y) (ap (λ (t : List ℕ). getD t 0 0) e) (ap (λ (t : List ℕ). getD t 1 0) e));
+    }
+
+pub apart-last : (page : Page) (qs answers₀ : List ℕ) {answers : List ℕ} {i : ℕ} → Apart page qs answers₀ answers i → length qs ≤ i → PlainSolved page qs answers₀ answers
+apart-last page qs answers₀ s l P p = answering-last P qs answers₀ (s .answered P p) l
 
 -- the closed answers, whatever closed reading is meant
 pub closed-solved : (a : List ℕ) → solvable a ≡ true → {qs s answers s′ answers′ : List ℕ} {counting : Bool} {k : ℕ} → allUnder (conditionsOf a) qs ≡ true → Solved a qs s answers s′ answers′ counting k

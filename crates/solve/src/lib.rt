@@ -65,15 +65,56 @@ fn solve_plain(page: &[u16], queries: &[u16], workspace: &mut [u16], answers: &m
     write_held(&run, queries, answers);
 }
 
-// The figures of a page: low and high of the condition of each Q line, in page order, in the plain and in the closed reading.
-pub fn solve(page: &[u16], plain: &mut [u16], closed: &mut [u16])
+// The same, where each query has a run of its own.
+fn solve_apart(page: &[u16], queries: &[u16], workspace: &mut [u16], answers: &mut [u16])
+    requires { ⌜ (solvable (now page) ≡ true) × (allUnder (conditionsOf (now page)) (now queries) ≡ true) × (length (now workspace) ≡ 15362) × (2 * length (now queries) ≤ length (now answers)) ⌝ }
+    ensures { λ r. ⌜ PlainSolved (pageOf (now (page .entry))) (now (queries .entry)) (now (answers .entry)) (now (answers .exit)) ⌝ }
+{
+    let mut i: usize = 0;
+    while i < queries.len() {
+        let mut ends = [0u16; 2];
+        solve_plain(page, &queries[i..i + 1], workspace, &mut ends);
+        answers[2 * i] = ends[0];
+        answers[2 * i + 1] = ends[1];
+        i += 1;
+    }
+}
+
+// The plain answers, by a run for each query or by one run.
+fn solve_runs(
+    page: &[u16],
+    queries: &[u16],
+    workspace: &mut [u16],
+    answers: &mut [u16],
+    apart: bool,
+)
+    requires { ⌜ (solvable (now page) ≡ true) × (allUnder (conditionsOf (now page)) (now queries) ≡ true) × (length (now workspace) ≡ 15362) × (2 * length (now queries) ≤ length (now answers)) ⌝ }
+    ensures { λ r. ⌜ PlainSolved (pageOf (now (page .entry))) (now (queries .entry)) (now (answers .entry)) (now (answers .exit)) ⌝ }
+{
+    if apart {
+        solve_apart(page, queries, workspace, answers);
+        return;
+    }
+    solve_plain(page, queries, workspace, answers);
+}
+
+// The figures of a page: low and high of the condition of each Q line, in page order, in the plain and in the closed reading. The plain ones come
+// from one run of all Q lines, or from a run for each.
+pub fn solve(page: &[u16], plain: &mut [u16], closed: &mut [u16], apart: bool)
     requires { ⌜ (solvable (now page) ≡ true) × (length (now plain) ≡ 3072) × (length (now closed) ≡ 3072) ⌝ }
     ensures { λ r. ⌜ Figures (pageOf (now (page .entry))) (now (plain .exit)) (now (closed .exit)) ⌝ }
 {
     let mut queries = [0u16; 1536];
     let k = note_queries(page, &mut queries);
     let mut workspace = [0u16; 15362];
-    solve_plain(page, &queries[..k], &mut workspace, plain);
+    solve_runs(page, &queries[..k], &mut workspace, plain, apart);
     let mut scratch = [0u16; 2048];
-    closed::solve_over(page, &queries[..k], &mut scratch, closed, &mut workspace, false);
+    closed::solve_over(
+        page,
+        &queries[..k],
+        &mut scratch,
+        closed,
+        &mut workspace,
+        false,
+    );
 }

@@ -39,7 +39,7 @@ tried-lines top n zero p c o h = tt
 tried-lines top n (suc k) p c o h = (
   (c 0 (omega arith), o 0 (omega arith), h 0 (omega arith)),
   tried-lines top n k (drop 4 p) (λ i l. omega (arith, behind p i 1, c (suc i) (omega arith))) (λ i l. omega (arith, behind p i 2, behind p i 3, o (suc i) (omega arith)))
-  (λ i l. omega (arith, behind p i 3, h (suc i) (omega arith))),
+      (λ i l. omega (arith, behind p i 3, h (suc i) (omega arith))),
 )
 
 -- the lines of the numbers of lines
@@ -73,8 +73,7 @@ pub list-in : (page : Page) (bytes list z : List ℕ) {k : ℕ} → listRefusal 
     → ListIn (page .top) (page .conditions) list k × (linesFrom list 0 k ≡ listRead bytes)
 list-in page bytes list z {k} e q d f =
     let a = accepted-tried page bytes e in
-    let w = at-line (page .top) (page .conditions) z (listRead bytes) (a .tried) (a .small) in
-    (
+    let w = at-line (page .top) (page .conditions) z (listRead bytes) (a .tried) (a .small) in (
       record {
         few = omega (arith, a .few, q);
         inside = f;
@@ -84,7 +83,7 @@ list-in page bytes list z {k} e q d f =
         high = λ i l. rw d (w i (omega (arith, q)) .3);
       },
       let o : k - 0 ≡ length (listRead bytes) = omega (arith, q) in
-      ap₂ {C = List TrialLine} (λ (i : ℕ) (p : List ℕ). linesAt i p) o d ∙ lines-back (listRead bytes) z,
+          ap₂ {C = List TrialLine} (λ (i : ℕ) (p : List ℕ). linesAt i p) o d ∙ lines-back (listRead bytes) z,
     )
 
 -- the search for the end of a trial: the lines from `from` up to `end` have one number

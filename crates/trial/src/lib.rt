@@ -36,13 +36,7 @@ fn begin_list(bytes: &[u8], page: &[u16], list: &mut [u16], out: &mut [u8]) -> B
 }
 
 // The beginning: the page is read to its area, the list to four numbers a line.
-pub fn begin(
-    text: &[u8],
-    bytes: &[u8],
-    page: &mut [u16],
-    list: &mut [u16],
-    out: &mut [u8],
-) -> Begun
+pub fn begin(text: &[u8], bytes: &[u8], page: &mut [u16], list: &mut [u16], out: &mut [u8]) -> Begun
     requires { ⌜ (12804 ≤ length (now page)) × (4096 ≤ length (now list)) × (27648 ≤ length (now out)) ⌝ }
     ensures { λ r. ⌜ BegunAs (now (text .entry)) (now (bytes .entry)) (now (page .exit)) (now (list .exit)) (now (out .entry)) (now (out .exit)) r ⌝ }
 {
@@ -87,7 +81,7 @@ pub fn answer_trial(page: &[u16], list: &[u16], from: usize, lines: usize, out: 
     change::change(page, &list[4 * from..4 * end], &mut area);
     let mut plain = [0u16; 3072];
     let mut closed = [0u16; 3072];
-    solve::solve(&area, &mut plain, &mut closed);
+    solve::solve(&area, &mut plain, &mut closed, false);
     let mut lead = [0u8; 4];
     let n = put_field(&mut lead, 0, list[4 * from] as u32, b',');
     let done = put_lines(&area, &plain, &closed, &lead[..n], out, 0);

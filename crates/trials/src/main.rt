@@ -6,6 +6,7 @@ ghost use Prim.Native.Nat.{_*_, _≤_};
 ghost use lib.ListN.{length};
 ghost use Rattle.semantics.specs.Area.{sound, topOf, conditionsOf};
 ghost use Rattle.trial.specs.Parts.{ListIn};
+
 mod input;
 
 use input::read_file;

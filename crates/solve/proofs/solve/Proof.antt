@@ -16,14 +16,14 @@ note-queries-requires c κs = search needs
 array-share-prefix-queries : tie.Need-array-share-prefix-queries
 array-share-prefix-queries c = search needs
 
-slice-aggregate-solve-plain : tie.Need-slice-aggregate-solve-plain
-slice-aggregate-solve-plain c = let z = c .before .before .before .before .before .before .before in sym (noted-length (z .args .page .now) (z .pre .0) (c .before .before .note-queries .ensures))
+slice-aggregate-solve-runs : tie.Need-slice-aggregate-solve-runs
+slice-aggregate-solve-runs c = let z = c .before .before .before .before .before .before .before in sym (noted-length (z .args .page .now) (z .pre .0) (c .before .before .note-queries .ensures))
 
-slice-aggregate-solve-plain-2 : tie.Need-slice-aggregate-solve-plain-2
-slice-aggregate-solve-plain-2 c = search needs
+slice-aggregate-solve-runs-2 : tie.Need-slice-aggregate-solve-runs-2
+slice-aggregate-solve-runs-2 c = search needs
 
-solve-plain-requires : tie.Need-solve-plain-requires
-solve-plain-requires c κs = 
+solve-runs-requires : tie.Need-solve-runs-requires
+solve-runs-requires c κs =
     let z = c .before .before .before .before .before .before .before .before .before in
     let q = c .before .before .before .before .note-queries .ensures in
     (z .pre .0, noted-under (z .args .page .now) (z .pre .0) q, refl, omega (arith, noted-length (z .args .page .now) (z .pre .0) q, q .within, z .pre .1))
@@ -41,7 +41,7 @@ slice-aggregate-solve-over-3 : tie.Need-slice-aggregate-solve-over-3
 slice-aggregate-solve-over-3 c = search needs
 
 solve-over-requires : tie.Need-solve-over-requires
-solve-over-requires c κs = 
+solve-over-requires c κs =
     let z = c .before .before .before .before .before .before .before .before .before .before .before .before .before .before .before .before .before in
     let q = c .before .before .before .before .before .before .before .before .before .before .before .before .note-queries .ensures in
     ready (z .args .page .now) (z .pre .0) q _ _ (omega (arith, head-of (z .args .page .now) (z .pre .0) .few)) (omega (arith, z .pre .2))
@@ -53,13 +53,13 @@ same-length-2 : tie.Need-same-length-2
 same-length-2 c = search needs
 
 returns : tie.Need-returns
-returns c = 
+returns c =
     let z = c .before .before .before .before .before .before .before .before .before .before .before .before .before .before .before .before .before .before .before .before .before .before in
     let a = z .args .page .now in
     let q = c .before .before .before .before .before .before .before .before .before .before .before .before .before .before .before .before .before .note-queries .ensures in
-    figures-solved a (z .pre .0) q (z .args .plain .now) _ (z .args .closed .now) _ (c .before .before .before .before .before .before .before .before .before .before .before .before .solve-plain .ensures)
+    figures-solved a (z .pre .0) q (z .args .plain .now) _ (z .args .closed .now) _ (c .before .before .before .before .before .before .before .before .before .before .before .before .solve-runs .ensures)
     (closed-solved a (z .pre .0) (noted-under a (z .pre .0) q) (c .before .before .before .before .solve-over .ensures .0))
-    (c .before .before .before .before .before .before .before .before .before .before .before .before .solve-plain .kept .1 .1 .1 .0 ∙ z .pre .1) (c .before .before .before .before .solve-over .kept .1 .1 .1 .0 ∙ z .pre .2)
+    (c .before .before .before .before .before .before .before .before .before .before .before .before .solve-runs .kept .1 .1 .1 .0 ∙ z .pre .1) (c .before .before .before .before .solve-over .kept .1 .1 .1 .0 ∙ z .pre .2)
 
 pub solve-spec : {M : Type 1} → statement M
 solve-spec =
@@ -68,9 +68,9 @@ solve-spec =
     slice-aggregate-note-queries
     note-queries-requires
     array-share-prefix-queries
-    slice-aggregate-solve-plain
-    slice-aggregate-solve-plain-2
-    solve-plain-requires
+    slice-aggregate-solve-runs
+    slice-aggregate-solve-runs-2
+    solve-runs-requires
     array-share-prefix-queries-2
     slice-aggregate-solve-over
     slice-aggregate-solve-over-2

@@ -44,7 +44,7 @@ slice-aggregate-drive-built-2 : tie.Need-slice-aggregate-drive-built-2
 slice-aggregate-drive-built-2 c = let z = c .before .before .before .before .before .before .before .before .before .before .before .before .before .before .before .before in sym (length-take-le _ _ (omega (arith, z .pre .2, c .before .before .index-length .ensures .1)))
 
 drive-built-requires : tie.Need-drive-built-requires
-drive-built-requires c κs = 
+drive-built-requires c κs =
     let z = c .before .before .before .before .before .before .before .before .before .before .before .before .before .before .before .before in
     let a = z .args .page .now in
     (z .pre .0, opened-sound a (z .pre .0) (z .args .queries .now) (z .pre .1) _ (omega (arith, head-of a (z .pre .0) .few)) (c .before .before .before .before .before .before .before .before .before .before .mark-closure .ensures) (c .before .before .before .before .write-run .ensures), length-take-le _ _ (omega (arith, z .pre .2, c .before .before .index-length .ensures .1)) ∙ c .before .before .index-length .ensures .0)
@@ -53,7 +53,7 @@ slice-aggregate-write-held : tie.Need-slice-aggregate-write-held
 slice-aggregate-write-held c = search needs
 
 write-held-requires : tie.Need-write-held-requires
-write-held-requires c κs = 
+write-held-requires c κs =
     let z = c .before .before .before .before .before .before .before .before .before .before .before .before .before .before .before .before .before .before .before .before .before .before in
     let a = z .args .page .now in
     (λ k l. omega (arith, under-at (conditionsOf a) (z .args .queries .now) (z .pre .1) k l, head-of a (z .pre .0) .few, c .before .before .before .before .before .drive-built .kept .1 .0), z .pre .3)
@@ -65,7 +65,7 @@ same-length-2 : tie.Need-same-length-2
 same-length-2 c = search needs
 
 returns : tie.Need-returns
-returns c = 
+returns c =
     let z = c .before .before .before .before .before .before .before .before .before .before .before .before .before .before .before .before .before .before .before .before .before .before .before .before .before in
     let a = z .args .page .now in
     plain-solved a (z .pre .0) (z .args .queries .now) (z .pre .1) _ (omega (arith, head-of a (z .pre .0) .few)) (c .before .before .before .before .before .before .before .before .before .before .before .before .before .before .before .before .before .before .before .mark-closure .ensures) (c .before .before .before .before .before .before .before .before .before .before .before .before .before .write-run .ensures) (z .args .answers .now) _ (c .before .before .before .before .before .before .before .before .drive-built .ensures) (c .before .before .write-held .ensures)

@@ -82,7 +82,7 @@ slice-aggregate-put-lines-4 : tie.Need-slice-aggregate-put-lines-4
 slice-aggregate-put-lines-4 c = sym (lead-length _ (c .before .before .before .before .before .put-field .ensures))
 
 put-lines-requires : tie.Need-put-lines-requires
-put-lines-requires c κs = 
+put-lines-requires c κs =
     let z = c .before .before .before .before .before .before .before .before .before .before .before .before .before .before .before .before .before .before .before .before .before .before .before in
     let f = c .before .before .before .before .before .before .put-field .ensures in
     let n = number-short (getD (z .args .list .now) (4 * z .args .from) 0) (z .pre .1 .number (z .args .from) (z .pre .2)) in
@@ -92,7 +92,7 @@ same-length : tie.Need-same-length
 same-length c = search needs
 
 returns : tie.Need-returns
-returns c = 
+returns c =
     let z = c .before .before .before .before .before .before .before .before .before .before .before .before .before .before .before .before .before .before .before .before .before .before .before .before .before .before in
     let f = c .before .before .before .before .before .before .before .before .before .put-field .ensures in
     let n = number-short (getD (z .args .list .now) (4 * z .args .from) 0) (z .pre .1 .number (z .args .from) (z .pre .2)) in

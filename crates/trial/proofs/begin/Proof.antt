@@ -16,7 +16,7 @@ enum-known-read : tie.Need-enum-known-read
 enum-known-read c = search needs
 
 put-refusal-requires : tie.Need-put-refusal-requires
-put-refusal-requires c κs = 
+put-refusal-requires c κs =
     let z = c .before .before .before .before .before .before .before .before .before .before .before .before .before in
     let s = read-small _ _ (ap answerOf (sym (c .before .before .read .given .1)) ∙ c .before .before .before .before .before .before .read-page .ensures .0) in
     (omega (arith, z .pre .2), omega (arith, s .number-most), omega (arith, s .line-most))
@@ -25,7 +25,7 @@ enum-told : tie.Need-enum-told
 enum-told c = search needs
 
 begin-list-requires : tie.Need-begin-list-requires
-begin-list-requires c κs = 
+begin-list-requires c κs =
     let z = c .before .before .before .before .before .before .before .before .before .before .before .before .before .before in
     let r = c .before .before .before .before .before .before .before .read-page in
     (ap sound (r .ensures .1) ∙ read-good _ _ (ap answerOf (sym (c .before .before .before .enum-told .given .1)) ∙ r .ensures .0) .page-sound, z .pre .1, z .pre .2)
@@ -37,7 +37,7 @@ same-length-2 : tie.Need-same-length-2
 same-length-2 c = search needs
 
 returns : tie.Need-returns
-returns c = 
+returns c =
     let z = c .before .before .before .before .before .before .before .before .before .before .before .before .before .before .before .before in
     page-refused (z .args .text .now) (z .args .bytes .now) _ (omega (arith, z .pre .0)) (ap answerOf (sym (c .before .before .before .before .before .read .given .1)) ∙ c .before .before .before .before .before .before .before .before .before .read-page .ensures .0) (c .before .before .put-refusal .ensures)
 
@@ -51,7 +51,7 @@ same-length-5 : tie.Need-same-length-5
 same-length-5 c = search needs
 
 returns-2 : tie.Need-returns-2
-returns-2 c = 
+returns-2 c =
     let z = c .before .before .before .before .before .before .before .before .before .before .before .before .before .before .before .before .before .before .before in
     let r = c .before .before .before .before .before .before .before .before .before .before .before .before .read-page in
     let e = ap answerOf (sym (c .before .before .before .before .before .before .before .before .enum-told .given .1)) ∙ r .ensures .0 in

@@ -22,7 +22,7 @@ enum-known-read : tie.Need-enum-known-read
 enum-known-read c = search needs
 
 put-refusal-requires : tie.Need-put-refusal-requires
-put-refusal-requires c κs = 
+put-refusal-requires c κs =
     let z = c .before .before .before .before .before .before .before .before .before .before .before .before .before .before in
     let r = c .before .before .before .before .before .before .read-list in
     let h = refusal-few (z .args .bytes .now) (z .args .page .now) _ _ (refused-told _ _ _ _ _ (r .ensures) (c .before .before .read .given .1)) in
@@ -32,7 +32,7 @@ enum-known-read-2 : tie.Need-enum-known-read-2
 enum-known-read-2 c = search needs
 
 put-top-requires : tie.Need-put-top-requires
-put-top-requires c κs = 
+put-top-requires c κs =
     let z = c .before .before .before .before .before .before .before .before .before .before .before .before .before .before in
     (omega (arith, z .pre .2), omega (arith, head-of (z .args .page .now) (sound-solvable (z .args .page .now) (z .pre .0)) .top-most))
 
@@ -43,7 +43,7 @@ same-length-2 : tie.Need-same-length-2
 same-length-2 c = search needs
 
 returns : tie.Need-returns
-returns c = 
+returns c =
     let z = c .before .before .before .before .before .before .before .before .before .before .before .before .before .before .before .before .before in
     list-refused (z .args .bytes .now) (z .args .page .now) _ _ (refused-told _ _ _ _ _ (c .before .before .before .before .before .before .before .before .before .read-list .ensures) (c .before .before .before .before .before .read .given .1)) (c .before .before .put-refusal .ensures)
 
@@ -54,7 +54,7 @@ same-length-4 : tie.Need-same-length-4
 same-length-4 c = search needs
 
 returns-2 : tie.Need-returns-2
-returns-2 c = 
+returns-2 c =
     let z = c .before .before .before .before .before .before .before .before .before .before .before .before .before .before .before .before .before in
     let r = c .before .before .before .before .before .before .before .before .before .read-list in
     list-begun (z .args .bytes .now) (z .args .page .now) _ _ (read-told _ _ _ _ _ (r .ensures) (c .before .before .before .before .before .read2 .given .1)) (omega (arith, z .pre .1, r .kept .1 .1 .1 .0)) (c .before .before .put-top .ensures)

@@ -89,7 +89,7 @@ slice-aggregate-print-trials-3 : tie.Need-slice-aggregate-print-trials-3
 slice-aggregate-print-trials-3 c = search needs
 
 print-trials-requires : tie.Need-print-trials-requires
-print-trials-requires c κs = 
+print-trials-requires c κs =
     let r = c .before .before .before .before .before .before .before .before .before .before .before .begin in
     let h = begun-read _ _ _ _ _ _ (r .ensures) (c .before .before .before .before .before .before .begun2 .given .1) in
     (h .page-sound, h .list-begun .in-range, omega (arith, r .kept .1 .1 .1 .1 .0))

@@ -40,7 +40,7 @@ loop-less : tie.Need-loop-less Inv-loop μ-loop
 loop-less c = omega (arith, c .before .before .before .before .before .answer-trial .ensures .some, c .before .before .before .before .before .answer-trial .ensures .within)
 
 loop-again : tie.Need-loop-again Inv-loop μ-loop
-loop-again c = 
+loop-again c =
     let r = c .before .before .before .before .before .answer-trial in
     let l = c .before .before .before .before .before .before .before .before .loop .inv in
     (r .kept .1 .1 .1 .1 .0 ∙ l .0, r .ensures .within, omega (arith, r .ensures .few, r .ensures .some, l .2))
