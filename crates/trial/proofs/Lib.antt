@@ -4,3 +4,5 @@ pub mod Listing
 pub mod Beginning
 -- the page that a trial changes
 pub mod Changing
+-- the parts are the output
+pub mod Whole

@@ -2,10 +2,10 @@
 use mathlib.Core.Path.{_≡_}
 use mathlib.Core.Logic.{_≢_}
 use mathlib.Core.Bool.{true}
-use mathlib.Core.List.{List, [], _∷_}
+use mathlib.Core.List.{List, [], _∷_, _++_}
 use mathlib.Core.Option.{Option, none, some}
 use Prim.Native.Nat.{ℕ, _+_, _*_, _-_, _≤_, _<_}
-use lib.ListN.{length, getD, drop}
+use lib.ListN.{length, getD, take, drop}
 use Rattle.print.specs.Wrote.{Wrote}
 use Rattle.semantics.specs.Area.{sound, pageOf, topOf, conditionsOf}
 use Rattle.semantics.specs.Output.{queriesOf, Answers, AreAnswers, topFields, refusalFields, printed}
@@ -81,3 +81,9 @@ pub record TrialPut (page : Page) (list : List ℕ) (from lines : ℕ) (out out�
   pub fits : size ≤ 27648
   pub wrote : (A : Answers) → AreAnswers (changedPage page (trial .lines)) A
       → Wrote out 0 (printed (trialAnswers (trial .number) A (queriesOf (page .lines)))) out′ size
+
+-- the bytes of the trials from the line `from` on, one after another, and how many answers they have
+pub data AllPut (page : Page) (list : List ℕ) (lines : ℕ) : ℕ → List ℕ → ℕ → Type 0 where
+  no-more : AllPut page list lines lines [] 0
+  one-more : {from end size count : ℕ} {out out′ bytes : List ℕ} {k : ℕ} → TrialPut page list from lines out out′ end size count → AllPut page list lines end bytes k
+      → AllPut page list lines from (take size out′ ++ bytes) (count + k)
