@@ -1,14 +1,16 @@
 //! The documents for people: every figure in them is made again by the program and compared.
 //!
-//! - A block marked `console` holds commands after `$ ` and what they print. They run in a folder with `desk`, `examples` and `target`
-//!   of the repository, with each block marked `page NAME` of the same document as a file, and with the C examples on the path.
+//! - A block marked `console` holds commands after `$ ` and what they print. They run in a folder with `desk` and `examples` of the
+//!   repository, with `attach` and `trials` in `target/bin`, with each block marked `page NAME` of the same document as a file, and with
+//!   the C examples on the path.
 //! - A comment `<!-- checked: HOW -->` stands before a table; HOW is one of the words of `check_table`.
 //! - An interval [a;b] in figures anywhere else must be shown by a checked table or a console block of the same document.
 //! - The rules of an operation (`docs/RULES.md`) state its refusals, in order, with the causes of the header.
 //! - A number with a comma in it, as in 1,024, must be a limit that the header states, and so must a limit in words (`PHRASES`).
 
 use std::collections::BTreeSet;
-use std::path::PathBuf;
+use std::os::unix::fs::symlink;
+use std::path::{Path, PathBuf};
 use std::process::Command;
 use std::sync::OnceLock;
 
@@ -19,6 +21,7 @@ use crate::programs::{self, built, file, root};
 use crate::runner::Case;
 use crate::stack::{header_figure, stack_figure};
 use crate::trial::{figure, Check, Trial};
+use crate::trials;
 
 pub fn cases() -> Vec<Case> {
     vec![Case {
@@ -150,8 +153,12 @@ fn unquoted(line: &str) -> String {
     line.split('`').step_by(2).collect::<Vec<_>>().join(" ")
 }
 
-/// Whether a part in backquotes is a line that `attach` prints, in figures.
+/// Whether a part in backquotes is a line that `attach` or `trials` prints, in figures.
 fn is_output(code: &str) -> bool {
+    let code = match code.split_once(',') {
+        Some((trial, rest)) if trial.parse::<u32>().is_ok() => rest,
+        _ => code,
+    };
     let (word, rest) = code.split_once(',').unwrap_or((code, ""));
     let figures = rest.split(',').all(|field| field.parse::<u32>().is_ok());
     ["top", "K", "W", "end", "refused"].contains(&word) && figures
@@ -278,7 +285,7 @@ impl Document {
         for line in got.lines() {
             self.printed.insert(line.to_string());
             let fields: Vec<&str> = line.split(',').collect();
-            if let ["K" | "W", _, low, high] = fields[..] {
+            if let ["K" | "W", _, low, high] | [_, "K" | "W", _, low, high] = fields[..] {
                 self.shown
                     .insert((low.parse().unwrap_or(0), high.parse().unwrap_or(0)));
             }
@@ -298,6 +305,7 @@ impl Document {
             "pages," => readings_of_pages(rest, table),
             "ops," => ops(rest, table),
             "texts" => texts(table),
+            "lists" => lists(rest, table),
             "fields," => fields(rest, table),
             "runs," => runs(rest, table),
             "layers," => layers_of_pages(rest, table),
@@ -361,9 +369,15 @@ fn sandbox() -> Check<PathBuf> {
         let _ = std::fs::remove_dir_all(&folder);
         std::fs::create_dir_all(&folder)?;
         let root = std::fs::canonicalize(root())?;
-        for name in ["desk", "examples", "target"] {
-            std::os::unix::fs::symlink(root.join(name), folder.join(name))?;
+        for name in ["desk", "examples"] {
+            symlink(root.join(name), folder.join(name))?;
         }
+        let programs = folder.join("target/bin");
+        std::fs::create_dir_all(&programs)?;
+        let attach = attach::PROGRAM.get().map_or("", |words| &words[0]);
+        let attach = std::fs::canonicalize(Path::new(attach))?;
+        symlink(attach.with_file_name("trials"), programs.join("trials"))?;
+        symlink(attach, programs.join("attach"))?;
         Ok(folder)
     };
     FOLDER
@@ -456,6 +470,19 @@ fn texts(table: &Table) -> Check {
         wanted.push(10);
         let wanted = String::from_utf8_lossy(&wanted).into_owned();
         figure(&format!("the answer to `{text}`"), printed, wanted)?;
+    }
+    Ok(())
+}
+
+/// `lists of FILE`: columns list and answer, which is the first line that `trials` prints.
+fn lists(how: &str, table: &Table) -> Check {
+    let page = file(how.strip_prefix("of ").ok_or("no page")?)?;
+    for row in &table.rows {
+        let list = quoted(table.cell(row, "list")?).concat();
+        let answer = quoted(table.cell(row, "answer")?).concat();
+        let printed = trials::output(page.as_bytes(), &unescaped(&list)?)?;
+        let first = printed.lines().next().unwrap_or_default();
+        figure(&format!("the answer to `{list}`"), first, answer.as_str())?;
     }
     Ok(())
 }

@@ -1,6 +1,7 @@
-//! Random and structured pages, run areas and arguments.
+//! Random and structured pages, lists of trials, run areas and arguments.
 
 use crate::area::{NOT_REACHED_MARK, REACHED_MARK, WAITING_MARK};
+use crate::list::{Tried, TRIAL_MAX};
 use crate::page::*;
 use crate::rng::Rng;
 
@@ -672,6 +673,118 @@ pub fn limit_page(rng: &mut Rng, item: u64) -> Page {
         count,
         lines,
     }
+}
+
+/// The numbers of bench/pages.c (xorshift, 32 bits).
+struct Draw(u32);
+
+impl Draw {
+    /// 0 to `n` - 1.
+    fn below(&mut self, n: u16) -> u16 {
+        self.0 ^= self.0 << 13;
+        self.0 ^= self.0 >> 17;
+        self.0 ^= self.0 << 5;
+        ((self.0 >> 8) % u32::from(n)) as u16
+    }
+
+    fn body(&mut self, literals: u16, count: u16) -> Vec<Literal> {
+        let one = |_| {
+            let negated = self.below(3) == 0;
+            let cond = self.below(count);
+            Literal { cond, negated }
+        };
+        (0..literals).map(one).collect()
+    }
+}
+
+/// The page `typical` of bench/pages.c: 150 conditions, 60 facts, 232 rules of 1 to 4 literals, 8 queries.
+pub fn bench_typical() -> Page {
+    let (top, count, queries) = (100, 150, 8);
+    let mut draw = Draw(150);
+    let mut lines = Vec::new();
+    for _ in 0..60 {
+        let low = draw.below(top + 1);
+        let cond = draw.below(count);
+        let high = low + draw.below(top - low + 1);
+        lines.push(Line::Fact { cond, low, high });
+    }
+    for _ in 0..232 {
+        let head = draw.below(count);
+        let weight = top - draw.below(top / 5);
+        let literals = 1 + draw.below(4);
+        let op = OPS[usize::from(draw.below(5))];
+        lines.push(Line::Rule {
+            head,
+            weight,
+            op,
+            body: draw.body(literals, count),
+        });
+    }
+    lines.extend((0..queries).map(|number| Line::Query {
+        closed: number % 2 == 1,
+        cond: number * count / queries,
+    }));
+    Page { top, count, lines }
+}
+
+/// The page `largest` of bench/pages.c: 512 conditions, 1,023 rules of 8 literals, a third of them negated, one query.
+pub fn bench_largest() -> Page {
+    let (top, count) = (TOP_MAX, CONDITIONS_MAX);
+    let mut draw = Draw(1023);
+    let rule = |number: u16| {
+        let weight = top - draw.below(100);
+        let op = OPS[usize::from(draw.below(5))];
+        Line::Rule {
+            head: number % count,
+            weight,
+            op,
+            body: draw.body(8, count),
+        }
+    };
+    let mut lines: Vec<Line> = (0..1023).map(rule).collect();
+    lines.push(Line::Query {
+        closed: true,
+        cond: 0,
+    });
+    Page { top, count, lines }
+}
+
+/// A line of a list for a page; a third of the lines name a condition that a line before them names.
+fn tried_line(rng: &mut Rng, page: &Page, trial: u16, before: &[Tried]) -> Tried {
+    let cond = match before {
+        [_, ..] if rng.percent(33) => before[rng.index(before.len())].cond,
+        _ => rng.range(0, page.count - 1),
+    };
+    let (low, high) = interval(rng, page.top);
+    Tried::new(trial, cond, low, high)
+}
+
+/// A list of up to this many lines for a page: trials of few lines or of many, with numbers that rise by little or by much.
+pub fn list(rng: &mut Rng, page: &Page, most: usize) -> Vec<Tried> {
+    let share = rng.pick(&[0, 30, 60, 90]);
+    let step = rng.pick(&[1, 2, 40, 400]);
+    let mut trial = rng.pick(&[0, 0, 1, 255, 256, 990, 999]);
+    let mut lines: Vec<Tried> = Vec::new();
+    for _ in 0..rng.index(most + 1) {
+        if !lines.is_empty() && !rng.percent(share) {
+            trial = (trial + rng.range(1, step)).min(TRIAL_MAX);
+        }
+        let line = tried_line(rng, page, trial, &lines);
+        lines.push(line);
+    }
+    lines
+}
+
+/// A list of 1,024 lines with trials 0 to 999, the most that there can be.
+pub fn thousand_trials(rng: &mut Rng, page: &Page) -> Vec<Tried> {
+    let mut lines: Vec<Tried> = Vec::new();
+    for trial in 0..=TRIAL_MAX {
+        for _ in 0..=usize::from(trial % 42 == 7) {
+            let line = tried_line(rng, page, trial, &lines);
+            lines.push(line);
+        }
+    }
+    lines
 }
 
 pub fn shuffle<T>(rng: &mut Rng, items: &mut [T]) {

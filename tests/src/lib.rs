@@ -1,6 +1,6 @@
 //! Outside tests of the rule-page engine, through its C interface.
 //!
-//! The reference solver is `page`, `area`, `body`, `reach`, `plain`, `book`, `closed`, `layers`, `picks`, `stalls`, `followers`, `small`, `season` and `enumerate`; each
+//! The reference solver is `page`, `area`, `body`, `reach`, `plain`, `book`, `closed`, `layers`, `picks`, `stalls`, `followers`, `small`, `season`, `list` and `enumerate`; each
 //! names the section of document 01 (`docs/RULES.md`) that it implements. `fast` is a second one for large pages. `workspace` says what
 //! an indexed form leaves there. The callee is reached through `ffi`, `guard`, `stack` and `engine`: what it only reads lies in memory that
 //! cannot be written, beside what it is lent there is no memory, and it has no more stack than the header says. `trial` compares
@@ -11,10 +11,12 @@
 //!   of the stack, with a roomy one.
 //! - `cargo run --release -- stack` measures the stack of each function and prints it beside the header's figure.
 //! - `cargo run --release -- attach PATH` tests the program `attach` at that path.
+//! - `cargo run --release -- trials PATH` tests the program `trials` at that path, each run in a folder of its own.
 //! - `cargo run --release -- documents PATH` builds and runs the C examples and the C test (gcc), and makes every figure of the
-//!   documents again, with the program `attach` at that path.
-//! - `cargo run --release -- mutants` tries the tests themselves: the reference solver stands in for the library and for `attach`,
-//!   one fault after another is planted in it, and each must be noticed by the case that is named beside it (`standin::FAULTS`).
+//!   documents again, with the program `attach` at that path and `trials` beside it.
+//! - `cargo run --release -- mutants` tries the tests themselves: the reference solver stands in for the library, for `attach` and for
+//!   `trials`, one fault after another is planted in it, and each must be noticed by the case that is named beside it (`standin::FAULTS`);
+//!   add `only TEXT` for the faults whose name contains the text.
 
 pub mod answer;
 pub mod area;
@@ -34,6 +36,7 @@ pub mod gen;
 pub mod guard;
 pub mod input;
 pub mod layers;
+pub mod list;
 pub mod page;
 pub mod picks;
 pub mod plain;
@@ -49,4 +52,5 @@ pub mod stack;
 pub mod stalls;
 pub mod standin;
 pub mod trial;
+pub mod trials;
 pub mod workspace;

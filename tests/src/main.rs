@@ -1,11 +1,18 @@
 //! The test program; see the library's notes for its arguments.
 
+use std::path::Path;
 use std::process::exit;
 
-use outside::{attach, cases, runner};
+use outside::{attach, cases, runner, trials};
 
 const USAGE: &str =
-    "arguments: none | calls [quick] | quick | only TEXT | item NUMBER only TEXT | stack | attach PATH | documents PATH | mutants [all]";
+    "arguments: none | calls [quick] | quick | only TEXT | item NUMBER only TEXT | stack | attach PATH | trials PATH | documents PATH | mutants [all | only TEXT]";
+
+/// This program as the stand-in for another.
+fn stand_in(word: &str) -> Vec<String> {
+    let program = std::env::current_exe().expect("the program knows its own place");
+    vec![program.to_string_lossy().into_owned(), word.to_string()]
+}
 
 fn main() {
     let arguments: Vec<String> = std::env::args().skip(1).collect();
@@ -34,20 +41,29 @@ fn main() {
             runner::run(&attach::cases(), 1, "")
         }
         ["attach", "standin", "only", text] => {
-            let program = std::env::current_exe().expect("the program knows its own place");
-            let program = program.to_string_lossy().into_owned();
-            let _ = attach::PROGRAM.set(vec![program, "standin-attach".to_string()]);
+            let _ = attach::PROGRAM.set(stand_in("standin-attach"));
             runner::run(&attach::cases(), 10, text)
+        }
+        ["trials", path] => {
+            trials::set_program(Path::new(path));
+            runner::run(&trials::cases(), 1, "")
+        }
+        ["trials", "standin", "only", text] => {
+            let _ = trials::PROGRAM.set(stand_in("standin-trials"));
+            runner::run(&trials::cases(), 10, text)
         }
         ["documents", path] => {
             let _ = attach::PROGRAM.set(vec![path.to_string()]);
+            trials::set_program(&Path::new(path).with_file_name("trials"));
             let mut cases = outside::examples::cases();
             cases.extend(outside::documents::cases());
             runner::run(&cases, 1, "")
         }
-        ["mutants"] => outside::standin::mutants(false),
-        ["mutants", "all"] => outside::standin::mutants(true),
+        ["mutants"] => outside::standin::mutants(false, ""),
+        ["mutants", "all"] => outside::standin::mutants(true, ""),
+        ["mutants", "only", text] => outside::standin::mutants(false, text),
         ["standin-attach"] => exit(outside::standin::attach()),
+        ["standin-trials"] => exit(outside::standin::trials()),
         _ => {
             eprintln!("{USAGE}");
             exit(2);

@@ -128,7 +128,7 @@ impl Line {
 }
 
 /// A number field: 1 to 3 digits, no leading zero except `0` itself.
-fn number(field: &[u8]) -> Option<u16> {
+pub fn number(field: &[u8]) -> Option<u16> {
     let digits = field.iter().all(u8::is_ascii_digit);
     let zero_first = field.len() > 1 && field[0] == b'0';
     if field.is_empty() || field.len() > 3 || !digits || zero_first {

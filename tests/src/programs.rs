@@ -1,4 +1,4 @@
-//! Programs that are started: `attach`, the C examples and the C tests.
+//! Programs that are started: `attach`, `trials`, the C examples and the C tests.
 
 use std::io::Write;
 use std::path::{Path, PathBuf};
@@ -6,7 +6,7 @@ use std::process::{Command, Stdio};
 use std::sync::mpsc::{self, RecvTimeoutError};
 use std::sync::OnceLock;
 use std::thread;
-use std::time::Duration;
+use std::time::{Duration, Instant};
 
 use crate::trial::Check;
 
@@ -15,6 +15,8 @@ pub struct Ended {
     pub status: Option<i32>,
     pub out: Vec<u8>,
     pub err: Vec<u8>,
+    /// From its start to its end.
+    pub time: Duration,
 }
 
 /// A program that takes longer is ended and has failed.
@@ -26,6 +28,17 @@ extern "C" {
 
 /// Runs a program on this input, handed over in pieces of this length.
 pub fn run(command: &mut Command, input: &[u8], piece: usize) -> Check<Ended> {
+    run_within(command, input, piece, LIMIT)
+}
+
+/// The same with another limit of time.
+pub fn run_within(
+    command: &mut Command,
+    input: &[u8],
+    piece: usize,
+    limit: Duration,
+) -> Check<Ended> {
+    let start = Instant::now();
     let mut child = command
         .stdin(Stdio::piped())
         .stdout(Stdio::piped())
@@ -48,12 +61,13 @@ pub fn run(command: &mut Command, input: &[u8], piece: usize) -> Check<Ended> {
     let process = child.id() as i32;
     let (ended, end) = mpsc::channel::<()>();
     let watch = thread::spawn(move || {
-        if end.recv_timeout(LIMIT) == Err(RecvTimeoutError::Timeout) {
+        if end.recv_timeout(limit) == Err(RecvTimeoutError::Timeout) {
             // SAFETY: the process is this function's own and was not yet waited for.
             unsafe { kill(process, 9) };
         }
     });
     let output = child.wait_with_output();
+    let time = start.elapsed();
     drop(ended);
     let _ = (watch.join(), writer.join());
     let output = output.map_err(|error| format!("{command:?} does not end: {error}"))?;
@@ -61,6 +75,7 @@ pub fn run(command: &mut Command, input: &[u8], piece: usize) -> Check<Ended> {
         status: output.status.code(),
         out: output.stdout,
         err: output.stderr,
+        time,
     })
 }
 

@@ -1,7 +1,8 @@
-//! Damage to page texts, page areas and run areas.
+//! Damage to page texts, lists of trials, page areas and run areas.
 
 use crate::area::{encode_line, first_line, without_defaults, HEAD, NOT_REACHED_MARK};
 use crate::gen;
+use crate::list::{self, Tried, LIST_LINES_MAX};
 use crate::page::*;
 use crate::rng::Rng;
 
@@ -134,6 +135,42 @@ pub fn text(rng: &mut Rng, good: &[u8]) -> Vec<u8> {
         _ => text = extreme_line(rng, &lines, line),
     }
     text
+}
+
+/// Damages a list of trials for a page in one way; the result may still be good.
+pub fn list(rng: &mut Rng, page: &Page, good: &[Tried]) -> Vec<u8> {
+    if good.is_empty() {
+        return rng
+            .pick(&[b"\n".as_slice(), b"T", b"T,0,0,0,0", b"\0"])
+            .to_vec();
+    }
+    let near = |rng: &mut Rng, number: u16| (number + rng.range(0, 2)).saturating_sub(1);
+    let mut lines = good.to_vec();
+    let at = rng.index(lines.len());
+    let before = lines[at.saturating_sub(1)].trial;
+    let line = &mut lines[at];
+    match rng.below(10) {
+        0 => line.cond = near(rng, page.count),
+        1 => line.low = near(rng, page.top),
+        2 => line.high = near(rng, page.top),
+        3 => line.low = near(rng, line.high),
+        4 => line.trial = near(rng, before),
+        5 => {
+            line.trial = near(rng, before);
+            line.cond = near(rng, page.count);
+        }
+        6 => {
+            let other = rng.index(lines.len());
+            lines.swap(at, other);
+        }
+        7 => {
+            let length = LIST_LINES_MAX - 1 + rng.index(4);
+            let last = lines[lines.len() - 1];
+            lines.resize(length, last);
+        }
+        _ => return text(rng, &list::text(good)),
+    }
+    list::text(&lines)
 }
 
 /// One number replaced by another, often out of range or out of form.

@@ -1,9 +1,9 @@
-//! The C interface and the program `attach` made from the reference solver, to try the tests on.
+//! The C interface and the programs `attach` and `trials` made from the reference solver, to try the tests on.
 //!
 //! They are under test where the variable STANDIN_FAULT is set. Its value plants one of the faults below, or none if it is empty.
 //! With a fault planted, a good test run fails.
 
-use std::collections::BTreeSet;
+use std::collections::{BTreeMap, BTreeSet};
 use std::io::{Read, Write};
 use std::process::Command;
 use std::sync::{Mutex, OnceLock};
@@ -17,7 +17,8 @@ use crate::book::Book;
 use crate::fast::{Index, Run};
 use crate::followers;
 use crate::layers;
-use crate::page::{self, Line, Op, Page};
+use crate::list::{self, Tried, LIST_LINES_MAX, LIST_MAX};
+use crate::page::{self, Line, Op, Page, LINES_MAX};
 use crate::picks;
 use crate::plain::{self, check_queries};
 use crate::reach;
@@ -736,6 +737,247 @@ pub const FAULTS: &[(&str, &str, &str)] = &[
         "attach standin only CASE",
         "attach_prints_the_example",
     ),
+    // The program `trials`.
+    (
+        "trials_first_line_of_a_condition_wins",
+        "trials standin only CASE",
+        "trials_answers_as_stated",
+    ),
+    (
+        "trials_first_line_of_a_condition_wins",
+        "trials standin only CASE",
+        "trials_takes_the_last_of_600_lines",
+    ),
+    (
+        "trials_facts_carried_over",
+        "trials standin only CASE",
+        "trials_answers_as_stated",
+    ),
+    (
+        "trials_facts_carried_over",
+        "trials standin only CASE",
+        "trials_agrees_on_good_lists",
+    ),
+    (
+        "trials_rules_dropped",
+        "trials standin only CASE",
+        "trials_answers_as_stated",
+    ),
+    (
+        "trials_rules_dropped",
+        "trials standin only CASE",
+        "trials_changes_a_page_of_1024_lines",
+    ),
+    (
+        "trials_default_dropped",
+        "trials standin only CASE",
+        "trials_answers_as_stated",
+    ),
+    (
+        "trials_only_the_first_fact_replaced",
+        "trials standin only CASE",
+        "trials_answers_as_stated",
+    ),
+    (
+        "trials_fact_added_to_the_others",
+        "trials standin only CASE",
+        "trials_answers_as_stated",
+    ),
+    (
+        "trials_facts_of_all_conditions_dropped",
+        "trials standin only CASE",
+        "trials_answers_as_stated",
+    ),
+    (
+        "trials_only_facts_replaced",
+        "trials standin only CASE",
+        "trials_answers_as_stated",
+    ),
+    (
+        "trials_only_the_last_line_counts",
+        "trials standin only CASE",
+        "trials_answers_as_stated",
+    ),
+    (
+        "trials_limit_on_the_changed_page",
+        "trials standin only CASE",
+        "trials_changes_a_page_of_1024_lines",
+    ),
+    (
+        "trials_facts_past_line_1024_dropped",
+        "trials standin only CASE",
+        "trials_changes_a_page_of_1024_lines",
+    ),
+    (
+        "trials_answered_after_every_line",
+        "trials standin only CASE",
+        "trials_answers_as_stated",
+    ),
+    (
+        "trials_queries_by_reading",
+        "trials standin only CASE",
+        "trials_answers_as_stated",
+    ),
+    (
+        "trials_repeated_query_answered_once",
+        "trials standin only CASE",
+        "trials_answers_as_stated",
+    ),
+    (
+        "trials_number_missing",
+        "trials standin only CASE",
+        "trials_prints_the_example",
+    ),
+    (
+        "trials_number_cut_to_a_byte",
+        "trials standin only CASE",
+        "trials_takes_every_trial_number",
+    ),
+    (
+        "trials_last_trial_not_printed",
+        "trials standin only CASE",
+        "trials_prints_the_example",
+    ),
+    (
+        "trials_count_of_one_trial",
+        "trials standin only CASE",
+        "trials_prints_the_example",
+    ),
+    (
+        "trials_count_of_trials",
+        "trials standin only CASE",
+        "trials_prints_the_example",
+    ),
+    (
+        "trials_count_cut_to_16_bits",
+        "trials standin only CASE",
+        "trials_answers_1024_queries_a_thousand_times",
+    ),
+    (
+        "trials_empty_list_answered_once",
+        "trials standin only CASE",
+        "trials_takes_a_missing_file_as_empty",
+    ),
+    (
+        "trials_missing_page_as_a_bad_list",
+        "trials standin only CASE",
+        "trials_takes_a_missing_file_as_empty",
+    ),
+    (
+        "trials_missing_list_refused",
+        "trials standin only CASE",
+        "trials_takes_a_missing_file_as_empty",
+    ),
+    (
+        "trials_page_from_standard_input",
+        "trials standin only CASE",
+        "trials_takes_a_missing_file_as_empty",
+    ),
+    (
+        "trials_42_before_41",
+        "trials standin only CASE",
+        "trials_refuses_lists_as_stated",
+    ),
+    (
+        "trials_last_bad_line_decides",
+        "trials standin only CASE",
+        "trials_refuses_lists_as_stated",
+    ),
+    (
+        "trials_line_from_zero",
+        "trials standin only CASE",
+        "trials_refuses_lists_as_stated",
+    ),
+    (
+        "trials_unended_line_taken",
+        "trials standin only CASE",
+        "trials_refuses_lists_as_stated",
+    ),
+    (
+        "trials_carriage_return_taken",
+        "trials standin only CASE",
+        "trials_refuses_lists_as_stated",
+    ),
+    (
+        "trials_leading_zero_taken",
+        "trials standin only CASE",
+        "trials_refuses_lists_as_stated",
+    ),
+    (
+        "trials_equal_number_refused",
+        "trials standin only CASE",
+        "trials_refuses_lists_as_stated",
+    ),
+    (
+        "trials_falling_number_taken",
+        "trials standin only CASE",
+        "trials_refuses_lists_as_stated",
+    ),
+    (
+        "trials_ends_exchanged",
+        "trials standin only CASE",
+        "trials_refuses_lists_as_stated",
+    ),
+    (
+        "trials_condition_c_taken",
+        "trials standin only CASE",
+        "trials_knows_the_ranges_of_its_page",
+    ),
+    (
+        "trials_grade_over_top_taken",
+        "trials standin only CASE",
+        "trials_knows_the_ranges_of_its_page",
+    ),
+    (
+        "trials_list_before_the_page",
+        "trials standin only CASE",
+        "trials_refuses_the_page_first",
+    ),
+    (
+        "trials_1025_lines_taken",
+        "trials standin only CASE",
+        "trials_takes_1024_lines",
+    ),
+    (
+        "trials_1024_lines_refused",
+        "trials standin only CASE",
+        "trials_takes_1024_lines",
+    ),
+    (
+        "trials_rest_of_a_long_list_dropped",
+        "trials standin only CASE",
+        "trials_takes_1024_lines",
+    ),
+    (
+        "trials_long_list_refused_at_line_0",
+        "trials standin only CASE",
+        "trials_reads_long_lists",
+    ),
+    (
+        "trials_long_page_cut",
+        "trials standin only CASE",
+        "trials_reads_long_pages",
+    ),
+    (
+        "trials_writes_a_file",
+        "trials standin only CASE",
+        "trials_prints_the_example",
+    ),
+    (
+        "trials_writes_to_standard_error",
+        "trials standin only CASE",
+        "trials_prints_the_example",
+    ),
+    (
+        "trials_ends_with_1_for_a_refused_list",
+        "trials standin only CASE",
+        "trials_refuses_lists_as_stated",
+    ),
+    (
+        "trials_takes_2_seconds",
+        "trials standin only CASE",
+        "trials_takes_2_seconds_for_a_typical_page",
+    ),
     // Loops through an absence.
     (
         "layer_one_too_high",
@@ -1214,6 +1456,299 @@ pub fn attach() -> i32 {
         return 2;
     }
     i32::from(fault("attach_ends_with_1_for_a_refused_page") && output.starts_with("refused"))
+}
+
+/// The program `trials`; its exit status.
+pub fn trials() -> i32 {
+    let (page, list) = (std::fs::read("page"), std::fs::read("trials"));
+    let no_list = list.is_err();
+    let (mut text, list) = (page.unwrap_or_default(), list.unwrap_or_default());
+    if fault("trials_page_from_standard_input") && text.is_empty() {
+        let _ = std::io::stdin().read_to_end(&mut text);
+    }
+    if fault("trials_long_page_cut") && text.len() > page::TEXT_MAX {
+        text.truncate(page::TEXT_MAX);
+    }
+    let mut output = trials_output(&text, &list);
+    if fault("trials_missing_list_refused") && no_list && output.starts_with("top") {
+        output = format!("refused,{LIST_FORM},1\n");
+    }
+    if fault("trials_writes_a_file") && std::fs::write("answers", &output).is_err() {
+        return 2;
+    }
+    if fault("trials_writes_to_standard_error") {
+        eprintln!("list read");
+    }
+    if fault("trials_takes_2_seconds") {
+        std::thread::sleep(Duration::from_millis(2010));
+    }
+    if std::io::stdout().write_all(output.as_bytes()).is_err() {
+        return 2;
+    }
+    i32::from(fault("trials_ends_with_1_for_a_refused_list") && output.starts_with("refused"))
+}
+
+fn trials_output(text: &[u8], list: &[u8]) -> String {
+    let refused = |number: Refusal, line: usize| format!("refused,{number},{line}\n");
+    let page = match page::read(text) {
+        Ok(page) => page,
+        Err(_) if fault("trials_missing_page_as_a_bad_list") && text.is_empty() => {
+            return refused(LIST_FORM, 1);
+        }
+        Err(refusal) => {
+            let any = Page {
+                top: 999,
+                count: 999,
+                lines: Vec::new(),
+            };
+            return match list::read(&any, list) {
+                Err((number, line)) if fault("trials_list_before_the_page") => {
+                    refused(number, line)
+                }
+                _ => refused(refusal.number, refusal.line as usize),
+            };
+        }
+    };
+    let lines = match trials_lines(&page, list) {
+        Ok(lines) => lines,
+        Err((number, line)) => return refused(number, line),
+    };
+    let mut out = format!("top,{}\n", page.top);
+    let (mut count, trials) = (0, trials_of(&lines));
+    for (place, (number, named)) in trials.iter().enumerate() {
+        let changed = trials_changed(&page, named);
+        if fault("trials_limit_on_the_changed_page") && changed.lines.len() > LINES_MAX {
+            return refused(LINE_COUNT, LINES_MAX + 2);
+        }
+        if fault("trials_last_trial_not_printed") && place + 1 == trials.len() {
+            continue;
+        }
+        count += trials_answers(&mut out, *number, &changed);
+    }
+    if fault("trials_count_of_one_trial") {
+        count /= trials.len().max(1);
+    }
+    if fault("trials_count_of_trials") {
+        count = trials.len();
+    }
+    if fault("trials_count_cut_to_16_bits") {
+        count %= 65_536;
+    }
+    out.push_str(&format!("end,{count}\n"));
+    out
+}
+
+/// The lines of a list, each as its fields.
+fn trials_fields(list: &[u8], change: impl Fn(&mut Vec<String>)) -> Vec<u8> {
+    let text = String::from_utf8_lossy(list).into_owned();
+    let one = |line: &str| {
+        let mut fields: Vec<String> = line.split(',').map(str::to_string).collect();
+        change(&mut fields);
+        fields.join(",")
+    };
+    let lines: Vec<String> = text.split('\n').map(one).collect();
+    lines.join("\n").into_bytes()
+}
+
+/// The bytes of a list with what a fault overlooks put right.
+fn trials_overlooked(list: &[u8]) -> Vec<u8> {
+    let mut list = list.to_vec();
+    if fault("trials_unended_line_taken") && !list.is_empty() && !list.ends_with(b"\n") {
+        list.push(10);
+    }
+    if fault("trials_carriage_return_taken") {
+        list.retain(|byte| *byte != 13);
+    }
+    if fault("trials_leading_zero_taken") {
+        list = trials_fields(&list, |fields| {
+            for field in fields {
+                while field.len() > 1 && field.starts_with('0') {
+                    field.remove(0);
+                }
+            }
+        });
+    }
+    if fault("trials_ends_exchanged") {
+        list = trials_fields(&list, |fields| {
+            let number = |field: &String| field.parse::<u32>().unwrap_or(0);
+            if fields.len() == 5 && number(&fields[3]) > number(&fields[4]) {
+                fields.swap(3, 4);
+            }
+        });
+    }
+    if fault("trials_rest_of_a_long_list_dropped") {
+        let kept = list
+            .split_inclusive(|byte| *byte == 10)
+            .take(LIST_LINES_MAX);
+        list = kept.flatten().copied().collect();
+    }
+    list
+}
+
+fn trials_lines(page: &Page, list: &[u8]) -> Result<Vec<Tried>, (Refusal, usize)> {
+    if fault("trials_long_list_refused_at_line_0") && list.len() > LIST_MAX {
+        return Err((LIST_FORM, 0));
+    }
+    let list = trials_overlooked(list);
+    let ranges = Page {
+        top: page.top + u16::from(fault("trials_grade_over_top_taken")),
+        count: page.count + u16::from(fault("trials_condition_c_taken")),
+        lines: Vec::new(),
+    };
+    let whole: Vec<&[u8]> = list.split_inclusive(|byte| *byte == 10).collect();
+    let read = list::read(&ranges, &list);
+    let mut lines = read.or_else(|refusal| trials_refused(&ranges, &whole, refusal))?;
+    if fault("trials_1024_lines_refused") && lines.len() == LIST_LINES_MAX {
+        return Err((LIST_FORM, LIST_LINES_MAX));
+    }
+    if fault("trials_equal_number_refused") {
+        let mut pairs = lines.windows(2);
+        if let Some(at) = pairs.position(|pair| pair[0].trial == pair[1].trial) {
+            return Err((TRIAL_FALLS, at + 2));
+        }
+    }
+    // What a fault lets in has no place in the page.
+    lines.retain(|line| line.cond < page.count);
+    for line in &mut lines {
+        line.low = line.low.min(page.top);
+        line.high = line.high.min(page.top);
+    }
+    Ok(lines)
+}
+
+/// What becomes of a list that is refused.
+fn trials_refused(
+    ranges: &Page,
+    lines: &[&[u8]],
+    (number, line): (Refusal, usize),
+) -> Result<Vec<Tried>, (Refusal, usize)> {
+    let alone = |at: usize| list::read(ranges, lines[at - 1]);
+    let trial = |at: usize| {
+        let line = String::from_utf8_lossy(lines[at - 1]).into_owned();
+        let field = line.split(',').nth(1).map(str::parse::<u32>);
+        field.and_then(Result::ok).unwrap_or(0)
+    };
+    if fault("trials_1025_lines_taken") && lines.len() == LIST_LINES_MAX + 1 {
+        let mut most = list::read(ranges, &lines[..LIST_LINES_MAX].concat())?;
+        most.extend(alone(lines.len())?);
+        return Ok(most);
+    }
+    if fault("trials_falling_number_taken") && number == TRIAL_FALLS {
+        let all: Result<Vec<_>, _> = (1..=lines.len()).map(alone).collect();
+        return all.map(|all| all.concat());
+    }
+    if fault("trials_42_before_41") && number == LIST_RANGE && line > 1 {
+        let falls = trial(line) < trial(line - 1);
+        return Err((if falls { TRIAL_FALLS } else { number }, line));
+    }
+    if fault("trials_last_bad_line_decides") {
+        let later = (line + 1..=lines.len()).filter_map(|at| Some((alone(at).err()?.0, at)));
+        return Err(later.last().unwrap_or((number, line)));
+    }
+    Err((number, line - usize::from(fault("trials_line_from_zero"))))
+}
+
+/// The trials of a list.
+fn trials_of(lines: &[Tried]) -> Vec<(u16, BTreeMap<u16, Pair>)> {
+    if fault("trials_answered_after_every_line") {
+        let one = |line: &Tried| list::trials(&[*line]);
+        return lines.iter().flat_map(one).collect();
+    }
+    let mut trials = list::trials(lines);
+    if fault("trials_empty_list_answered_once") && trials.is_empty() {
+        trials.push((0, BTreeMap::new()));
+    }
+    let mut before = BTreeMap::new();
+    for (number, named) in &mut trials {
+        let own = || lines.iter().filter(|line| line.trial == *number);
+        if fault("trials_first_line_of_a_condition_wins") {
+            for line in own().rev() {
+                named.insert(line.cond, Pair::new(line.low, line.high));
+            }
+        }
+        if fault("trials_only_the_last_line_counts") {
+            let last = own().last().map(|line| line.cond);
+            named.retain(|cond, _| Some(*cond) == last);
+        }
+        if fault("trials_facts_carried_over") {
+            before.extend(named.clone());
+            *named = before.clone();
+        }
+        if fault("trials_number_cut_to_a_byte") {
+            *number &= 255;
+        }
+    }
+    trials
+}
+
+/// The page that a trial changes.
+fn trials_changed(page: &Page, named: &BTreeMap<u16, Pair>) -> Page {
+    let has_facts = |named: &u16| {
+        let is_its = |line: &Line| matches!(line, Line::Fact { cond, .. } if cond == named);
+        page.lines.iter().any(is_its)
+    };
+    let mut named = named.clone();
+    if fault("trials_only_facts_replaced") {
+        named.retain(|cond, _| has_facts(cond));
+    }
+    let mut changed = list::changed(page, &named);
+    let (all, later) = (
+        fault("trials_fact_added_to_the_others"),
+        fault("trials_only_the_first_fact_replaced"),
+    );
+    let mut replaced = BTreeSet::new();
+    let kept = page.lines.iter().filter(|line| match line {
+        Line::Fact { cond, .. } if named.contains_key(cond) => {
+            let first = replaced.insert(*cond);
+            all || (later && !first)
+        }
+        _ => false,
+    });
+    changed.lines.extend(kept.cloned());
+    let own = |cond: &u16| named.contains_key(cond);
+    let (rules, defaults, facts) = (
+        fault("trials_rules_dropped"),
+        fault("trials_default_dropped"),
+        fault("trials_facts_of_all_conditions_dropped"),
+    );
+    changed.lines.retain(|line| match line {
+        Line::Rule { head, .. } => !(rules && own(head)),
+        Line::Default { cond } => !(defaults && own(cond)),
+        Line::Fact { cond, .. } => !(facts && !own(cond)),
+        Line::Query { .. } => true,
+    });
+    if fault("trials_facts_past_line_1024_dropped") {
+        changed.lines.truncate(LINES_MAX);
+    }
+    changed
+}
+
+/// Prints the answers of a trial; how many.
+fn trials_answers(out: &mut String, number: u16, changed: &Page) -> usize {
+    let (plain, closed) = list::by_index(changed);
+    let query = |line: &Line| match line {
+        Line::Query { closed, cond } => Some((*closed, *cond)),
+        _ => None,
+    };
+    let mut queries: Vec<(bool, u16)> = changed.lines.iter().filter_map(query).collect();
+    if fault("trials_queries_by_reading") {
+        queries.sort_by_key(|(closed, _)| *closed);
+    }
+    if fault("trials_repeated_query_answered_once") {
+        let mut seen = BTreeSet::new();
+        queries.retain(|query| seen.insert(*query));
+    }
+    let first = match fault("trials_number_missing") {
+        true => String::new(),
+        false => format!("{number},"),
+    };
+    for (by, cond) in &queries {
+        let (letter, reading) = if *by { ('W', &closed) } else { ('K', &plain) };
+        let pair = reading[usize::from(*cond)];
+        let (low, high) = (pair.low, pair.high);
+        out.push_str(&format!("{first}{letter},{cond},{low},{high}\n"));
+    }
+    queries.len()
 }
 
 unsafe fn lent<'a, T>(start: *const T, length: usize) -> &'a [T] {
@@ -3280,11 +3815,12 @@ pub unsafe extern "C" fn simjorad_season(
     }
 }
 
-/// Plants one fault after another and runs the case that is named beside it, or all cases; true if every fault is noticed.
-pub fn mutants(every_case: bool) -> bool {
+/// Plants one fault after another and runs the case that is named beside it, or all cases; true if every fault is noticed. `only` keeps the
+/// faults whose name contains it.
+pub fn mutants(every_case: bool, only: &str) -> bool {
     let (mut noticed, mut missed) = (0, 0);
-    for (name, words, case) in FAULTS {
-        let words = match every_case && !words.starts_with("attach") {
+    for (name, words, case) in FAULTS.iter().filter(|(name, ..)| name.contains(only)) {
+        let words = match every_case && !words.contains("standin") {
             true => "quick",
             false => words,
         };
@@ -3297,7 +3833,11 @@ pub fn mutants(every_case: bool) -> bool {
             println!("FAILED {name}: not noticed by {case}, only by {failing:?}");
         }
     }
-    for words in ["quick", "attach standin only attach"] {
+    for words in [
+        "quick",
+        "attach standin only attach",
+        "trials standin only trials",
+    ] {
         let clean = failing_cases("", words);
         if clean.is_empty() {
             noticed += 1;

@@ -1,77 +1,47 @@
--- The Q lines of a page area: which lines they are, what is written for each, and the scan over all lines. Assumes nothing.
+-- The Q lines of a page area: what is written for each, and the scan over all lines; then the whole output. Assumes nothing.
 use mathlib.Core.Path.{_≡_, refl, sym, _∙_, ap}
 use mathlib.Core.Logic.{_≢_}
-use mathlib.Core.Bool.{true, false≢true}
+use mathlib.Core.Bool.{true}
 use mathlib.Core.List.{List, [], _∷_, _++_, append-nil, append-assoc}
 use Prim.Native.Nat.{ℕ, _+_, _*_, _-_, _≤_, _<_}
-use native.Mathlib.Decide.{decLe, ℕ-discrete}
+use native.Mathlib.Decide.{ℕ-discrete}
+use native.Mathlib.Nat.{mul-one, mul-add, mul-le-mul-left}
 use native.Mathlib.Omega.{arith}
 use lib.ListN.{length, getD, take, drop, length-append}
 use lib.Seq.{take-at}
-use borrow.Author.Tests.{le-leb, lt-leb}
-use Rattle.fixpoint.specs.Interval.{Interval, Within}
-use Rattle.semantics.specs.Area.{sound, pageOf, topOf, conditionsOf, countOf, usedOf, every, lineTests, lineAt, firstLine}
-use Rattle.semantics.specs.Page.{Reading, K, W, Line, Page}
+use borrow.Author.Tests.{leb-true, le-leb, lt-leb}
+use Rattle.fixpoint.specs.Interval.{Interval}
+use Rattle.semantics.specs.Area.{sound, pageOf, topOf, conditionsOf, countOf, usedOf, lineAt, firstLine}
+use Rattle.semantics.specs.Fields.{joined}
+use Rattle.semantics.specs.Page.{Reading, Line, Page}
 use Rattle.semantics.specs.ReadPage.{pageRead, refusedPage, readPage, readOf}
-use Rattle.semantics.specs.Reading.{Reads}
+use Rattle.semantics.specs.Output.{Query, queriesOf, Answers, AreAnswers, topFields, answerFields, endFields, refusalFields, printed, answerLines, pageOutput, IsOutput, Prints}
+use Rattle.semantics.proofs.Outputs.{answers-append, queries-append, queries-most, answer-short, page-output, answers-exist, answers-within, read-refused, read-accepted, page-accepted}
 use Rattle.semantics.proofs.ReadProper.{accepted-proper}
-use Rattle.semantics.proofs.Soundness.{sound-proper}
+use Rattle.semantics.proofs.Soundness.{sound-parts, few-lines}
+use Rattle.semantics.proofs.UsedLength.{mostUsed}
 use Rattle.page.specs.Lines.{Next}
+use Rattle.page.specs.Solvable.{solvable}
 use Rattle.page.proofs.Head.{head-of, top-is, conditions-is}
-use Rattle.page.proofs.Scan.{line-at, rule-kind, fact-kind, query-kind, fields-none, entry-fits, entry-head, entry-fields, default-kind}
-use Rattle.page.proofs.Scanning.{Scanning, linesLeft, scanning-first, lines-first, lines-moved, scanning-moved, lines-none}
+use Rattle.page.proofs.Scan.{entry-head}
+use Rattle.page.proofs.Scanning.{Scanning, linesLeft, step, scanning-first, lines-first, entry-ok, lines-on, lines-moved, scanning-moved, lines-none}
+use Rattle.page.proofs.Solvable.{solvable-proper}
 use Rattle.print.specs.Wrote.{Wrote}
 use Rattle.print.proofs.Writing.{wrote-none, wrote-then, wrote-as, wrote-front}
-use Rattle.answers.specs.Asked.{readingOf}
-use Rattle.semantics.specs.Output.{Query, queriesOf, IsReading, topFields, answerFields, endFields, refusalFields, printed, answerLines, pageOutput, IsOutput, Prints}
-use Rattle.answers.specs.Printing.{PutLines, PutPage, PutOutput}
-use Rattle.semantics.proofs.Outputs.{printed-append, answers-append, queries-append, queries-most, answer-short, page-output, answers-exist, read-refused, read-accepted, page-accepted}
-use Rattle.semantics.proofs.UsedLength.{mostUsed}
+use Rattle.solve.specs.Asked.{readingOf}
+use Rattle.solve.specs.Figures.{conditionsAsked, askedBy, Figures}
+use Rattle.solve.proofs.Queries.{a-query, no-query, conditions-length, condition-at}
+use Rattle.answers.specs.Printing.{ledLines, SmallFigures, queryAt, figured, PutLine, PutLines, PutPage, PutOutput}
 
--- the Q line at a place, if there is one
-module _ (a : List ℕ) (at : ℕ) where
-  pub a-query : getD a (at + 1) 0 ≡ 6 → queriesOf (lineAt (drop at a) ∷ []) ≡ record { reading = readingOf (getD a (at + 2) 0); condition = getD a at 0 } ∷ []
-  unfolding queriesOf
-  a-query e = rw (line-at a at, query-kind (getD a (at + 1) 0) e)
+-- lines behind lines
+led-append : (lead : List ℕ) (xs ys : List (List (List ℕ))) → ledLines lead (xs ++ ys) ≡ ledLines lead xs ++ ledLines lead ys
+led-append lead [] ys = refl
+led-append lead (x ∷ xs) ys =
+    ap (λ (s : List ℕ). (lead ++ joined x) ++ (10 ∷ s)) (led-append lead xs ys) ∙ sym (append-assoc (lead ++ joined x) (10 ∷ ledLines lead xs) (ledLines lead ys))
 
-  module _ (t : every (lineTests (topOf a) (conditionsOf a) (usedOf a - at) (drop at a)) ≡ true) where
-    -- an entry has a kind
-    kind-most : getD a (at + 1) 0 ≤ 7
-    kind-most =
-        elim (decLe (getD a (at + 1) 0) 7) [
-          | yes h ↦ h
-          | no h ↦ absurd (false≢true (sym (entry-fields (topOf a) (conditionsOf a) (usedOf a - at) a at (entry-fits (topOf a) (conditionsOf a) (usedOf a - at) a at t) (entry-head (topOf a) (conditionsOf a) (usedOf a - at) a at t)
-              ∙ fields-none (topOf a) (conditionsOf a) (getD a (at + 1) 0) (getD a (at + 2) 0) (getD a (at + 3) 0) (take (getD a (at + 3) 0) (drop (at + 4) a)) (omega arith)) ∙ t))
-        ]
-
-    pub no-query : getD a (at + 1) 0 ≢ 6 → queriesOf (lineAt (drop at a) ∷ []) ≡ []
-    unfolding queriesOf
-    no-query n =
-        elim (decLe 1 (getD a (at + 1) 0)) [
-          | yes h ↦
-              elim (ℕ-discrete (getD a (at + 1) 0) 7) [
-                | yes d ↦ rw (line-at a at, default-kind (getD a (at + 1) 0) d)
-                | no d ↦ rw (line-at a at, rule-kind (getD a (at + 1) 0) h (omega (arith, kind-most)) .1)
-              ]
-          | no h ↦ rw (line-at a at, fact-kind (getD a (at + 1) 0) (omega arith))
-        ]
-
--- an answer is a pair of grades
-reads-within : (page : Page) (r : Reading) {c : ℕ} {p : Interval} → Reads (IsReading r page) c p → c < page .conditions → Within (page .top) p
-reads-within page K {c} {p} h l = rw (h .every-one (h .some-one .0) (h .some-one .1)) at (h .some-one .1 .within c l)
-reads-within page W {c} {p} h l = rw (h .every-one (h .some-one .0) (h .some-one .1)) at (h .some-one .1 .closes .within c l)
-
--- so each of its numbers has at most three digits
-pub reads-small : (a : List ℕ) → sound a ≡ true → (r : Reading) {c : ℕ} {p : Interval} → Reads (IsReading r (pageOf a)) c p → c < conditionsOf a
-    → (c < 1000) × (p .low < 1000) × (p .high < 1000)
-reads-small a ok r {c} {p} h l =
-    let k = head-of a ok in
-    let w = reads-within (pageOf a) r h (rw (conditions-is a) l) in
-    (omega (arith, k .few), omega (arith, w .low-in, top-is a, k .top-most), omega (arith, w .high-in, top-is a, k .top-most))
-
-module _ (page : Page) where
+module _ (page : Page) (lead : List ℕ) where
   -- lines without a Q line
-  pub puts-none : (ls : List Line) → queriesOf ls ≡ [] → (out : List ℕ) (at count : ℕ) → at ≤ length out → PutLines page ls out at count out at count
+  puts-none : (ls : List Line) → queriesOf ls ≡ [] → (out : List ℕ) (at count : ℕ) → at ≤ length out → PutLines page lead ls out at count out at count
   puts-none ls e out at count h =
       record {
         counted = rw e (omega arith);
@@ -80,72 +50,151 @@ module _ (page : Page) where
       }
 
   -- a Q line, and its answer
-  pub puts-one : (ls : List Line) (q : Query) (p : Interval) → queriesOf ls ≡ q ∷ [] → Reads (IsReading (q .reading) page) (q .condition) p
-      → (q .condition < 1000) × (p .low < 1000) × (p .high < 1000)
-      → {out out′ : List ℕ} {at at′ count : ℕ} → Wrote out at (printed (answerFields q p ∷ [])) out′ at′ → PutLines page ls out at count out′ at′ (count + 1)
-  puts-one ls q p e h k w =
+  puts-one : (ls : List Line) (q : Query) (p : Interval) → queriesOf ls ≡ q ∷ [] → ((A : Answers) → AreAnswers page A → p ≡ A (q .reading) (q .condition))
+      → {out out′ : List ℕ} {at at′ count : ℕ} → Wrote out at (ledLines lead (answerFields q p ∷ [])) out′ at′ → at′ ≤ at + (14 + length lead) → PutLines page lead ls out at count out′ at′ (count + 1)
+  puts-one ls q p e h w l =
       record {
         counted = rw e (omega arith);
-        short = rw e (omega (arith, w .behind, answer-short q p (k .0) (k .1) (k .2)));
-        wrote = λ A a. rw e (wrote-as (ap (λ (x : Interval). printed (answerFields q x ∷ [])) (sym (h .every-one (A (q .reading)) (a (q .reading))))) w);
+        short = rw e (omega (arith, l, mul-one (14 + length lead)));
+        wrote = λ A a. rw e (wrote-as (ap (λ (x : Interval). ledLines lead (answerFields q x ∷ [])) (h A a)) w);
       }
 
   -- lines behind lines
-  pub puts-then : {xs ys : List Line} {out out₁ out₂ : List ℕ} {at at₁ at₂ count count₁ count₂ : ℕ}
-      → PutLines page xs out at count out₁ at₁ count₁ → PutLines page ys out₁ at₁ count₁ out₂ at₂ count₂ → PutLines page (xs ++ ys) out at count out₂ at₂ count₂
+  puts-then : {xs ys : List Line} {out out₁ out₂ : List ℕ} {at at₁ at₂ count count₁ count₂ : ℕ}
+      → PutLines page lead xs out at count out₁ at₁ count₁ → PutLines page lead ys out₁ at₁ count₁ out₂ at₂ count₂ → PutLines page lead (xs ++ ys) out at count out₂ at₂ count₂
   puts-then {xs} {ys} p q =
       let e = queries-append xs ys in
       let n = length-append (queriesOf xs) (queriesOf ys) in
       record {
         counted = rw e (omega (arith, n, p .counted, q .counted));
-        short = rw e (omega (arith, n, p .short, q .short));
-        wrote = λ A a. rw (e, answers-append A (queriesOf xs) (queriesOf ys), printed-append (answerLines A (queriesOf xs)) (answerLines A (queriesOf ys))) (wrote-then (p .wrote A a) (q .wrote A a));
+        short = rw (e, n) (omega (arith, mul-add (14 + length lead) (length (queriesOf xs)) (length (queriesOf ys)), p .short, q .short));
+        wrote = λ A a. rw (e, answers-append A (queriesOf xs) (queriesOf ys), led-append lead (answerLines A (queriesOf xs)) (answerLines A (queriesOf ys))) (wrote-then (p .wrote A a) (q .wrote A a));
+      }
+
+-- what one line leaves
+module _ (a plain closed lead out : List ℕ) (line at count : ℕ) where
+  pub put-other : getD a (line + 1) 0 ≢ 6 → PutLine a line plain closed lead out at count out at count
+  put-other n = record { other = λ k. (refl, refl, refl); one = λ e. absurd (n e); short = omega arith }
+
+  pub put-one : getD a line 0 < 1000 → SmallFigures plain closed (readingOf (getD a (line + 2) 0)) count → getD a (line + 1) 0 ≡ 6 → {out₁ out₂ : List ℕ} {at₁ at₂ : ℕ}
+      → Wrote out at lead out₁ at₁ → Wrote out₁ at₁ (printed (answerFields (queryAt a line) (figured plain closed (readingOf (getD a (line + 2) 0)) count) ∷ [])) out₂ at₂
+      → PutLine a line plain closed lead out at count out₂ at₂ (count + 1)
+  put-one c s e w v =
+      let q = queryAt a line in
+      let p = figured plain closed (readingOf (getD a (line + 2) 0)) count in
+      record {
+        other = λ n. absurd (n e);
+        one = λ k. (wrote-as (sym (append-assoc lead (joined (answerFields q p)) (10 ∷ []))) (wrote-then w v), refl);
+        short = omega (arith, w .behind, v .behind, answer-short q p c (s .low) (s .high));
       }
 
 -- The scan stands at `line`, behind `passed` lines, whose answers are written.
-pub record Printing (a out : List ℕ) (from line passed : ℕ) (out′ : List ℕ) (at count : ℕ) : Type 0 where
+pub record Printing (a lead out : List ℕ) (from line passed : ℕ) (out′ : List ℕ) (at count : ℕ) : Type 0 where
   pub scan : Scanning a line passed
   pub lines : List Line
   pub size : length lines ≡ passed
   pub whole : lines ++ linesLeft a line passed ≡ pageOf a .lines
-  pub puts : PutLines (pageOf a) lines out from 0 out′ at count
+  pub puts : PutLines (pageOf a) lead lines out from 0 out′ at count
 
-pub printing-first : (a out : List ℕ) (from : ℕ) → sound a ≡ true → from ≤ length out → {line passed : ℕ} → (line ≡ firstLine a) × (passed ≡ 0) → Printing a out from line passed out from 0
+pub printing-first : (a lead out : List ℕ) (from : ℕ) → solvable a ≡ true → from ≤ length out → {line passed : ℕ} → (line ≡ firstLine a) × (passed ≡ 0) → Printing a lead out from line passed out from 0
 unfolding queriesOf
-printing-first a out from e h q =
-    rw (q .0, q .1) (record { scan = scanning-first a e; lines = []; size = refl; whole = lines-first a; puts = puts-none (pageOf a) [] refl out from 0 h })
+printing-first a lead out from e h q =
+    rw (q .0, q .1) (record { scan = scanning-first a e; lines = []; size = refl; whole = lines-first a; puts = puts-none (pageOf a) lead [] refl out from 0 h })
 
-module _ (a out : List ℕ) {from line passed : ℕ} {out₁ : List ℕ} {at count : ℕ} (p : Printing a out from line passed out₁ at count) where
-  -- at most 14 bytes and one answer for each line passed
-  pub printing-few : count ≤ passed
+module _ (a lead out : List ℕ) {from line passed : ℕ} {out₁ : List ℕ} {at count : ℕ} (p : Printing a lead out from line passed out₁ at count) where
+  -- at most so many bytes and one answer for each line passed
+  printing-few : count ≤ passed
   printing-few = omega (arith, p .puts .counted, queries-most (p .lines), p .size)
 
-  pub printing-short : at ≤ from + 14 * passed
-  printing-short = omega (arith, p .puts .short, queries-most (p .lines), p .size)
+  pub printing-room : passed < countOf a → from + (14 + length lead) * countOf a ≤ length out → at + 14 + length lead ≤ length out
+  printing-room l h =
+      let n : count + 1 ≤ countOf a = omega (arith, printing-few) in
+      let w = 14 + length lead in
+      let e : count ≡ length (queriesOf (p .lines)) = omega (arith, p .puts .counted) in
+      let s : at ≤ from + w * count = rw e (p .puts .short) in
+      omega (arith, h, s, mul-le-mul-left w n, mul-add w count 1, mul-one w)
 
-  pub printing-next : passed < countOf a → {out₂ : List ℕ} {at′ count′ line′ passed′ : ℕ} → PutLines (pageOf a) (lineAt (drop line a) ∷ []) out₁ at count out₂ at′ count′
-      → Next a line passed line′ passed′ → Printing a out from line′ passed′ out₂ at′ count′
-  printing-next l {out₂} {at′} {count′} {line′} {passed′} w m =
+  -- a Q line here is the query with the number `count`
+  module _ (l : passed < countOf a) (e : getD a (line + 1) 0 ≡ 6) where
+    asked-here : (getD (askedBy (pageOf a .lines)) count 0 ≡ getD a line 0) × (count < length (askedBy (pageOf a .lines)))
+    asked-here =
+        let x = lineAt (drop line a) in
+        let ls = linesLeft a (line + step a (p .scan) l) (passed + 1) in
+        let q = queryAt a line in
+        let xs = queriesOf (p .lines) in
+        let n : length xs ≡ count = omega (arith, p .puts .counted) in
+        let f : queriesOf (pageOf a .lines) ≡ xs ++ (q ∷ queriesOf ls) =
+        ap queriesOf (sym (p .whole) ∙ ap (λ (ys : List Line). p .lines ++ ys) (lines-on a (p .scan) l))
+        ∙ queries-append (p .lines) (x ∷ ls) ∙ ap (λ (ys : List Query). xs ++ ys) (queries-append (x ∷ []) ls ∙ ap (λ (ys : List Query). ys ++ queriesOf ls) (a-query a line e)) in (
+          ap (λ (qs : List Query). getD (conditionsAsked qs) count 0) f ∙ ap (λ (k : ℕ). getD (conditionsAsked (xs ++ (q ∷ queriesOf ls))) k 0) (sym n) ∙ condition-at xs q (queriesOf ls),
+          omega (arith, n, conditions-length (queriesOf (pageOf a .lines)), ap length f, length-append xs (q ∷ queriesOf ls)),
+        )
+
+    module _ {plain closed : List ℕ} (f : Figures (pageOf a) plain closed) (r : Reading) where
+      -- so its figures are its answer
+      figured-here : (A : Answers) → AreAnswers (pageOf a) A → figured plain closed r count ≡ A r (getD a line 0)
+      figured-here A h =
+          let x = f .low A h r count (asked-here .1) ∙ ap (λ (c : ℕ). A r c .low) (asked-here .0) in
+          let y = f .high A h r count (asked-here .1) ∙ ap (λ (c : ℕ). A r c .high) (asked-here .0) in
+          λ i. record { low = x i; high = y i }
+
+      -- and grades
+      pub small-here : solvable a ≡ true → SmallFigures plain closed r count
+      small-here ok =
+          let w = solvable-proper a ok in
+          let k = head-of a ok in
+          let A = answers-exist (pageOf a) w in
+          let c = entry-head (topOf a) (conditionsOf a) (usedOf a - line) a line (entry-ok a (p .scan) l) in
+          let i = answers-within (pageOf a) w (A .1) r (getD a line 0) (rw (conditions-is a) c) in
+          let g = figured-here (A .0) (A .1) in
+          record {
+            plain-size = f .plain-size;
+            closed-size = f .closed-size;
+            within = omega (arith, printing-few, k .count);
+            low = omega (arith, ap (λ (x : Interval). x .low) g, i .low-in, top-is a, k .top-most);
+            high = omega (arith, ap (λ (x : Interval). x .high) g, i .high-in, top-is a, k .top-most);
+          }
+
+  -- what is written for the line here
+  puts-here : passed < countOf a → at ≤ length out₁ → {plain closed : List ℕ} → Figures (pageOf a) plain closed → {out₂ : List ℕ} {at′ count′ : ℕ} → PutLine a line plain closed lead out₁ at count out₂ at′ count′
+      → PutLines (pageOf a) lead (lineAt (drop line a) ∷ []) out₁ at count out₂ at′ count′
+  puts-here l h {plain} {closed} f {out₂} {at′} {count′} w =
+      let ls = lineAt (drop line a) ∷ [] in
+      elim (ℕ-discrete (getD a (line + 1) 0) 6) [
+        | yes e ↦
+            let r = readingOf (getD a (line + 2) 0) in
+            rw (w .one e .1) (puts-one (pageOf a) lead ls (queryAt a line) (figured plain closed r count) (a-query a line e) (figured-here l e f r) (w .one e .0) (w .short))
+        | no n ↦
+            let o = w .other n in
+            rw (o .0, o .1, o .2) (puts-none (pageOf a) lead ls (no-query a line (entry-ok a (p .scan) l) n) out₁ at count h)
+      ]
+
+  pub printing-next : passed < countOf a → at ≤ length out₁ → {plain closed : List ℕ} → Figures (pageOf a) plain closed → {out₂ : List ℕ} {at′ count′ line′ passed′ : ℕ}
+      → PutLine a line plain closed lead out₁ at count out₂ at′ count′ → Next a line passed line′ passed′ → Printing a lead out from line′ passed′ out₂ at′ count′
+  printing-next l h f {out₂} {at′} {count′} {line′} {passed′} w m =
       let x = lineAt (drop line a) in
       record {
         scan = scanning-moved a (p .scan) l m;
         lines = p .lines ++ (x ∷ []);
         size = length-append (p .lines) (x ∷ []) ∙ omega (arith, p .size, m .count);
         whole = append-assoc (p .lines) (x ∷ []) (linesLeft a line′ passed′) ∙ ap (λ (ls : List Line). p .lines ++ ls) (sym (lines-moved a (p .scan) l m)) ∙ p .whole;
-        puts = puts-then (pageOf a) (p .puts) w;
+        puts = puts-then (pageOf a) lead (p .puts) (puts-here l h f w);
       }
 
-  pub printing-last : countOf a ≤ passed → PutLines (pageOf a) (pageOf a .lines) out from 0 out₁ at count
+  pub printing-last : countOf a ≤ passed → PutLines (pageOf a) lead (pageOf a .lines) out from 0 out₁ at count
   printing-last l =
       let e : p .lines ≡ pageOf a .lines = sym (append-nil (p .lines)) ∙ ap (λ (ls : List Line). p .lines ++ ls) (sym (lines-none a line passed l)) ∙ p .whole in
       rw e at (p .puts)
 
 -- The output for a page: its first line, the answers, and its last line.
+pub count-few : (a : List ℕ) → sound a ≡ true → countOf a ≤ 1024
+count-few a ok = leb-true (countOf a) 1024 (sound-parts a ok .head .1 .1 .1 .1 .1 .1 .1 .0)
+
 pub lines-few : (a : List ℕ) → sound a ≡ true → length (queriesOf (pageOf a .lines)) ≤ 1024
-lines-few a ok = omega (arith, queries-most (pageOf a .lines), sound-proper a ok .few-lines)
+lines-few a ok = omega (arith, queries-most (pageOf a .lines), few-lines 1024 a ok)
 
 pub puts-page : (a : List ℕ) {out out₁ out₂ out₃ : List ℕ} {at₁ at₂ at₃ count : ℕ} → Wrote out 0 (printed (topFields (topOf a) ∷ [])) out₁ at₁
-    → PutLines (pageOf a) (pageOf a .lines) out₁ at₁ 0 out₂ at₂ count → Wrote out₂ at₂ (printed (endFields count ∷ [])) out₃ at₃ → PutPage (pageOf a) out out₃ at₃
+    → PutLines (pageOf a) [] (pageOf a .lines) out₁ at₁ 0 out₂ at₂ count → Wrote out₂ at₂ (printed (endFields count ∷ [])) out₃ at₃ → PutPage (pageOf a) out out₃ at₃
 puts-page a {count = count} top lines end A h =
     let qs = queriesOf (pageOf a .lines) in
     let e : count ≡ length qs = omega (arith, lines .counted) in

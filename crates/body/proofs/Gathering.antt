@@ -10,12 +10,11 @@ use native.Mathlib.Omega.{arith}
 use lib.ListN.{length, getD, drop}
 use Rattle.fixpoint.specs.Interval.{Interval, Assign}
 use Rattle.fixpoint.proofs.KnowledgeOrder.{pair-eq}
-use Rattle.semantics.specs.Area.{sound, pageOf, topOf, conditionsOf, countOf, usedOf, lineAt, firstLine}
+use Rattle.semantics.specs.Area.{pageOf, topOf, conditionsOf, countOf, usedOf, lineAt, firstLine}
 use Rattle.semantics.specs.Body.{lineBody, bodyless, T}
 use Rattle.semantics.specs.Grade.{End, lower, upper}
 use Rattle.page.specs.Places.{placeOf, LineIn, LineOf}
 use Rattle.page.specs.Lines.{stepAt, EntryIn, Next}
-use Rattle.semantics.proofs.UsedLength.{used-most}
 use Rattle.page.proofs.Scanning.{entry-here}
 use Rattle.page.proofs.LineNumbers.{scanning-at, shape, line-of, adds-one}
 use Rattle.value.specs.Table.{endOf, EndTable}
@@ -25,9 +24,11 @@ use Rattle.value.proofs.Defaults.{bodyless-in}
 use Rattle.ends.specs.Mirror.{mirrored}
 use Rattle.index.specs.Groups.{LinesByHead}
 use Rattle.body.specs.Body.{TakenLine, PassedLine, Taken, Largest, BestOf, Body}
+use Rattle.page.specs.Solvable.{solvable}
+use Rattle.page.proofs.Solvable.{solvable-used}
 
 -- the entry of a line lies in the area, and where it is an F or R line of its head
-pub here-entry : (a : List ℕ) → sound a ≡ true → {at : ℕ} → LineIn a at → EntryIn a at
+pub here-entry : (a : List ℕ) → solvable a ≡ true → {at : ℕ} → LineIn a at → EntryIn a at
 here-entry a ok h = subst (EntryIn a) (sym (h .place)) (entry-here a (scanning-at a ok (h .number) (omega (arith, h .in-count))) (h .in-count))
 
 pub here-line : {a : List ℕ} {c at : ℕ} → LineIn a at → getD a at 0 ≡ c → getD a (at + 1) 0 ≤ 5 → LineOf a c at
@@ -55,7 +56,7 @@ module _ (e : End) (a values : List ℕ) (c : ℕ) where
           covers = λ I t p h o. ⊎-elim (λ k. b .covers I t p k o) (λ k. absurd (n (rw k at o))) (s p h);
         })
 
-    module _ (ok : sound a ≡ true) (Seen′ : ℕ → Type 0) {best′ at x : ℕ} (o : LineOf a c at) (v : LineEnd e a values at x) (m : best′ ≡ max best x) (s : (p : ℕ) → Seen′ p → Seen p ⊎ (p ≡ at)) where
+    module _ (ok : solvable a ≡ true) (Seen′ : ℕ → Type 0) {best′ at x : ℕ} (o : LineOf a c at) (v : LineEnd e a values at x) (m : best′ ≡ max best x) (s : (p : ℕ) → Seen′ p → Seen p ⊎ (p ≡ at)) where
       -- what the line adds
       adds : (I : Assign) → EndTable e (topOf a) (conditionsOf a) I values → (p : Interval) × (lineBody (topOf a) I c (lineAt (drop at a)) ≡ p ∷ []) × (x ≡ endOf e p)
       adds I t = let w = v .is I t in (w .0, rw (o .head) at (w .1), w .2)
@@ -105,7 +106,7 @@ module _ (a values : List ℕ) (c : ℕ) where
         some = g .some;
       }
 
-  pub gathering-next : sound a ≡ true → {Seen : ℕ → Type 0} (Seen′ : ℕ → Type 0) {found found′ : Bool} {low high low′ high′ at : ℕ} → Gathering Seen found low high
+  pub gathering-next : solvable a ≡ true → {Seen : ℕ → Type 0} (Seen′ : ℕ → Type 0) {found found′ : Bool} {low high low′ high′ at : ℕ} → Gathering Seen found low high
       → Taken a values c at found low high found′ low′ high′ → ((p : ℕ) → Seen′ p → Seen p ⊎ (p ≡ at)) → Gathering Seen′ found′ low′ high′
   gathering-next ok Seen′ g (inl t) s =
       record {
@@ -159,7 +160,7 @@ pub grouped-all : (a first places : List ℕ) (c i : ℕ) → LinesByHead a firs
 grouped-all a first places c i g l h p o = let w = g .every c p l o in (w .0, w .1, omega (arith, w .2), w .3)
 
 -- the body value, where a line is found and where none is
-module _ (a values : List ℕ) (c : ℕ) (ok : sound a ≡ true) {found : Bool} {low high : ℕ} (b : BestOf a values c found low high) where
+module _ (a values : List ℕ) (c : ℕ) (ok : solvable a ≡ true) {found : Bool} {low high : ℕ} (b : BestOf a values c found low high) where
   module _ (some : found ≡ true) where
     most : (e : End) (table : List ℕ) {best : ℕ} → Largest e a table c best → (I : Assign) → EndTable e (topOf a) (conditionsOf a) I table → best ≡ endOf e (T (pageOf a) I c)
     most e table {best} v I t =
@@ -195,8 +196,8 @@ unfolding placeOf
 place-next a {at} {k} {at′} {k′} e m = m .place ∙ ap (λ (z : ℕ). z + stepAt a z) e ∙ sym (ap (placeOf a) (m .count ∙ add-one k))
 
 -- a place of a line is a number of 16 bits
-pub place-small : (a : List ℕ) → sound a ≡ true → {c at : ℕ} → LineOf a c at → at ≤ 65535
+pub place-small : (a : List ℕ) → solvable a ≡ true → {c at : ℕ} → LineOf a c at → at ≤ 65535
 place-small a ok {c} {at} o =
     let e = here-entry a ok (record { number = o .number; in-count = o .in-count; place = o .place }) in
     let s = subst (λ (z : ℕ). z ≤ usedOf a) (sym (o .place)) (scanning-at a ok (o .number) (omega (arith, o .in-count)) .in-used) in
-    omega (arith, used-most a ok)
+    omega (arith, solvable-used a ok)

@@ -9,7 +9,7 @@ use native.Mathlib.Omega.{arith}
 use lib.Dec.{eqb}
 use lib.ListN.{getD, drop}
 use Rattle.fixpoint.specs.Interval.{Interval, Assign}
-use Rattle.semantics.specs.Area.{sound, pageOf, topOf, conditionsOf, countOf, lineAt, firstLine}
+use Rattle.semantics.specs.Area.{pageOf, topOf, conditionsOf, countOf, lineAt, firstLine}
 use Rattle.semantics.specs.Body.{lineBody}
 use Rattle.semantics.specs.Grade.{lower}
 use Rattle.semantics.specs.Holding.{hasLow, firstWith}
@@ -22,6 +22,7 @@ use Rattle.value.specs.LineEnds.{LineEnd}
 use Rattle.body.specs.Body.{Taken}
 use Rattle.body.specs.FirstLine.{FirstLine}
 use Rattle.body.proofs.Gathering.{here-line, place-first, place-next}
+use Rattle.page.specs.Solvable.{solvable}
 
 module _ (a : List ℕ) (low : ℕ) where
   -- whether the line at a place has this low end: an F or R line by its value, any other never
@@ -76,7 +77,7 @@ module _ (a values : List ℕ) (c low : ℕ) where
   unfolding firstWith
   searching-none {at} {k} s l = record { is = λ I t. sym (s .onward I t ∙ ap (firstWith (topOf a) I c low (k + 2)) (lines-none a (placeOf a k) k l)) }
 
-  module _ (ok : sound a ≡ true) {at k : ℕ} (s : Searching at k) (l : k < countOf a) where
+  module _ (ok : solvable a ≡ true) {at k : ℕ} (s : Searching at k) (l : k < countOf a) where
     pub line-here : LineIn a at
     line-here = record { number = k; in-count = l; place = s .place }
 

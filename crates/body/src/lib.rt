@@ -4,7 +4,7 @@ ghost use mathlib.Core.Bool.{true, false};
 ghost use Prim.Native.Nat.{_<_};
 ghost use lib.ListN.{getD, drop};
 ghost use Rattle.fixpoint.specs.Interval.{Assign};
-ghost use Rattle.semantics.specs.Area.{sound, topOf, conditionsOf, lineAt};
+ghost use Rattle.semantics.specs.Area.{topOf, conditionsOf, lineAt};
 ghost use Rattle.semantics.specs.Body.{lineBody};
 ghost use Rattle.semantics.specs.Grade.{lower};
 ghost use Rattle.semantics.specs.Holding.{hasLow};
@@ -15,6 +15,7 @@ ghost use Rattle.page.specs.Places.{LineIn};
 ghost use Rattle.value.specs.Table.{EndTable};
 ghost use Rattle.body.specs.Body.{Taken, BestOf, Body};
 ghost use Rattle.body.specs.FirstLine.{FirstLine};
+ghost use Rattle.page.specs.Solvable.{solvable};
 use value::Ends;
 
 // The largest ends over the lines of a condition that are seen, and whether there is one.
@@ -36,7 +37,7 @@ fn no_line() -> Best
 
 // The line at `at` is taken in if it is an F or R line.
 fn take_line(a: &[u16], at: usize, values: &[u8], best: Best) -> Best
-    requires { ⌜ (sound (now a) ≡ true) × Mirrored (topOf (now a)) (conditionsOf (now a)) (now values) × LineIn (now a) at ⌝ }
+    requires { ⌜ (solvable (now a) ≡ true) × Mirrored (topOf (now a)) (conditionsOf (now a)) (now values) × LineIn (now a) at ⌝ }
     ensures { λ r. ⌜ Taken (now (a .entry)) (now (values .entry)) (getD (now (a .entry)) at 0) at (best .found) (best .low) (best .high) (r .found) (r .low) (r .high) ⌝ }
 {
     let k = a[at + 1];
@@ -55,7 +56,7 @@ fn take_line(a: &[u16], at: usize, values: &[u8], best: Best) -> Best
 
 // The lines of c, by a scan of the page.
 fn by_scan(a: &[u16], values: &[u8], c: u16) -> Best
-    requires { ⌜ (sound (now a) ≡ true) × Mirrored (topOf (now a)) (conditionsOf (now a)) (now values) ⌝ }
+    requires { ⌜ (solvable (now a) ≡ true) × Mirrored (topOf (now a)) (conditionsOf (now a)) (now values) ⌝ }
     ensures { λ r. ⌜ BestOf (now (a .entry)) (now (values .entry)) c (r .found) (r .low) (r .high) ⌝ }
 {
     let count = a[2];
@@ -73,7 +74,7 @@ fn by_scan(a: &[u16], values: &[u8], c: u16) -> Best
 
 // The lines of c, by its group.
 fn by_group(a: &[u16], first: &[u16], places: &[u16], values: &[u8], c: u16) -> Best
-    requires { ⌜ (sound (now a) ≡ true) × Mirrored (topOf (now a)) (conditionsOf (now a)) (now values) × LinesByHead (now a) (now first) (now places) × (c < conditionsOf (now a)) ⌝ }
+    requires { ⌜ (solvable (now a) ≡ true) × Mirrored (topOf (now a)) (conditionsOf (now a)) (now values) × LinesByHead (now a) (now first) (now places) × (c < conditionsOf (now a)) ⌝ }
     ensures { λ r. ⌜ BestOf (now (a .entry)) (now (values .entry)) c (r .found) (r .low) (r .high) ⌝ }
 {
     let group = c as usize;
@@ -88,7 +89,7 @@ fn by_group(a: &[u16], first: &[u16], places: &[u16], values: &[u8], c: u16) -> 
 }
 
 fn best_of(a: &[u16], lines: &[u16], values: &[u8], c: u16) -> Best
-    requires { ⌜ (sound (now a) ≡ true) × Mirrored (topOf (now a)) (conditionsOf (now a)) (now values) × MaybeLines (now a) (now lines) × (c < conditionsOf (now a)) ⌝ }
+    requires { ⌜ (solvable (now a) ≡ true) × Mirrored (topOf (now a)) (conditionsOf (now a)) (now values) × MaybeLines (now a) (now lines) × (c < conditionsOf (now a)) ⌝ }
     ensures { λ r. ⌜ BestOf (now (a .entry)) (now (values .entry)) c (r .found) (r .low) (r .high) ⌝ }
 {
     if lines.len() == 0 {
@@ -102,7 +103,7 @@ fn best_of(a: &[u16], lines: &[u16], values: &[u8], c: u16) -> Best
 
 // The body value of c.
 pub fn body(a: &[u16], lines: &[u16], values: &[u8], c: u16) -> Ends
-    requires { ⌜ (sound (now a) ≡ true) × Mirrored (topOf (now a)) (conditionsOf (now a)) (now values) × MaybeLines (now a) (now lines) × (c < conditionsOf (now a)) ⌝ }
+    requires { ⌜ (solvable (now a) ≡ true) × Mirrored (topOf (now a)) (conditionsOf (now a)) (now values) × MaybeLines (now a) (now lines) × (c < conditionsOf (now a)) ⌝ }
     ensures { λ r. ⌜ Body (now (a .entry)) (now (values .entry)) c (r .low) (r .high) ⌝ }
 {
     let best = best_of(a, lines, values, c);
@@ -117,7 +118,7 @@ pub fn body(a: &[u16], lines: &[u16], values: &[u8], c: u16) -> Ends
 
 // Whether the line at `at` is an F or R line with this low end.
 fn has_low(a: &[u16], at: usize, values: &[u8], low: u16) -> bool
-    requires { ⌜ (sound (now a) ≡ true) × Mirrored (topOf (now a)) (conditionsOf (now a)) (now values) × LineIn (now a) at ⌝ }
+    requires { ⌜ (solvable (now a) ≡ true) × Mirrored (topOf (now a)) (conditionsOf (now a)) (now values) × LineIn (now a) at ⌝ }
     ensures { λ r. ⌜ ((I : Assign) → EndTable lower (topOf (now (a .entry))) (conditionsOf (now (a .entry))) I (now (values .entry)) → r ≡ hasLow low (lineBody (topOf (now (a .entry))) I (getD (now (a .entry)) at 0) (lineAt (drop at (now (a .entry)))))) ⌝ }
 {
     let one = take_line(a, at, values, no_line());
@@ -129,7 +130,7 @@ fn has_low(a: &[u16], at: usize, values: &[u8], low: u16) -> bool
 
 // The number of the first F or R line of c with this low end, 0 if there is none. Every line of the page counts, and the G line is line 1.
 pub fn first_line(a: &[u16], values: &[u8], c: u16, low: u16) -> u16
-    requires { ⌜ (sound (now a) ≡ true) × Mirrored (topOf (now a)) (conditionsOf (now a)) (now values) ⌝ }
+    requires { ⌜ (solvable (now a) ≡ true) × Mirrored (topOf (now a)) (conditionsOf (now a)) (now values) ⌝ }
     ensures { λ r. ⌜ FirstLine (now (a .entry)) (now (values .entry)) c low r ⌝ }
 {
     let count = a[2];

@@ -29,7 +29,6 @@ use Rattle.semantics.proofs.Demand.{under-listed}
 use Rattle.semantics.proofs.Invariant.{no-cause-holds}
 use Rattle.semantics.proofs.Keeps.{length-ends, ends-listed}
 use Rattle.semantics.proofs.Readings.{names-inside, closed-is}
-use Rattle.semantics.proofs.Soundness.{sound-proper}
 use Rattle.page.proofs.Head.{head-of}
 use Rattle.index.specs.Parts.{linesLength, Index}
 use Rattle.reach.specs.Marks.{Marks}
@@ -43,6 +42,7 @@ use Rattle.stages.specs.Counted.{CountReady, Counted}
 use Rattle.semantics.proofs.RoundsReached.{count-over}
 use Rattle.settle.proofs.Raising.{S}
 use Rattle.rounds.proofs.Starting.{upto}
+use Rattle.page.proofs.Solvable.{sound-solvable, solvable-proper}
 
 -- the loop that begins: the conditions before c have [0;top]
 module _ (n top : ℕ) (s₀ : List ℕ) where
@@ -96,15 +96,15 @@ module _ (a qs s w : List ℕ) (r : SolveReady a qs s w) {marks : List Bool} (m 
   unfolding pageOf
   rounds-begin =
       record {
-        page-sound = r .page-sound;
+        page-solvable = r .page-solvable;
         long = omega (arith, r .long, b .same-length);
-        marked = omega (arith, m .size, head-of a (r .page-sound) .few);
+        marked = omega (arith, m .size, head-of a (r .page-solvable) .few);
         shut = shut;
         within = λ c l. omega (arith, b .lows c l);
         highs-in = λ c l e. omega (arith, b .highs c l);
         apart = λ c l q. b .lows c l;
         round = 0;
-        turned = turned-first (S a (r .page-sound)) shut (unknownByDefault (pageOf a))
+        turned = turned-first (S a (r .page-solvable)) shut (unknownByDefault (pageOf a))
             (λ c l q. pair-eq (b .lows c l) (by-bool (unknownByDefault (pageOf a) c) (λ e. cond-true (getD s₁ (2 * conditionsOf a + 2 * c) 0) (topOf a) e ∙ b .highs c l)
             (λ e. cond-false (getD s₁ (2 * conditionsOf a + 2 * c) 0) (topOf a) e)));
       }
@@ -168,15 +168,15 @@ module _ (a qs s w : List ℕ) (r : SolveReady a qs s w) {marks : List Bool} (m 
   unfolding pageOf
   answer c l =
       v .reads-closed c (real c l)
-      (m .same c ∙ reached-complete (pageOf a) qs (names-inside (pageOf a) (sound-proper a (r .page-sound))) real (queried l))
+      (m .same c ∙ reached-complete (pageOf a) qs (names-inside (pageOf a) (solvable-proper a (r .page-solvable))) real (queried l))
 
   pub count-ready : CountReady a marks s₂
   unfolding pageOf
   count-ready =
       record {
-        page-sound = r .page-sound;
+        page-solvable = r .page-solvable;
         long = omega (arith, r .long, b .same-length, v .same-length);
-        marked = omega (arith, m .size, head-of a (r .page-sound) .few);
+        marked = omega (arith, m .size, head-of a (r .page-solvable) .few);
         shut = shut a qs s w r m b;
         reads-closed = v .reads-closed;
       }
@@ -202,7 +202,7 @@ module _ (a qs s w : List ℕ) (r : SolveReady a qs s w) {marks : List Bool} (m 
           beyond = h .beyond ∙ v .beyond ∙ b .beyond;
           written = written;
           rounds = λ e.
-              count-over (S a (r .page-sound)) (shut a qs s w r m b) (reached-closed (pageOf a) qs) (unknownByDefault (pageOf a)) (λ c l. m .same c) (h .is-count);
+              count-over (S a (r .page-solvable)) (shut a qs s w r m b) (reached-closed (pageOf a) qs) (unknownByDefault (pageOf a)) (λ c l. m .same c) (h .is-count);
         }
 
 -- the causes of a refusal, in the order of the code's tests
@@ -247,7 +247,7 @@ module _ (a qs s w : List ℕ) where
     solve-ready =
         let h = no-cause-holds (closedCauses a qs s w) (sym (e .is)) in
         record {
-          page-sound = not-false _ (h .0);
+          page-solvable = sound-solvable a (not-false _ (h .0));
           under = not-false _ (h .1 .1 .0);
           long = leb-true (4 * conditionsOf a) (length s) (not-false _ (h .1 .1 .1 .0));
           room = leb-true (2 * length qs) (length w) (not-false _ (h .1 .1 .1 .1 .0));
@@ -261,7 +261,7 @@ module _ (a qs s w : List ℕ) where
         rw (← e .is) (
         record {
           reading = closedAt a;
-          is-closed = closed-is (pageOf a) (sound-proper a (solve-ready .page-sound));
+          is-closed = closed-is (pageOf a) (solvable-proper a (solve-ready .page-solvable));
           rounds = k;
           is-rounds = v .rounds refl;
           told = refl;

@@ -4,10 +4,11 @@ use mathlib.Core.Bool.{Bool, true}
 use mathlib.Core.List.{List, _++_}
 use Prim.Native.Nat.{ℕ, _+_, _*_, _≤_, _<_}
 use lib.ListN.{length, getD, drop}
-use Rattle.semantics.specs.Area.{sound, pageOf, conditionsOf, allUnder}
+use Rattle.semantics.specs.Area.{pageOf, conditionsOf, allUnder}
 use Rattle.semantics.specs.Operation.{ends}
 use Rattle.semantics.specs.Rounds.{IsRounds}
 use Rattle.rounds.specs.Round.{closedAt}
+use Rattle.page.specs.Solvable.{solvable}
 
 -- nothing is known: every interval is [0;top]
 pub record Begun (n top : ℕ) (s s′ : List ℕ) : Type 0 where
@@ -18,7 +19,7 @@ pub record Begun (n top : ℕ) (s s′ : List ℕ) : Type 0 where
 
 -- the closed reading can be solved, and there is room for its answers
 pub record SolveReady (a qs s w : List ℕ) : Type 0 where
-  pub page-sound : sound a ≡ true
+  pub page-solvable : solvable a ≡ true
   pub under : allUnder (conditionsOf a) qs ≡ true
   pub long : 4 * conditionsOf a ≤ length s
   pub room : 2 * length qs ≤ length w

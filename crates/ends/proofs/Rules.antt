@@ -5,15 +5,16 @@ use mathlib.Core.List.{List}
 use Prim.Native.Nat.{ℕ, _+_, _*_, _-_, _≤_, _<_}
 use native.Mathlib.Omega.{arith}
 use lib.ListN.{length, getD}
-use Rattle.semantics.specs.Area.{sound, topOf, conditionsOf, kind, ruleKind}
+use Rattle.semantics.specs.Area.{topOf, conditionsOf, kind, ruleKind}
 use Rattle.semantics.specs.Grade.{upper, Op, combine}
 use Rattle.page.specs.Graded.{RuleAt}
 use Rattle.value.specs.LineEnds as one
 use Rattle.value.proofs.RuleEnds.{rest, rest-code, code-under, foldable}
 use Rattle.ends.specs.Mirror.{flip, mirrored, Mirrored, BothFoldable}
 use Rattle.ends.proofs.Mirrors.{flip-below, mirrored-at}
+use Rattle.page.specs.Solvable.{solvable}
 
-module _ (a values : List ℕ) (at : ℕ) (ok : sound a ≡ true) (g : Mirrored (topOf a) (conditionsOf a) values) (r : RuleAt (topOf a) (conditionsOf a) a at) where
+module _ (a values : List ℕ) (at : ℕ) (ok : solvable a ≡ true) (g : Mirrored (topOf a) (conditionsOf a) values) (r : RuleAt (topOf a) (conditionsOf a) a at) where
   abbrev code : ℕ
   code = getD a (at + 4) 0
 

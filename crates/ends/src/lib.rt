@@ -4,7 +4,7 @@ ghost use mathlib.Core.Path.{_≡_};
 ghost use mathlib.Core.Bool.{true};
 ghost use Prim.Native.Nat.{_≤_, _<_, _+_, _*_, _-_};
 ghost use lib.ListN.{length, getD, set};
-ghost use Rattle.semantics.specs.Area.{sound, topOf, conditionsOf, kind, ruleKind};
+ghost use Rattle.semantics.specs.Area.{topOf, conditionsOf, kind, ruleKind};
 ghost use Rattle.semantics.specs.Grade.{Op, lower, upper, combine};
 ghost use Rattle.semantics.specs.RunArea.{intervalAt};
 ghost use Rattle.page.specs.Graded.{Graded, RuleAt};
@@ -12,6 +12,7 @@ ghost use Rattle.page.specs.Places.{LineOf};
 ghost use Rattle.value.specs.Table.{side, Grades, EndTable};
 ghost use Rattle.value.specs.LineEnds.{Folded, RuleEnd, LineEnd};
 ghost use Rattle.ends.specs.Mirror.{flip, mirrored, Mirrored, BothFoldable};
+ghost use Rattle.page.specs.Solvable.{solvable};
 use value::End;
 use value::Ends;
 use value::divided;
@@ -85,7 +86,7 @@ fn fold_ends(codes: &[u16], k: u16, values: &[u8], top: u16, first: Ends) -> End
 
 // Both ends of the value of the rule at `at`: its op over its literals, then its weight.
 fn rule_ends(a: &[u16], at: usize, values: &[u8]) -> Ends
-    requires { ⌜ (sound (now a) ≡ true) × Mirrored (topOf (now a)) (conditionsOf (now a)) (now values) × RuleAt (topOf (now a)) (conditionsOf (now a)) (now a) at × (1 ≤ getD (now a) (at + 1) 0) × (getD (now a) (at + 1) 0 ≤ 5) ⌝ }
+    requires { ⌜ (solvable (now a) ≡ true) × Mirrored (topOf (now a)) (conditionsOf (now a)) (now values) × RuleAt (topOf (now a)) (conditionsOf (now a)) (now a) at × (1 ≤ getD (now a) (at + 1) 0) × (getD (now a) (at + 1) 0 ≤ 5) ⌝ }
     ensures { λ r. ⌜ RuleEnd lower (now (a .entry)) (now (values .entry)) at (r .low) × RuleEnd upper (now (a .entry)) (mirrored (topOf (now (a .entry))) (now (values .entry))) at (r .high) ⌝ }
 {
     let top = a[0];
@@ -109,7 +110,7 @@ fn rule_ends(a: &[u16], at: usize, values: &[u8]) -> Ends
 
 // Both ends of the value of the F or R line at `at`.
 pub fn line_ends(a: &[u16], at: usize, values: &[u8]) -> Ends
-    requires { ⌜ (sound (now a) ≡ true) × Mirrored (topOf (now a)) (conditionsOf (now a)) (now values) × LineOf (now a) (getD (now a) at 0) at ⌝ }
+    requires { ⌜ (solvable (now a) ≡ true) × Mirrored (topOf (now a)) (conditionsOf (now a)) (now values) × LineOf (now a) (getD (now a) at 0) at ⌝ }
     ensures { λ r. ⌜ LineEnd lower (now (a .entry)) (now (values .entry)) at (r .low) × LineEnd upper (now (a .entry)) (mirrored (topOf (now (a .entry))) (now (values .entry))) at (r .high) ⌝ }
 {
     let k = a[at + 1];

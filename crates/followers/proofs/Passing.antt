@@ -9,11 +9,10 @@ use lib.Dec.{eqb}
 use lib.ListN.{getD, drop}
 use borrow.Author.Tests.{eqb-true}
 use Rattle.fixpoint.specs.Sum.{count}
-use Rattle.semantics.specs.Area.{sound, firstLine, pageOf, lineAt, countOf}
+use Rattle.semantics.specs.Area.{firstLine, pageOf, lineAt, countOf}
 use Rattle.semantics.specs.Followers.{Follows}
 use Rattle.semantics.specs.Page.{Line, names}
 use Rattle.semantics.proofs.Followers.{follows-directly, follows-through}
-use Rattle.semantics.proofs.Soundness.{sound-proper}
 use Rattle.semantics.proofs.Table.{or-cases}
 use Rattle.page.specs.Lines.{Next, lineNames}
 use Rattle.page.proofs.Scanning.{Scanning, scanning-first, scanning-moved}
@@ -23,6 +22,8 @@ use Rattle.reach.proofs.Inserting.{inserts-one, size-most}
 use Rattle.reach.proofs.Visiting.{scanned-head}
 use Rattle.followers.specs.Rows.{meets, Covers, LineFollowed, stays, enters, Seeks, PageFollowed}
 use Rattle.followers.proofs.Meeting.{meets-one, meets-found}
+use Rattle.page.specs.Solvable.{solvable}
+use Rattle.page.proofs.Solvable.{solvable-proper}
 
 or-swap : (x y z : Bool) → ((x || y) || z) ≡ ((x || z) || y)
 or-swap x y z = or-assoc x y z ∙ ap (λ (t : Bool). x || t) (or-comm y z) ∙ sym (or-assoc x z y)
@@ -60,7 +61,7 @@ module _ (a : List ℕ) (seen₀ row₀ : List ℕ) where
   pub passing-few : {seen row : List ℕ} {at k new : ℕ} → Passing seen row at k new → new ≤ 512
   passing-few {row = row} s = omega (arith, s .counted, size-most 512 (has row))
 
-  module _ (ok : sound a ≡ true) where
+  module _ (ok : solvable a ≡ true) where
     pub passing-first : Covers seen₀ row₀ → {at k : ℕ} → (at ≡ firstLine a) × (k ≡ 0) → Passing seen₀ row₀ at k 0
     passing-first v {at} {k} z =
         record {
@@ -110,7 +111,7 @@ module _ (a : List ℕ) (seen₀ row₀ : List ℕ) where
                       ⊎-elim (λ q. g .only x m q) (λ q. subst (λ (d : ℕ). Follows (pageOf a) d c) (sym (eqb-true x head q)) (entered s g met))
                       (or-cases (has row x) (eqb x head) (sym (in-row .1 x m) ∙ p));
                 };
-            counted = omega (arith, s .counted, inserts-one has row row′ head in-row {new = 1} (omega (arith, scanned-head a (s .scan) l, sound-proper a ok .conditions-most)) (rw away) .counted);
+            counted = omega (arith, s .counted, inserts-one has row row′ head in-row {new = 1} (omega (arith, scanned-head a (s .scan) l, solvable-proper a ok .conditions-most)) (rw away) .counted);
           }
 
     pub passing-last : {seen row : List ℕ} {at k new : ℕ} → Passing seen row at k new → countOf a ≤ k → PageFollowed (pageOf a) seen₀ row₀ seen row new

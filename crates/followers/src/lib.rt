@@ -5,7 +5,7 @@ ghost use mathlib.Core.List.{map};
 ghost use Prim.Native.Nat.{_≤_, _<_, _+_, _-_};
 ghost use lib.ListN.{length, getD, take, drop};
 ghost use Rattle.fixpoint.specs.Sum.{count};
-ghost use Rattle.semantics.specs.Area.{sound, lineAt, literalOf, pageOf, topOf, conditionsOf, usedOf};
+ghost use Rattle.semantics.specs.Area.{lineAt, literalOf, pageOf, topOf, conditionsOf, usedOf};
 ghost use Rattle.semantics.specs.Followers.{FollowersOf};
 ghost use Rattle.semantics.specs.Page.{mentions};
 ghost use Rattle.page.specs.Graded.{RuleAt, SoundEntry};
@@ -13,6 +13,7 @@ ghost use Rattle.page.specs.Lines.{lineNames};
 ghost use Rattle.bits.specs.Words.{has};
 ghost use Rattle.followers.specs.Rows.{meets, Covers, LineFollowed, PageFollowed, FollowerRow};
 ghost use Rattle.followers.specs.Answers.{countAnswerOf};
+ghost use Rattle.page.specs.Solvable.{solvable};
 
 // Whether some literal of the rule at `at`, plain or negated, is of a condition of the set.
 fn literals_meet(a: &[u16], at: usize, set: &[u64]) -> bool
@@ -61,7 +62,7 @@ fn follow_line(a: &[u16], at: usize, seen: &mut [u64], row: &mut [u64]) -> u32
 
 // One pass over the lines, which uses what it has just found; answers how many conditions are new in the row.
 fn pass(a: &[u16], seen: &mut [u64], row: &mut [u64]) -> u32
-    requires { ⌜ (sound (now a) ≡ true) × Covers (now seen) (now row) ⌝ }
+    requires { ⌜ (solvable (now a) ≡ true) × Covers (now seen) (now row) ⌝ }
     ensures { λ r. ⌜ PageFollowed (pageOf (now (a .entry))) (now (seen .entry)) (now (row .entry)) (now (seen .exit)) (now (row .exit)) r ⌝ }
 {
     let mut left = a[2];
@@ -79,7 +80,7 @@ fn pass(a: &[u16], seen: &mut [u64], row: &mut [u64]) -> u32
 // The row of the followers of c, by passes until one adds nothing. What is seen is the row and c, which enters the row only if a line of its own
 // names one of those.
 fn followers_of(a: &[u16], c: u16) -> [u64; 8]
-    requires { ⌜ (sound (now a) ≡ true) × (c < conditionsOf (now a)) ⌝ }
+    requires { ⌜ (solvable (now a) ≡ true) × (c < conditionsOf (now a)) ⌝ }
     ensures { λ r. ⌜ FollowerRow (pageOf (now (a .entry))) c r ⌝ }
 {
     let mut row = [0u64; 8];

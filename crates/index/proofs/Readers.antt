@@ -7,12 +7,14 @@ use Prim.Native.Nat.{ℕ, _<_}
 use native.Mathlib.Omega.{arith}
 use lib.Dec.{eqb}
 use borrow.Author.Tests.{eqb-true}
-use Rattle.semantics.specs.Area.{sound, pageOf, conditionsOf}
+use Rattle.semantics.specs.Area.{pageOf, conditionsOf}
 use Rattle.semantics.specs.Page.{Line, fact, rule, query, default}
 use Rattle.semantics.proofs.Proper.{AllInRange}
-use Rattle.semantics.proofs.Soundness.{both-true, sound-proper}
+use Rattle.semantics.proofs.Soundness.{both-true}
 use Rattle.semantics.proofs.Table.{or-cases}
 use Rattle.index.specs.Readers.{among, linesRead}
+use Rattle.page.specs.Solvable.{solvable}
+use Rattle.page.proofs.Solvable.{solvable-proper}
 
 read-below : (top n : ℕ) (ls : List Line) → AllInRange top n ls → (code h : ℕ) → linesRead code ls h ≡ true → h < n
 unfolding linesRead
@@ -24,6 +26,6 @@ read-below top n (rule d v op lits ∷ ls) w code h e =
 read-below top n (query r d ∷ ls) w code h e = read-below top n ls (w .1) code h e
 read-below top n (default d ∷ ls) w code h e = read-below top n ls (w .1) code h e
 
-pub reads-below : (a : List ℕ) → sound a ≡ true → (code h : ℕ) → linesRead code (pageOf a .lines) h ≡ true → h < conditionsOf a
+pub reads-below : (a : List ℕ) → solvable a ≡ true → (code h : ℕ) → linesRead code (pageOf a .lines) h ≡ true → h < conditionsOf a
 unfolding pageOf
-reads-below a ok code h q = read-below (pageOf a .top) (pageOf a .conditions) (pageOf a .lines) (sound-proper a ok .ranged) code h q
+reads-below a ok code h q = read-below (pageOf a .top) (pageOf a .conditions) (pageOf a .lines) (solvable-proper a ok .ranged) code h q

@@ -8,12 +8,13 @@ use native.Mathlib.Decide.{ℕ-discrete, decLe}
 use native.Mathlib.Omega.{arith}
 use lib.ListN.{length, getD, set, drop, length-set, List·getD-eq-default}
 use lib.Seq.{getD-set-same, getD-set-other}
-use Rattle.semantics.specs.Area.{sound, pageOf, lineAt, conditionsOf, countOf, firstLine}
+use Rattle.semantics.specs.Area.{pageOf, lineAt, conditionsOf, countOf, firstLine}
 use Rattle.page.specs.Lines.{Next, lineNames}
 use Rattle.page.proofs.Naming.{line-fact, line-over}
 use Rattle.page.proofs.Scanning.{Scanning, scanning-first, scanning-moved}
 use Rattle.layers.specs.Levels.{levelIn, Relabelled, HeadOpened, Begun}
 use Rattle.layers.proofs.Behind.{Behind, by-names, behind-first, behind-next, behind-last}
+use Rattle.page.specs.Solvable.{solvable}
 
 -- one line
 module _ (a : List ℕ) (at : ℕ) (levels : List ℕ) where
@@ -46,7 +47,7 @@ module _ (a : List ℕ) where
     pub either : (c : ℕ) → (levelIn levels c ≡ 0) ⊎ (levelIn levels c ≡ 513)
     pub named : Behind by-names a (λ x b. levelIn levels x ≡ 0) at k
 
-  pub beginning-first : {levels₀ levels : List ℕ} → sound a ≡ true → length levels₀ ≡ conditionsOf a → ((c : ℕ) → levelIn levels₀ c ≤ 65535) → Relabelled 0 65535 513 levels₀ levels
+  pub beginning-first : {levels₀ levels : List ℕ} → solvable a ≡ true → length levels₀ ≡ conditionsOf a → ((c : ℕ) → levelIn levels₀ c ≤ 65535) → Relabelled 0 65535 513 levels₀ levels
       → {at k : ℕ} → (at ≡ firstLine a) × (k ≡ 0) → Beginning levels at k
   beginning-first {levels₀} {levels} ok s f r z =
       record { scan = rw (z .0, z .1) (scanning-first a ok); size = r .size ∙ s; either = all; named = behind-first by-names a z }

@@ -11,7 +11,7 @@ use borrow.Author.Tests.{eq-eqb, ne-eqb}
 use lib.Bits.{bitOr, or-step}
 use lib.Dec.{eqb}
 use lib.ListN.{length, getD, drop}
-use Rattle.semantics.specs.Area.{sound, pageOf, lineAt, countOf, firstLine}
+use Rattle.semantics.specs.Area.{pageOf, lineAt, countOf, firstLine}
 use Rattle.semantics.specs.Layers.{negates}
 use Rattle.semantics.proofs.Layers.{or-left, or-right}
 use Rattle.page.specs.Graded.{RuleAt}
@@ -22,6 +22,7 @@ use Rattle.layers.specs.Levels.{levelIn, inside, RuleLooked, LineLooked,
 use Rattle.layers.specs.Raising.{lineNegates}
 use Rattle.layers.proofs.Behind.{Behind, by-names, by-negates, behind-first, behind-next, behind-last, here-related}
 use Rattle.layers.proofs.Literals.{code-named, code-negated, named-code, negated-code, line-denies, fact-denies, over-denies}
+use Rattle.page.specs.Solvable.{solvable}
 
 -- two numbers put together are odd if one of them is
 or-odd : (x y : ℕ) → bitOr x y % 2 ≡ max (x % 2) (y % 2)
@@ -132,7 +133,7 @@ module _ (a levels : List ℕ) (level : ℕ) where
     pub clear : Behind by-negates a (λ x b. seen ≡ 512 → levelIn levels x ≡ level → levelIn levels b ≢ level) at k
     pub denied : 512 < seen → (u v : ℕ) × (levelIn levels u ≡ level) × (negates (pageOf a) u v ≡ true) × (levelIn levels v ≡ level)
 
-  pub searching-first : sound a ≡ true → {at k : ℕ} → (at ≡ firstLine a) × (k ≡ 0) → Searching at k 512
+  pub searching-first : solvable a ≡ true → {at k : ℕ} → (at ≡ firstLine a) × (k ≡ 0) → Searching at k 512
   searching-first ok z =
       record {
         scan = rw (z .0, z .1) (scanning-first a ok);

@@ -7,12 +7,11 @@ use Prim.Native.Nat.{ℕ, suc, _+_, _*_, _/_, _%_, _≤_, _<_, max}
 use native.Mathlib.Decide.{ℕ-discrete, decLe}
 use native.Mathlib.Omega.{arith}
 use lib.ListN.{length, getD, drop}
-use Rattle.semantics.specs.Area.{sound, pageOf, lineAt, topOf, conditionsOf, countOf, firstLine}
+use Rattle.semantics.specs.Area.{pageOf, lineAt, topOf, conditionsOf, countOf, firstLine}
 use Rattle.semantics.specs.Layers.{Layers, linesNegate, negates}
 use Rattle.semantics.specs.Page.{names, linesName}
 use Rattle.semantics.proofs.Layers.{negates-names}
 use Rattle.semantics.proofs.Readings.{names-inside}
-use Rattle.semantics.proofs.Soundness.{sound-proper}
 use Rattle.page.specs.Graded.{RuleAt}
 use Rattle.page.specs.Lines.{Next, lineNames}
 use Rattle.page.proofs.Naming.{line-rule, line-fact, line-over}
@@ -21,6 +20,8 @@ use Rattle.page.proofs.Scanning.{Scanning, scanning-first, scanning-moved, entr
 use Rattle.layers.specs.Raising.{layerIn, Low, ask, Raised, lineNegates, LineRaised, PassRaised}
 use Rattle.layers.proofs.Behind.{Behind, by-names, by-negates, behind-first, behind-next, behind-last, here-related}
 use Rattle.layers.proofs.Literals.{code-named, code-negated, named-code, negated-code, line-denies, fact-denies, over-denies}
+use Rattle.page.specs.Solvable.{solvable}
+use Rattle.page.proofs.Solvable.{solvable-proper}
 
 -- the layer of the condition of a literal
 same-layer : (layers : List ℕ) {x y : ℕ} → x ≡ y → getD layers x 0 ≡ getD layers y 0
@@ -97,7 +98,7 @@ module _ (a : List ℕ) (layers₀ : List ℕ) where
     pub highest : (c : ℕ) → layerIn layers c ≤ max (layerIn layers₀ c) most
     pub low : (c : ℕ) → layerIn layers c ≤ 511 + k
 
-  pub passing-first : sound a ≡ true → length layers₀ ≡ n → Low 511 layers₀ → {at k : ℕ} → (at ≡ firstLine a) × (k ≡ 0) → Passing layers₀ at k 0
+  pub passing-first : solvable a ≡ true → length layers₀ ≡ n → Low 511 layers₀ → {at k : ℕ} → (at ≡ firstLine a) × (k ≡ 0) → Passing layers₀ at k 0
   passing-first ok s l {at} {k} z =
       record {
         scan = rw (z .0, z .1) (scanning-first a ok);
@@ -112,7 +113,7 @@ module _ (a : List ℕ) (layers₀ : List ℕ) where
         low = λ c. omega (arith, l c);
       }
 
-  module _ (ok : sound a ≡ true) {layers : List ℕ} {at k most : ℕ} (s : Passing layers at k most) (l : k < countOf a) {at′ k′ : ℕ} (e : Next a at k at′ k′)
+  module _ (ok : solvable a ≡ true) {layers : List ℕ} {at k most : ℕ} (s : Passing layers at k most) (l : k < countOf a) {at′ k′ : ℕ} (e : Next a at k at′ k′)
       {layers′ : List ℕ} {r : ℕ} (h : LineRaised a at layers layers′ r) where
     abbrev head : ℕ
     head = getD a at 0
@@ -139,10 +140,10 @@ module _ (a : List ℕ) (layers₀ : List ℕ) where
         (λ t. ⊎-elim
         (λ q.
         let f = here-related by-names a (s .scan) (s .named) l e (t .2 .0) (q .0) in
-        omega (arith, t .0, q .1, z (t .2 .0) (names-inside (pageOf a) (sound-proper a ok) head (t .2 .0) f), g .named head (t .2 .0) f))
+        omega (arith, t .0, q .1, z (t .2 .0) (names-inside (pageOf a) (solvable-proper a ok) head (t .2 .0) f), g .named head (t .2 .0) f))
         (λ q.
         let f = here-related by-negates a (s .scan) (s .negated) l e (t .2 .0) (q .0) in
-        omega (arith, t .0, q .1, z (t .2 .0) (names-inside (pageOf a) (sound-proper a ok) head (t .2 .0) (negates-names (pageOf a) head (t .2 .0) f)), g .negated head (t .2 .0) f))
+        omega (arith, t .0, q .1, z (t .2 .0) (names-inside (pageOf a) (solvable-proper a ok) head (t .2 .0) (negates-names (pageOf a) head (t .2 .0) f)), g .negated head (t .2 .0) f))
         (t .2 .1))
         (h .told)
 

@@ -6,12 +6,13 @@ ghost use mathlib.Core.List.{_++_};
 ghost use Prim.Native.Nat.{_-_, _≤_, _<_};
 ghost use lib.Dec.{leb};
 ghost use lib.ListN.{length, getD, drop};
-ghost use Rattle.semantics.specs.Area.{sound, pageOf, topOf, conditionsOf, usedOf};
+ghost use Rattle.semantics.specs.Area.{pageOf, topOf, conditionsOf, usedOf};
 ghost use Rattle.semantics.specs.Layers.{LayersOf};
 ghost use Rattle.page.specs.Graded.{RuleAt, SoundEntry};
 ghost use Rattle.layers.specs.Raising.{Low, Zero, Asked, Raised, LineRaised, PassRaised, Settled};
 ghost use Rattle.layers.specs.Levels.{RuleLooked, LineLooked, PartLooked, Relabelled, LowestAt, Entered, Finished, Open, Explored, HeadOpened, Begun, LoopFound};
 ghost use Rattle.layers.specs.Verdict.{verdictOf, Worked};
+ghost use Rattle.page.specs.Solvable.{solvable};
 
 // The largest layer that the literals of the rule at `at` ask for: that of the condition, and one more for a negation.
 fn asked(a: &[u16], at: usize, layers: &[u16]) -> u16
@@ -60,7 +61,7 @@ fn raise_line(a: &[u16], at: usize, layers: &mut [u16]) -> u16
 
 // One pass over the lines, in place: the highest layer that was raised to, or 0 if none was.
 fn raise_pass(a: &[u16], layers: &mut [u16]) -> u16
-    requires { ⌜ (sound (now a) ≡ true) × (length (now layers) ≡ conditionsOf (now a)) × Low 511 (now layers) ⌝ }
+    requires { ⌜ (solvable (now a) ≡ true) × (length (now layers) ≡ conditionsOf (now a)) × Low 511 (now layers) ⌝ }
     ensures { λ r. ⌜ PassRaised (pageOf (now (a .entry))) (now (layers .entry)) (now (layers .exit)) r ⌝ }
 {
     let mut left = a[2];
@@ -80,7 +81,7 @@ fn raise_pass(a: &[u16], layers: &mut [u16]) -> u16
 
 // Raises layers from 0, pass by pass: whether a pass changes nothing. At the latest pass C does, unless a chain through a negation leads back.
 fn settle(a: &[u16], layers: &mut [u16]) -> bool
-    requires { ⌜ (sound (now a) ≡ true) × (length (now layers) ≡ conditionsOf (now a)) × Zero (now layers) ⌝ }
+    requires { ⌜ (solvable (now a) ≡ true) × (length (now layers) ≡ conditionsOf (now a)) × Zero (now layers) ⌝ }
     ensures { λ r. ⌜ Settled (pageOf (now (a .entry))) (now (layers .exit)) r ⌝ }
 {
     let n = a[1];
@@ -137,7 +138,7 @@ fn look_line(a: &[u16], at: usize, levels: &[u16], level: u16) -> u16
 
 // The same for all lines: a condition that the part names outside of it; 512 if there is none, and 513 if the part negates itself.
 fn look(a: &[u16], levels: &[u16], level: u16) -> u16
-    requires { ⌜ (sound (now a) ≡ true) × (length (now levels) ≡ conditionsOf (now a)) ⌝ }
+    requires { ⌜ (solvable (now a) ≡ true) × (length (now levels) ≡ conditionsOf (now a)) ⌝ }
     ensures { λ r. ⌜ PartLooked (pageOf (now (a .entry))) (now (levels .entry)) level r ⌝ }
 {
     let mut left = a[2];
@@ -231,7 +232,7 @@ fn finish(levels: &mut [u16], level: u16, negated: bool, lowest: u16) -> u16
 
 // Every condition that a chain from `root` leads to is done: answers the lowest condition on a loop through a negation so far.
 fn explore(a: &[u16], levels: &mut [u16], root: u16, lowest: u16) -> u16
-    requires { ⌜ (sound (now a) ≡ true) × Open (pageOf (now a)) (now levels) 0 lowest × (root < conditionsOf (now a)) × (getD (now levels) root 0 ≡ 0) ⌝ }
+    requires { ⌜ (solvable (now a) ≡ true) × Open (pageOf (now a)) (now levels) 0 lowest × (root < conditionsOf (now a)) × (getD (now levels) root 0 ≡ 0) ⌝ }
     ensures { λ r. ⌜ Explored (pageOf (now (a .entry))) root (now (levels .entry)) (now (levels .exit)) r ⌝ }
 {
     let mut least = lowest;
@@ -263,7 +264,7 @@ fn open_head(a: &[u16], at: usize, levels: &mut [u16])
 
 // The heads of R lines are not met. All others are done: no chain goes on from them.
 fn begin(a: &[u16], levels: &mut [u16])
-    requires { ⌜ (sound (now a) ≡ true) × (length (now levels) ≡ conditionsOf (now a)) ⌝ }
+    requires { ⌜ (solvable (now a) ≡ true) × (length (now levels) ≡ conditionsOf (now a)) ⌝ }
     ensures { λ _. ⌜ Begun (pageOf (now (a .entry))) (now (levels .exit)) ⌝ }
 {
     relabel(levels, 0, 65535, 513);
@@ -279,7 +280,7 @@ fn begin(a: &[u16], levels: &mut [u16])
 
 // The lowest condition on a loop through a negation, or C if there is none. What the levels are before does not matter.
 fn lowest_loop(a: &[u16], levels: &mut [u16]) -> u16
-    requires { ⌜ (sound (now a) ≡ true) × (length (now levels) ≡ conditionsOf (now a)) ⌝ }
+    requires { ⌜ (solvable (now a) ≡ true) × (length (now levels) ≡ conditionsOf (now a)) ⌝ }
     ensures { λ r. ⌜ LoopFound (pageOf (now (a .entry))) (now (levels .exit)) r ⌝ }
 {
     begin(a, levels);
@@ -315,7 +316,7 @@ pub enum Verdict {
 
 // The check of a page that is sound, with a slice that is long enough. The table is C zeros.
 fn work(page: &[u16], layers: &mut [u16], table: &mut [u16]) -> Verdict
-    requires { ⌜ (sound (now page) ≡ true) × (conditionsOf (now page) ≤ length (now layers)) × (length (now table) ≡ conditionsOf (now page)) × Zero (now table) ⌝ }
+    requires { ⌜ (solvable (now page) ≡ true) × (conditionsOf (now page) ≤ length (now layers)) × (length (now table) ≡ conditionsOf (now page)) × Zero (now table) ⌝ }
     ensures { λ r. ⌜ Worked (verdictOf r) (pageOf (now (page .entry))) (now (layers .entry)) (now (layers .exit)) ⌝ }
 {
     if settle(page, table) {

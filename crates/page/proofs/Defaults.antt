@@ -10,17 +10,19 @@ use lib.Dec.{eqb, leb}
 use lib.ListN.{length, getD, take, drop}
 use borrow.Author.Tests.{eq-eqb, ne-eqb, le-leb, leb-true, eqb-true}
 use Rattle.fixpoint.specs.Sum.{bit}
-use Rattle.semantics.specs.Area.{Kind, factKind, ruleKind, queryKind, defaultKind, noKind, kind, lineAs, lineAt, linesOk, every, defaultTests, defaultsOk, pageOf, sound, firstLine, defaultOf, conditionsOf, countOf, usedOf}
+use Rattle.semantics.specs.Area.{Kind, factKind, ruleKind, queryKind, defaultKind, noKind, kind, lineAs, lineAt, linesOk, every, defaultTests, defaultsOk, pageOf, firstLine, defaultOf, conditionsOf, countOf, usedOf}
 use Rattle.semantics.specs.Body.{unknownByDefault}
 use Rattle.semantics.specs.Page.{Line, defaults}
 use Rattle.semantics.specs.Table.{allBelow}
-use Rattle.semantics.proofs.Soundness.{every-true, every-of, sound-parts}
+use Rattle.semantics.proofs.Soundness.{every-true, every-of}
 use Rattle.semantics.proofs.Table.{iff-eq, all-true, all-at}
 use Rattle.bits.specs.Words.{has, Inserted}
 use Rattle.page.specs.Checks.{Lined, CollectedAt, Collected, numberTells}
 use Rattle.page.specs.Lines.{Next}
 use Rattle.page.proofs.Scan.{line-at, default-kind, entry-head}
 use Rattle.page.proofs.Scanning.{Scanning, linesLeft, scanning-begun, lines-first, entry-ok, scanning-moved, lines-moved, lines-none}
+use Rattle.page.specs.Solvable.{solvable}
+use Rattle.page.proofs.Solvable.{solvable-parts}
 
 -- only 7 is the kind of a D line
 kind-seven : (k : ℕ) → kind k ≡ defaultKind → k ≡ 7
@@ -198,16 +200,16 @@ module _ (a : List ℕ) where
         (λ e. all-true (conditionsOf a) (numberTells a seen) (λ c l. eq-eqb (defaultOf a c) (bit (has seen c)) (told e c l .1 ∙ s .all refl c (omega (arith, few)))))
 
 -- the D number of a condition tells whether it is unknown by default
-pub default-told : (a : List ℕ) → sound a ≡ true → (c : ℕ) → c < conditionsOf a → eqb (defaultOf a c) 1 ≡ unknownByDefault (pageOf a) c
+pub default-told : (a : List ℕ) → solvable a ≡ true → (c : ℕ) → c < conditionsOf a → eqb (defaultOf a c) 1 ≡ unknownByDefault (pageOf a) c
 unfolding unknownByDefault
-default-told a e c l = let s = sound-parts a e in rw (← s .told c l) (go (defaultOf a c) (s .single c l))
+default-told a e c l = let s = solvable-parts a e in rw (← s .told c l) (go (defaultOf a c) (s .single c l))
   where
     go : (d : ℕ) → d ≤ 1 → eqb d 1 ≡ leb 1 d
     go zero h = refl
     go (suc zero) h = refl
     go (suc (suc d)) h = absurd (omega arith)
 
-pub numbers-inside : (a : List ℕ) → sound a ≡ true → firstLine a ≤ length a
+pub numbers-inside : (a : List ℕ) → solvable a ≡ true → firstLine a ≤ length a
 numbers-inside a e =
-    let h = sound-parts a e .head in
+    let h = solvable-parts a e .head in
     omega (arith, leb-true (firstLine a) (usedOf a) (h .1 .0), leb-true (usedOf a) (length a) (h .1 .1 .0))

@@ -1,7 +1,9 @@
 -- soundness, line by line
 pub mod Scan
 pub mod Checking
--- the head numbers of a sound area
+-- sound areas are solvable, and what solvable ones hold
+pub mod Solvable
+-- the head numbers of a solvable area
 pub mod Head
 -- a scan over the lines of a sound area
 pub mod Scanning

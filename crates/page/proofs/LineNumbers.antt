@@ -11,7 +11,7 @@ use lib.Dec.{eqb}
 use lib.ListN.{getD, take, drop}
 use borrow.Author.Tests.{eqb-true, eq-eqb}
 use Rattle.fixpoint.specs.Interval.{Interval, Assign}
-use Rattle.semantics.specs.Area.{Kind, factKind, ruleKind, queryKind, defaultKind, noKind, kind, lineAs, lineAt, literalOf, sound, topOf, conditionsOf, countOf, usedOf}
+use Rattle.semantics.specs.Area.{Kind, factKind, ruleKind, queryKind, defaultKind, noKind, kind, lineAs, lineAt, literalOf, topOf, conditionsOf, countOf, usedOf}
 use Rattle.semantics.specs.Body.{ruleValue, onlyIf, lineBody}
 use Rattle.semantics.specs.Page.{Line, fact, rule, query, default}
 use Rattle.page.specs.Graded.{RuleAt, SoundEntry}
@@ -19,8 +19,9 @@ use Rattle.page.proofs.Scan.{line-at, entry-four, fact-kind, rule-kind,
 use Rattle.page.proofs.Scanning.{Scanning, linesLeft, scanning-first, scanning-next, entry-ok, lines-on}
 use Rattle.page.proofs.Entries.{rule-at}
 use Rattle.page.specs.Places.{placeOf, LineOf}
+use Rattle.page.specs.Solvable.{solvable}
 
-module _ (a : List ℕ) (ok : sound a ≡ true) where
+module _ (a : List ℕ) (ok : solvable a ≡ true) where
   -- the scan behind k lines stands where line k begins
   pub scanning-at : (k : ℕ) → k ≤ countOf a → Scanning a (placeOf a k) k
   unfolding placeOf

@@ -8,11 +8,12 @@ use native.Mathlib.Omega.{arith}
 use lib.Dec.{eqb, ltb}
 use lib.ListN.{getD, take, drop}
 use borrow.Author.Tests.{eq-eqb, ne-eqb, lt-ltb, le-ltb}
-use Rattle.semantics.specs.Area.{Kind, factKind, ruleKind, queryKind, defaultKind, noKind, kind, literalOf, lineAs, lineAt, pageOf, sound, countOf}
+use Rattle.semantics.specs.Area.{Kind, factKind, ruleKind, queryKind, defaultKind, noKind, kind, literalOf, lineAs, lineAt, pageOf, countOf}
 use Rattle.semantics.specs.Page.{positive, negative, conditionOf, Line, mentions, linesName, names}
 use Rattle.page.specs.Lines.{Next, lineNames}
 use Rattle.page.proofs.Scan.{part-cons, Remaining, remaining-next, rule-kind, fact-kind, over-five, line-at}
 use Rattle.page.proofs.Scanning.{Scanning, linesLeft, scanning-first, lines-first, scanning-moved, lines-moved, lines-none}
+use Rattle.page.specs.Solvable.{solvable}
 
 -- c is the condition of one of the literals
 abbrev pub codesName : ℕ → List ℕ → Bool

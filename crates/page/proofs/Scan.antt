@@ -12,11 +12,13 @@ use lib.Dec.{eqb, leb, ltb}
 use lib.ListN.{length, getD, take, drop, List·getD-eq-default}
 use lib.Seq.{getD-drop, drop-drop, drop-cons}
 use borrow.Author.Tests.{le-leb, lt-leb, lt-ltb, le-ltb, eq-eqb, ne-eqb, leb-true, leb-false, ltb-true, ltb-false, eqb-true, eqb-false}
-use Rattle.semantics.specs.Area.{Kind, factKind, ruleKind, queryKind, defaultKind, noKind, kind, spanAs, span, lineAs, lineAt, every, allUnder, fieldTests, lineTests, linesOk, headTests, defaultsOk, sound, firstLine, topOf, conditionsOf, countOf, usedOf}
+use Rattle.semantics.specs.Area.{Kind, factKind, ruleKind, queryKind, defaultKind, noKind, kind, spanAs, span, lineAs, lineAt, every, allUnder, fieldTests, lineTests, linesOk, headTests, defaultsOk, soundTo, sound, firstLine, topOf, conditionsOf, countOf, usedOf}
 use Rattle.semantics.specs.Grade.{Op, M, X, L, B, P}
-use Rattle.semantics.proofs.Soundness.{every-true, both-true, sound-parts}
+use Rattle.semantics.proofs.Soundness.{every-true, both-true}
 use Rattle.page.specs.Lines.{stepAt, EntryIn}
 use Rattle.page.specs.Checks.{headOk, ruleTests, ruleOk}
+use Rattle.page.specs.Solvable.{solvable}
+use Rattle.page.proofs.Solvable.{solvable-parts}
 
 -- r numbers from x on: the first of them, and those behind it
 pub part-cons : (a : List ℕ) (x r : ℕ) → x < length a → 0 < r → take r (drop x a) ≡ getD a x 0 ∷ take (r - 1) (drop (x + 1) a)
@@ -313,19 +315,19 @@ module _ (a : List ℕ) where
   abbrev lines-sound : Bool
   lines-sound = linesOk (topOf a) (conditionsOf a) (countOf a) (usedOf a - firstLine a) (drop (firstLine a) a)
 
-  pub head-fails-at : (i : ℕ) → getD (headTests a) i true ≡ false → sound a ≡ false
-  unfolding sound
-  head-fails-at i e = rw (every-fails (headTests a) i e)
+  pub head-fails-at : (i : ℕ) → getD (headTests 1024 a) i true ≡ false → sound a ≡ false
+  unfolding soundTo
+  head-fails-at i e = rw (every-fails (headTests 1024 a) i e)
 
-  pub lines-fail : every (headTests a) ≡ true → lines-sound ≡ false → sound a ≡ false
-  unfolding sound
+  pub lines-fail : every (headTests 1024 a) ≡ true → lines-sound ≡ false → sound a ≡ false
+  unfolding soundTo
   lines-fail h e = rw (h, e)
 
-  pub defaults-decide : {r : Bool} → every (headTests a) ≡ true → lines-sound ≡ true → r ≡ defaultsOk a → r ≡ sound a
-  unfolding sound
+  pub defaults-decide : {r : Bool} → every (headTests 1024 a) ≡ true → lines-sound ≡ true → r ≡ defaultsOk a → r ≡ sound a
+  unfolding soundTo
   defaults-decide h l e = rw (h, l) (e ∙ sym (and-true (defaultsOk a)))
 
-  pub sound-head : sound a ≡ true → (4 ≤ length a) × (usedOf a ≤ length a) × (countOf a ≤ 1024)
-  sound-head e =
-      let h = sound-parts a e .head in
-      (leb-true 4 (length a) (h .0), leb-true (usedOf a) (length a) (h .1 .1 .0), leb-true (countOf a) 1024 (h .1 .1 .1 .1 .1 .1 .1 .0))
+  pub solvable-head : solvable a ≡ true → (4 ≤ length a) × (usedOf a ≤ length a) × (countOf a ≤ 1536)
+  solvable-head e =
+      let h = solvable-parts a e .head in
+      (leb-true 4 (length a) (h .0), leb-true (usedOf a) (length a) (h .1 .1 .0), leb-true (countOf a) 1536 (h .1 .1 .1 .1 .1 .1 .1 .0))

@@ -9,11 +9,13 @@ use lib.ListN.{length, getD, drop}
 use lib.Seq.{drop-drop}
 use borrow.Author.Tests.{leb-true}
 use Rattle.semantics.specs.Page.{Line}
-use Rattle.semantics.specs.Area.{kind, spanAs, span, lineAt, linesOf, pageOf, every, lineTests, linesOk, headTests, sound, firstLine, topOf, conditionsOf, countOf, usedOf}
-use Rattle.semantics.proofs.Soundness.{both-true, sound-parts}
+use Rattle.semantics.specs.Area.{kind, spanAs, span, lineAt, linesOf, pageOf, every, lineTests, linesOk, headTests, firstLine, topOf, conditionsOf, countOf, usedOf}
+use Rattle.semantics.proofs.Soundness.{both-true}
 use Rattle.page.specs.Graded.{SoundEntry}
 use Rattle.page.specs.Lines.{EntryIn, Next}
 use Rattle.page.proofs.Scan.{span-at, entry-fits, entry-four, entry-in, lines-behind, at-suc}
+use Rattle.page.specs.Solvable.{solvable}
+use Rattle.page.proofs.Solvable.{solvable-parts}
 
 module _ (a : List ℕ) where
   -- the lines from place `at` on, when k lines are passed
@@ -33,8 +35,8 @@ module _ (a : List ℕ) where
       let z : countOf a - 0 ≡ countOf a = omega arith in
       record { in-count = omega arith; in-used = f; in-area = u; entries = rw z e }
 
-  pub scanning-first : sound a ≡ true → Scanning (firstLine a) 0
-  scanning-first e = let s = sound-parts a e in scanning-begun (leb-true (firstLine a) (usedOf a) (s .head .1 .0)) (leb-true (usedOf a) (length a) (s .head .1 .1 .0)) (s .lines)
+  pub scanning-first : solvable a ≡ true → Scanning (firstLine a) 0
+  scanning-first e = let s = solvable-parts a e in scanning-begun (leb-true (firstLine a) (usedOf a) (s .head .1 .0)) (leb-true (usedOf a) (length a) (s .head .1 .1 .0)) (s .lines)
 
   pub lines-first : linesLeft (firstLine a) 0 ≡ pageOf a .lines
   unfolding pageOf

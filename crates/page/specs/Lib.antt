@@ -1,4 +1,6 @@
 -- What the contracts of `page` cite besides the definitions of `semantics`.
+-- the areas that the functions work on
+pub mod Solvable
 -- the cursor over the lines
 pub mod Lines
 -- where the lines stand

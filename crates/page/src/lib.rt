@@ -11,6 +11,7 @@ ghost use Rattle.bits.specs.Words.{has};
 ghost use Rattle.semantics.specs.Area.{sound, pageOf, conditionsOf, defaultsOk, linesOk, fieldTests, every, kind, spanAs, firstLine, literalOf, lineAt};
 ghost use Rattle.page.specs.Lines.{EntryIn, Next, lineNames};
 ghost use Rattle.page.specs.Checks.{ruleTests, headOk, ruleOk, Lined, CollectedAt, Collected, numberTells};
+ghost use Rattle.page.specs.Solvable.{solvable};
 
 // How many numbers an entry of the kind k takes, with y as its fourth.
 pub fn span_of(k: u16, y: u16) -> usize
@@ -275,7 +276,7 @@ pub fn page_sound(a: &[u16]) -> bool
 
 // Whether c is unknown by default.
 pub fn unknown_by_default(a: &[u16], c: u16) -> bool
-    requires { ⌜ (sound (now a) ≡ true) × (c < conditionsOf (now a)) ⌝ }
+    requires { ⌜ (solvable (now a) ≡ true) × (c < conditionsOf (now a)) ⌝ }
     ensures { λ r. ⌜ r ≡ unknownByDefault (pageOf (now (a .entry))) c ⌝ }
 {
     a[4 + c as usize] == 1

@@ -12,7 +12,7 @@ use lib.Seq.{getD-set-same, getD-set-other}
 use borrow.Author.Tests.{not-false}
 use Rattle.fixpoint.specs.Interval.{Interval, same, Within, Assign}
 use Rattle.fixpoint.proofs.Evaluation.{same-true}
-use Rattle.semantics.specs.Area.{sound, pageOf, topOf, conditionsOf}
+use Rattle.semantics.specs.Area.{pageOf, topOf, conditionsOf}
 use Rattle.semantics.specs.Body.{T}
 use Rattle.semantics.specs.Grade.{lower}
 use Rattle.semantics.specs.Page.{names}
@@ -29,6 +29,7 @@ use Rattle.body.specs.Body.{Body}
 use Rattle.reach.specs.Sets.{Joins}
 use Rattle.picks.specs.Book.{SetIs, Holds, HoldSome, Evaluates}
 use Rattle.picks.specs.Figures.{tableAt}
+use Rattle.page.specs.Solvable.{solvable}
 
 module _ (a : List ℕ) {m : List Bool} {b : Worklist} {reached waiting values : List ℕ} (h : Holds a m b reached waiting values) where
   abbrev I : Assign

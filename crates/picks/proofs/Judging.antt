@@ -5,7 +5,6 @@ use mathlib.Core.List.{List, []}
 use mathlib.Core.Option.{none}
 use Prim.Native.Nat.{ℕ, zero, suc, _+_, _*_, _-_, _≤_, _<_}
 use native.Mathlib.Decide.{ℕ-discrete, decLe}
-use native.Mathlib.Nat.{mul-le-mul}
 use native.Mathlib.Numerals.{add-one}
 use native.Mathlib.Omega.{arith}
 use lib.Dec.{ltb, leb}
@@ -14,7 +13,6 @@ use lib.Seq.{take-all}
 use borrow.Author.Tests.{ltb-true, leb-true, not-false}
 use Rattle.fixpoint.specs.KnowledgeOrder.{unknown}
 use Rattle.fixpoint.specs.Sum.{sum, count}
-use Rattle.fixpoint.proofs.Sum.{sum-le, sum-const}
 use Rattle.semantics.specs.Area.{sound, pageOf, topOf, conditionsOf, allUnder}
 use Rattle.semantics.specs.Call.{firstOf}
 use Rattle.semantics.specs.Demand.{performFrom}
@@ -37,27 +35,17 @@ use Rattle.bits.specs.Words.{has, LowestIn}
 use Rattle.value.specs.Table.{Grades}
 use Rattle.value.proofs.Tables.{table-of}
 use Rattle.reach.specs.Sets.{ClosureSet}
-use Rattle.reach.proofs.Inserting.{size-most}
+use Rattle.reach.proofs.Bounds.{bound-few}
+use Rattle.page.specs.Solvable.{solvable}
+use Rattle.page.proofs.Solvable.{sound-solvable}
 use Rattle.picks.specs.Answer.{Judged}
 use Rattle.picks.specs.Book.{SetIs, Holds, HoldSome, Evaluates}
 use Rattle.picks.specs.Figures.{tableAt, Compared}
 use Rattle.picks.proofs.Evaluating.{holds-grades, holds-at}
 
--- the bound of a page: no place told is greater than it by more than one, so each fits 32 bits
-bound-few : (page : Page) → Proper page → (m : List Bool) → bound page m ≤ 512 + 200 * (512 * 512)
-unfolding bound countR countE
-bound-few page w m =
-    let n = page .conditions in
-    let pairs : countE page m ≤ 512 * 512 = omega (
-      arith,
-      sum-le n (λ a. count n (pairs-of a)) (λ a. n) (λ a l. size-most n (pairs-of a)),
-      sum-const n n,
-      mul-le-mul (w .conditions-most) (w .conditions-most),
-    ) in
-    omega (arith, size-most n (member m), w .conditions-most, mul-le-mul (w .top-most) pairs)
-  where
-    pairs-of : ℕ → ℕ → Bool
-    pairs-of a b = member m a && (member m b && names page a b)
+-- the causes of the queries come first: where none holds, the page is sound
+pub picks-solvable : (a qs : List ℕ) → firstOf (queryCauses a qs) ≡ none → solvable a ≡ true
+picks-solvable a qs e = sound-solvable a (picks-sound a qs e)
 
 -- i picks are evaluated, each of them waited
 pub record Judging (a qs picks reached waiting values : List ℕ) (i : ℕ) : Type 0 where

@@ -7,7 +7,7 @@ use native.Mathlib.Decide.{ℕ-discrete}
 use lib.Dec.{eqb}
 use lib.ListN.{length, getD, drop}
 use borrow.Author.Tests.{eqb-true, eq-eqb, ne-eqb}
-use Rattle.semantics.specs.Area.{sound, firstLine, pageOf, lineAt, countOf}
+use Rattle.semantics.specs.Area.{firstLine, pageOf, lineAt, countOf}
 use Rattle.semantics.specs.Page.{Line, names, linesName}
 use Rattle.semantics.proofs.Soundness.{both-true}
 use Rattle.bits.specs.Words.{has, Inserted}
@@ -16,6 +16,7 @@ use Rattle.page.proofs.Naming.{lines-name}
 use Rattle.page.proofs.Scanning.{Scanning, linesLeft, scanning-first, lines-first, scanning-moved, lines-moved, lines-none}
 use Rattle.reach.specs.Sets.{Joins}
 use Rattle.reach.proofs.Inserting.{Joining, joining-first, joining-next, joining-last}
+use Rattle.page.specs.Solvable.{solvable}
 
 -- a set that has those of f already
 joins-kept : (f : ℕ → Bool) (words : List ℕ) → length words ≡ 8 → ((c : ℕ) → f c ≡ true → has words c ≡ true) → Joins has 8 f words words
@@ -70,7 +71,7 @@ module _ (a : List ℕ) (c : ℕ) (reached waiting₀ : List ℕ) where
     pub scan : Scanning a at k
     pub joining : Joining has 8 (λ h. has reached h && names (pageOf a) h c) (ahead at k) waiting₀ waiting
 
-  pub waking-first : sound a ≡ true → length waiting₀ ≡ 8 → {at k : ℕ} → (at ≡ firstLine a) × (k ≡ 0) → Waking waiting₀ at k
+  pub waking-first : solvable a ≡ true → length waiting₀ ≡ 8 → {at k : ℕ} → (at ≡ firstLine a) × (k ≡ 0) → Waking waiting₀ at k
   waking-first ok s {at} {k} z =
       rw (z .0, z .1)
       (record {

@@ -6,7 +6,7 @@ ghost use mathlib.Core.Option.{none};
 ghost use Prim.Native.Nat.{_+_, _*_, _-_, _≤_, _<_};
 ghost use lib.Dec.{eqb, ltb};
 ghost use lib.ListN.{length, getD, drop};
-ghost use Rattle.semantics.specs.Area.{sound, pageOf, topOf, conditionsOf, lineAt, allUnder};
+ghost use Rattle.semantics.specs.Area.{pageOf, topOf, conditionsOf, lineAt, allUnder};
 ghost use Rattle.semantics.specs.Call.{firstOf};
 ghost use Rattle.semantics.specs.Operation.{queryCauses};
 ghost use Rattle.semantics.specs.Page.{names};
@@ -18,6 +18,7 @@ ghost use Rattle.value.specs.Table.{Grades};
 ghost use Rattle.picks.specs.Answer.{checkedOf, Judged};
 ghost use Rattle.picks.specs.Book.{HoldSome, Evaluates};
 ghost use Rattle.picks.specs.Figures.{tableAt, Compared};
+ghost use Rattle.page.specs.Solvable.{solvable};
 use value::Ends;
 
 // The head of the line at `at` waits if it is reached and the line is a rule that names c. The literals of a head that waits already are not
@@ -40,7 +41,7 @@ fn wake_head(a: &[u16], at: usize, reached: &[u64], waiting: &mut [u64], c: u16)
 
 // Every reached condition with a rule that names c waits.
 fn wake(a: &[u16], reached: &[u64], waiting: &mut [u64], c: u16)
-    requires { ⌜ (sound (now a) ≡ true) × (length (now reached) ≡ 8) × (length (now waiting) ≡ 8) ⌝ }
+    requires { ⌜ (solvable (now a) ≡ true) × (length (now reached) ≡ 8) × (length (now waiting) ≡ 8) ⌝ }
     ensures { λ _. ⌜ Joins has 8 (λ h. has (now (reached .entry)) h && names (pageOf (now (a .entry))) h c) (now (waiting .entry)) (now (waiting .exit)) ⌝ }
 {
     let count = a[2];
@@ -66,7 +67,7 @@ fn held(values: &[u8], c: u16, top: u16) -> Ends
 
 // An evaluation of c: it waits no longer and holds T of what is held; if that changed it, its dependants wait.
 fn evaluate(a: &[u16], reached: &[u64], waiting: &mut [u64], values: &mut [u8], c: u16)
-    requires { ⌜ (sound (now a) ≡ true) × (c < conditionsOf (now a)) × HoldSome (now a) (now reached) (now waiting) (now values) ⌝ }
+    requires { ⌜ (solvable (now a) ≡ true) × (c < conditionsOf (now a)) × HoldSome (now a) (now reached) (now waiting) (now values) ⌝ }
     ensures { λ _. ⌜ Evaluates (now (a .entry)) c (now (reached .entry)) (now (waiting .entry)) (now (values .entry)) (now (waiting .exit)) (now (values .exit)) ⌝ }
 {
     let top = a[0];
@@ -95,7 +96,7 @@ fn waits(waiting: &[u64], n: u16, pick: u16) -> bool
 
 // Whether the figures are low, high of each query, in list order.
 fn figures_held(a: &[u16], queries: &[u16], figures: &[u16], values: &[u8]) -> bool
-    requires { ⌜ (sound (now a) ≡ true) × (allUnder (conditionsOf (now a)) (now queries) ≡ true) × (length (now queries) ≤ 16) × Grades (topOf (now a)) (conditionsOf (now a)) (now values) ⌝ }
+    requires { ⌜ (solvable (now a) ≡ true) × (allUnder (conditionsOf (now a)) (now queries) ≡ true) × (length (now queries) ≤ 16) × Grades (topOf (now a)) (conditionsOf (now a)) (now values) ⌝ }
     ensures { λ r. ⌜ Compared (topOf (now (a .entry))) (now (queries .entry)) (now (figures .entry)) (now (values .entry)) r ⌝ }
 {
     if figures.len() != 2 * queries.len() {

@@ -12,6 +12,8 @@ pub mod Closing
 pub mod Passing
 -- R and E
 pub mod Counting
+-- R + top × E fits 32 bits
+pub mod Bounds
 -- one mark, and a set of words as marks
 pub mod Marking
 -- the run area that an opening writes

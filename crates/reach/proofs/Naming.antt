@@ -9,7 +9,7 @@ use lib.Dec.{eqb, ltb}
 use lib.ListN.{length, getD, take, drop, drop-of-length-le}
 use lib.Seq.{drop-cons}
 use borrow.Author.Tests.{ltb-true, lt-ltb}
-use Rattle.semantics.specs.Area.{sound, topOf, conditionsOf, literalOf, allUnder}
+use Rattle.semantics.specs.Area.{topOf, conditionsOf, literalOf, allUnder}
 use Rattle.semantics.specs.Page.{positive, negative, conditionOf, mentions}
 use Rattle.semantics.specs.Table.{listed}
 use Rattle.semantics.proofs.Soundness.{both-true}
@@ -18,6 +18,7 @@ use Rattle.page.proofs.Entries.{code-in}
 use Rattle.page.proofs.Head.{head-of}
 use Rattle.reach.specs.Sets.{Inserts}
 use Rattle.reach.proofs.Inserting.{Inserting, inserting-next}
+use Rattle.page.specs.Solvable.{solvable}
 
 -- the queries
 pub under-at : (m : ℕ) (xs : List ℕ) → allUnder m xs ≡ true → (i : ℕ) → i < length xs → getD xs i 0 < m
@@ -49,7 +50,7 @@ under-more m k (x ∷ xs) l e =
     let h = both-true (ltb x m) (allUnder m xs) e in
     rw (lt-ltb x k (omega (arith, ltb-true x m (h .0))), under-more m k xs l (h .1))
 
-pub queries-few : (a : List ℕ) → sound a ≡ true → (qs : List ℕ) → allUnder (conditionsOf a) qs ≡ true → allUnder 512 qs ≡ true
+pub queries-few : (a : List ℕ) → solvable a ≡ true → (qs : List ℕ) → allUnder (conditionsOf a) qs ≡ true → allUnder 512 qs ≡ true
 queries-few a ok qs asked = under-more (conditionsOf a) 512 qs (head-of a ok .few) asked
 
 -- the literals of a rule

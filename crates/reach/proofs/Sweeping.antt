@@ -11,11 +11,11 @@ use borrow.Author.Tests.{eqb-true, eq-eqb}
 use Rattle.fixpoint.specs.ChaoticIteration.{DependencyClosed}
 use Rattle.fixpoint.specs.Sum.{bit, count}
 use Rattle.fixpoint.proofs.Sum.{sum-tight}
-use Rattle.semantics.specs.Area.{sound, firstLine, pageOf, lineAt, countOf}
+use Rattle.semantics.specs.Area.{firstLine, pageOf, lineAt, countOf}
 use Rattle.semantics.specs.Page.{Line, names, linesName}
 use Rattle.semantics.specs.Table.{member}
 use Rattle.semantics.proofs.Readings.{names-inside}
-use Rattle.semantics.proofs.Soundness.{both-true, sound-proper}
+use Rattle.semantics.proofs.Soundness.{both-true}
 use Rattle.semantics.proofs.Table.{or-cases}
 use Rattle.page.specs.Lines.{Next, lineNames}
 use Rattle.page.proofs.Naming.{lines-name}
@@ -23,6 +23,8 @@ use Rattle.page.proofs.Scanning.{Scanning, linesLeft, scanning-first, lines-fir
 use Rattle.reach.specs.Sets.{Inserts, Swept}
 use Rattle.reach.proofs.Inserting.{size-most}
 use Rattle.reach.proofs.Visiting.{scanned-head}
+use Rattle.page.specs.Solvable.{solvable}
+use Rattle.page.proofs.Solvable.{solvable-proper}
 
 bit-eq : (a b : Bool) → bit a ≡ bit b → a ≡ b
 bit-eq true true e = refl
@@ -61,9 +63,9 @@ module _ (a : List ℕ) (marks₀ : List Bool) where
   pub sweeping-few : {marks : List Bool} {at k new : ℕ} → Sweeping marks at k new → new ≤ 512
   sweeping-few {marks = marks} s = omega (arith, s .counted, size-most 512 (member marks))
 
-  module _ (ok : sound a ≡ true) where
+  module _ (ok : solvable a ≡ true) where
     small : {c : ℕ} → c < pageOf a .conditions → c < 512
-    small l = omega (arith, sound-proper a ok .conditions-most)
+    small l = omega (arith, solvable-proper a ok .conditions-most)
 
     pub sweeping-first : length marks₀ ≡ 512 → {at k : ℕ} → (at ≡ firstLine a) × (k ≡ 0) → Sweeping marks₀ at k 0
     sweeping-first s {at} {k} z =
@@ -101,7 +103,7 @@ module _ (a : List ℕ) (marks₀ : List Bool) where
             grows = λ c m q. inserts-grows h c m (s .grows c m q);
             inside = λ t d g c m q.
                 ⊎-elim (λ z. s .inside t d g c m z)
-                (λ z. let n = named c z in d head c (scanned-head a (s .scan) l) (names-inside (pageOf a) (sound-proper a ok) head c n) (s .inside t d g head (small (scanned-head a (s .scan) l)) here) n)
+                (λ z. let n = named c z in d head c (scanned-head a (s .scan) l) (names-inside (pageOf a) (solvable-proper a ok) head c n) (s .inside t d g head (small (scanned-head a (s .scan) l)) here) n)
                 (or-cases (member marks c) (lineNames line c) (sym (h .joins .is c m) ∙ q));
             counted = omega (arith, s .counted, h .counted);
             settled = λ z x b m o p q.

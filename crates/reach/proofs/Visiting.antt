@@ -11,10 +11,9 @@ use lib.ListN.{length, getD, drop}
 use borrow.Author.Tests.{eq-eqb, ne-eqb}
 use Rattle.fixpoint.specs.Sum.{sum, bit, count}
 use Rattle.fixpoint.proofs.Sum.{sum-eq, sum-zero}
-use Rattle.semantics.specs.Area.{sound, firstLine, pageOf, lineAt, topOf, conditionsOf, countOf}
+use Rattle.semantics.specs.Area.{firstLine, pageOf, lineAt, topOf, conditionsOf, countOf}
 use Rattle.semantics.specs.Page.{Line, names, linesName}
 use Rattle.semantics.proofs.Readings.{names-inside}
-use Rattle.semantics.proofs.Soundness.{sound-proper}
 use Rattle.page.specs.Lines.{Next, lineNames}
 use Rattle.page.proofs.Naming.{lines-name}
 use Rattle.page.proofs.Scan.{entry-head}
@@ -24,6 +23,8 @@ use Rattle.bits.specs.Words.{has, Absorbed}
 use Rattle.bits.proofs.Sets.{word-none}
 use Rattle.reach.specs.Sets.{Inserts, Followed}
 use Rattle.reach.proofs.Inserting.{Inserting, inserting-first, inserting-next, inserting-skip, inserting-last}
+use Rattle.page.specs.Solvable.{solvable}
+use Rattle.page.proofs.Solvable.{solvable-proper}
 
 -- the head of the line where a scan stands is a condition
 pub scanned-head : (a : List ℕ) {at k : ℕ} → Scanning a at k → k < countOf a → getD a at 0 < pageOf a .conditions
@@ -36,7 +37,7 @@ module _ (a : List ℕ) (c : ℕ) (words₀ : List ℕ) where
     pub scan : Scanning a at k
     pub inserting : Inserting has 8 (names (pageOf a) c) (λ b. linesName (linesLeft a at k) c b) words₀ words new
 
-  pub gathering-first : sound a ≡ true → length words₀ ≡ 8 → {at k : ℕ} → (at ≡ firstLine a) × (k ≡ 0) → Gathering words₀ at k 0
+  pub gathering-first : solvable a ≡ true → length words₀ ≡ 8 → {at k : ℕ} → (at ≡ firstLine a) × (k ≡ 0) → Gathering words₀ at k 0
   gathering-first e s {at} {k} z =
       rw (z .0, z .1)
       (record {
@@ -86,13 +87,13 @@ count-past n (suc k) s l h =
     ]
 
 -- the conditions named are gathered in an empty set: how many they are
-module _ (a : List ℕ) (ok : sound a ≡ true) (c : ℕ) {blank named : List ℕ} {edges : ℕ} (empty : Cleared blank) (h : Inserts has 8 (names (pageOf a) c) blank named edges) where
+module _ (a : List ℕ) (ok : solvable a ≡ true) (c : ℕ) {blank named : List ℕ} {edges : ℕ} (empty : Cleared blank) (h : Inserts has 8 (names (pageOf a) c) blank named edges) where
   named-is : (k : ℕ) → k < 512 → has named k ≡ names (pageOf a) c k
   named-is k l = h .joins .is k l ∙ ap (λ (t : Bool). t || names (pageOf a) c k) (blank-none blank empty k)
 
   named-count : edges ≡ count (pageOf a .conditions) (names (pageOf a) c)
   named-count =
-      let p = sound-proper a ok in
+      let p = solvable-proper a ok in
       let none : count 512 (has blank) ≡ 0 = sum-eq 512 _ (λ b. 0) (λ b k. ap bit (blank-none blank empty b)) ∙ sum-zero 512 in
       let all : count 512 (has named) ≡ count 512 (names (pageOf a) c) = sum-eq 512 _ _ (λ b k. ap bit (named-is b k)) in
       let few : count 512 (names (pageOf a) c) ≡ count (pageOf a .conditions) (names (pageOf a) c)

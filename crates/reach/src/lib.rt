@@ -16,6 +16,7 @@ ghost use Rattle.page.specs.Lines.{lineNames};
 ghost use Rattle.reach.specs.Opening.{openingOf, accepted, Written};
 ghost use Rattle.reach.specs.Marks.{Unmarked, ClosureMarks};
 ghost use Rattle.reach.specs.Sets.{Joins, Inserts, Inside, Followed, Passed, ClosureSet, FoundIn, Counted, Swept, MarksBelow};
+ghost use Rattle.page.specs.Solvable.{solvable};
 
 // Puts the queries into the set.
 fn insert_queries(queries: &[u16], words: &mut [u64])
@@ -58,7 +59,7 @@ fn insert_line(a: &[u16], at: usize, words: &mut [u64]) -> u32
 
 // Puts the conditions that the R lines of c name into the set, in one scan over the lines; answers how many are new.
 fn insert_named(a: &[u16], c: u16, words: &mut [u64]) -> u32
-    requires { ⌜ (sound (now a) ≡ true) × (length (now words) ≡ 8) ⌝ }
+    requires { ⌜ (solvable (now a) ≡ true) × (length (now words) ≡ 8) ⌝ }
     ensures { λ r. ⌜ Inserts has 8 (names (pageOf (now (a .entry))) c) (now (words .entry)) (now (words .exit)) r ⌝ }
 {
     let mut left = a[2];
@@ -77,7 +78,7 @@ fn insert_named(a: &[u16], c: u16, words: &mut [u64]) -> u32
 
 // Follows the condition c, in one scan. What its R lines name is found, and new if it was not found before; answers how many they name.
 fn follow(a: &[u16], c: u16, found: &mut [u64], new: &mut [u64]) -> u32
-    requires { ⌜ (sound (now a) ≡ true) × (length (now found) ≡ 8) × (length (now new) ≡ 8) ⌝ }
+    requires { ⌜ (solvable (now a) ≡ true) × (length (now found) ≡ 8) × (length (now new) ≡ 8) ⌝ }
     ensures { λ r. ⌜ Followed (pageOf (now (a .entry))) c (now (found .entry)) (now (new .entry)) (now (found .exit)) (now (new .exit)) r ⌝ }
 {
     let mut named = [0u64; 8];
@@ -94,7 +95,7 @@ struct Counts {
 
 // A pass: it follows the conditions of `fresh`, takes them from that set, and puts what it adds into the empty set `new`.
 fn pass(a: &[u16], fresh: &mut [u64], found: &mut [u64], new: &mut [u64]) -> Counts
-    requires { ⌜ (sound (now a) ≡ true) × Inside (conditionsOf (now a)) (now fresh) × (length (now found) ≡ 8) × (length (now new) ≡ 8) × Cleared (now new) ⌝ }
+    requires { ⌜ (solvable (now a) ≡ true) × Inside (conditionsOf (now a)) (now fresh) × (length (now found) ≡ 8) × (length (now new) ≡ 8) × Cleared (now new) ⌝ }
     ensures passed { λ _. ⌜ Passed (pageOf (now (a .entry))) (now (fresh .entry)) (now (found .entry)) (now (found .exit)) (now (new .exit)) ⌝ }
     ensures counted { λ r. ⌜ Counted (pageOf (now (a .entry))) (now (fresh .entry)) (r .reached) (r .edges) ⌝ }
 {
@@ -121,7 +122,7 @@ struct Found {
 
 // The closure of the queries, in passes: the first that adds none is the last.
 fn find(a: &[u16], queries: &[u16]) -> Found
-    requires { ⌜ (sound (now a) ≡ true) × (allUnder (conditionsOf (now a)) (now queries) ≡ true) ⌝ }
+    requires { ⌜ (solvable (now a) ≡ true) × (allUnder (conditionsOf (now a)) (now queries) ≡ true) ⌝ }
     ensures found { λ r. ⌜ FoundIn (pageOf (now (a .entry))) (now (queries .entry)) (r .set) (r .passes) ⌝ }
     ensures counted { λ r. ⌜ Counted (pageOf (now (a .entry))) (r .set) (r .reached) (r .edges) ⌝ }
 {
@@ -206,7 +207,7 @@ fn mark_line(a: &[u16], at: usize, marks: &mut [bool]) -> u32
 
 // One pass over the lines: what a line of a marked condition names is marked; answers how many are new.
 fn sweep(a: &[u16], marks: &mut [bool]) -> u32
-    requires { ⌜ (sound (now a) ≡ true) × (length (now marks) ≡ 512) ⌝ }
+    requires { ⌜ (solvable (now a) ≡ true) × (length (now marks) ≡ 512) ⌝ }
     ensures { λ r. ⌜ Swept (pageOf (now (a .entry))) (now (marks .entry)) (now (marks .exit)) r ⌝ }
 {
     let mut left = a[2];
@@ -225,7 +226,7 @@ fn sweep(a: &[u16], marks: &mut [bool]) -> u32
 
 // The closure of the queries as a set.
 pub fn spread(a: &[u16], queries: &[u16]) -> [u64; 8]
-    requires { ⌜ (sound (now a) ≡ true) × (allUnder (conditionsOf (now a)) (now queries) ≡ true) ⌝ }
+    requires { ⌜ (solvable (now a) ≡ true) × (allUnder (conditionsOf (now a)) (now queries) ≡ true) ⌝ }
     ensures { λ r. ⌜ ClosureSet (pageOf (now (a .entry))) (now (queries .entry)) r ⌝ }
 {
     let found = find(a, queries);
@@ -235,7 +236,7 @@ pub fn spread(a: &[u16], queries: &[u16]) -> [u64; 8]
 // Marks the closure of the queries, where nothing is marked yet, by passes over all lines until one adds nothing: fewer scans, where E is
 // not asked for.
 pub fn mark_closure(a: &[u16], queries: &[u16], marks: &mut [bool])
-    requires { ⌜ (sound (now a) ≡ true) × (allUnder (conditionsOf (now a)) (now queries) ≡ true) × Unmarked (now marks) ⌝ }
+    requires { ⌜ (solvable (now a) ≡ true) × (allUnder (conditionsOf (now a)) (now queries) ≡ true) × Unmarked (now marks) ⌝ }
     ensures { λ _. ⌜ ClosureMarks (pageOf (now (a .entry))) (now (queries .entry)) (now (marks .exit)) ⌝ }
 {
     mark_queries(queries, marks);
@@ -309,7 +310,7 @@ pub enum OpenAnswer {
 
 // The work of an opening that no cause refuses: "all 512 possible conditions begin as not reached", and the closure is then marked.
 fn open_accepted(page: &[u16], queries: &[u16], run: &mut [u16]) -> OpenAnswer
-    requires { ⌜ (sound (now page) ≡ true) × (allUnder (conditionsOf (now page)) (now queries) ≡ true) × (3 * conditionsOf (now page) ≤ length (now run)) ⌝ }
+    requires { ⌜ (solvable (now page) ≡ true) × (allUnder (conditionsOf (now page)) (now queries) ≡ true) × (3 * conditionsOf (now page) ≤ length (now run)) ⌝ }
     ensures answer { λ r. ⌜ openingOf r ≡ accepted (now (page .entry)) (now (queries .entry)) (now (run .entry)) .answer ⌝ }
     ensures left { λ _. ⌜ now (run .exit) ≡ accepted (now (page .entry)) (now (queries .entry)) (now (run .entry)) .run ⌝ }
 {

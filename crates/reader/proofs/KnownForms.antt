@@ -23,7 +23,7 @@ use Rattle.lines.proofs.Pairs.{pair-plain, no-first, no-second, pair-then}
 use Rattle.reader.specs.Entries.{Formed, LineFits, Put, LinePut, codeIn}
 
 -- neither of two causes holds where what follows from them does not
-neither : {P : Type 0} {t f : Bool} → ((t ≡ false) ⊎ P → f ≡ false) → f ≡ true → (t ≡ true) × (P → ⊥)
+pub neither : {P : Type 0} {t f : Bool} → ((t ≡ false) ⊎ P → f ≡ false) → f ≡ true → (t ≡ true) × (P → ⊥)
 neither {P} {t} {f} h e = (go t refl, λ p. false≢true (sym (h (inr p)) ∙ e))
   where
     go : (u : Bool) → t ≡ u → t ≡ true
@@ -31,7 +31,7 @@ neither {P} {t} {f} h e = (go t refl, λ p. false≢true (sym (h (inr p)) ∙ e)
     go false p = absurd (false≢true (sym (h (inl p)) ∙ e))
 
 -- a letter with a comma behind it, where there is one
-letter-unless : (s : List ℕ) (at : ℕ) → InText s at → {x : ℕ} → getD s at 10 ≡ x → Plain x → (letterThen (fieldsAt (drop at s)) ≡ 0 → ⊥) → LetterThen s at x
+pub letter-unless : (s : List ℕ) (at : ℕ) → InText s at → {x : ℕ} → getD s at 10 ≡ x → Plain x → (letterThen (fieldsAt (drop at s)) ≡ 0 → ⊥) → LetterThen s at x
 letter-unless s at p {x} b l n = go (ℕ-discrete (getD s (at + 1) 0) 44)
   where
     go : Dec (getD s (at + 1) 0 ≡ 44) → LetterThen s at x

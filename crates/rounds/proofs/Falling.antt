@@ -169,7 +169,7 @@ module _ (a : List ℕ) (m : List Bool) (users next s₀ words₀ : List ℕ) wh
               | inr f ↦ elim (renegated .woken) [
                 | inl e ↦ inl e
                 | inr g ↦ inr (upto (WokenFor s′ words′) c
-                    (λ d k p h q. renegated .kept h (omega (arith, head-of a (v .ready .page-sound) .few, reads-below a (v .ready .page-sound) (2 * d + 1) h q))
+                    (λ d k p h q. renegated .kept h (omega (arith, head-of a (v .ready .page-solvable) .few, reads-below a (v .ready .page-solvable) (2 * d + 1) h q))
                     (f d k (λ e. p (high-else d (λ o. omega arith) ∙ e)) h q))
                     (λ p h q. g another h q))
               ]

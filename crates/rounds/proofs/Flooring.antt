@@ -16,7 +16,7 @@ use Rattle.fixpoint.proofs.Merge.{floor-in}
 use Rattle.fixpoint.proofs.PlainReading.{operator}
 use Rattle.fixpoint.proofs.AlternatingHalves.{lows-anti}
 use Rattle.fixpoint.proofs.Sum.{sum-le, sum-eq, sum-drop}
-use Rattle.semantics.specs.Area.{sound, pageOf, topOf, conditionsOf}
+use Rattle.semantics.specs.Area.{pageOf, topOf, conditionsOf}
 use Rattle.semantics.specs.Body.{T, unknownByDefault}
 use Rattle.semantics.specs.Grade.{lower}
 use Rattle.semantics.specs.Table.{member}
@@ -31,6 +31,7 @@ use Rattle.unknowns.specs.NextHighs.{HighTable, NextHighs}
 use Rattle.unknowns.proofs.Sought.{sought-here, sought-free}
 use Rattle.rounds.specs.Round.{Comparable, Refreshed, Fallible, Fell, freeHighs, toLearn, nextFloorAt, FloorHalf, FloorKept, AllRest, SameIntervals, FloorStep, Floored}
 use Rattle.rounds.proofs.Turns.{low-eq, high-eq, lows-under, highs-over, floor-done, lows-same}
+use Rattle.page.specs.Solvable.{solvable}
 
 pub index-users : {a lines users : List ℕ} → MaybeIndex a lines users → MaybeUsers a users
 index-users = ⊎-elim (λ z. inl z) (λ i. inr (i .1))
@@ -58,7 +59,7 @@ module _ (a : List ℕ) (m : List Bool) where
 
   -- the goal stays while the other high ends do
   goal-same : {s s′ : List ℕ} → FloorHalf a m s → FloorKept a m s s′ → Alike n (member m) (nextFloorAt a s′) (nextFloorAt a s)
-  goal-same {s} {s′} F k = lows-same (S a (F .half .page-sound)) free (F .half .shut) (held n s′) (held n s) (λ c l r f. k .others c l f)
+  goal-same {s} {s′} F k = lows-same (S a (F .half .page-solvable)) free (F .half .shut) (held n s′) (held n s) (λ c l r f. k .others c l f)
 
   -- the floor held tells no more than the goal
   goal-mix : {s : List ℕ} → FloorHalf a m s → (c : ℕ) → c < n → member m c ≡ true → Under (held n s c) (mix free (nextFloorAt a s) (held n s) c)
@@ -69,7 +70,7 @@ module _ (a : List ℕ) (m : List Bool) where
       }
 
   -- the same intervals
-  module _ (s s′ : List ℕ) (e : SameIntervals a s s′) (ok : sound a ≡ true) where
+  module _ (s s′ : List ℕ) (e : SameIntervals a s s′) (ok : solvable a ≡ true) where
     T-same : (c : ℕ) → c < n → T (pageOf a) (held n s′) c ≡ T (pageOf a) (held n s) c
     unfolding pageOf
     T-same c l = S a ok .local (held n s′) (held n s) c l (λ b i r. e b i)
@@ -118,7 +119,7 @@ module _ (a : List ℕ) (m : List Bool) where
             lows = omega (
               arith,
               w .ends c l r,
-              lows-under (S a (F .half .page-sound)) free (held n s) (F .half .shut) (held n s) (goal-mix F) c l r,
+              lows-under (S a (F .half .page-solvable)) free (held n s) (F .half .shut) (held n s) (goal-mix F) c l r,
               low-eq (goal-same F settled-kept c l r),
             );
             highs = omega (arith, F .under c l r .highs, high-eq (goal-same F settled-kept c l r), ap (λ (x : ℕ). cond (free c) x (topOf a)) (w .steady .others c l));
@@ -134,13 +135,13 @@ module _ (a : List ℕ) (m : List Bool) where
     same₁ c l = pair-eq (h .under (2 * c) (omega arith)) (h .highs c l)
 
     pub kept₁ : FloorKept a m s s₁
-    kept₁ = kept-intervals s s₁ same₁ (H .page-sound) (h .same-length) (h .beyond)
+    kept₁ = kept-intervals s s₁ same₁ (H .page-solvable) (h .same-length) (h .beyond)
 
     pub half₁ : FloorHalf a m s₁
     half₁ =
         record {
           half = record {
-            page-sound = H .page-sound;
+            page-solvable = H .page-solvable;
             long = omega (arith, H .long, h .same-length);
             marked = H .marked;
             shut = H .shut;
@@ -150,7 +151,7 @@ module _ (a : List ℕ) (m : List Bool) where
               arith,
               low-eq (same₁ c l),
               H .below c l,
-              settled-others (S a (H .page-sound)) (E a (H .page-sound)) free lower (held n s₁) (held n s) (λ b i. high-eq (same₁ b i)) (λ b i f. absurd (false≢true f)) c l,
+              settled-others (S a (H .page-solvable)) (E a (H .page-solvable)) free lower (held n s₁) (held n s) (λ b i. high-eq (same₁ b i)) (λ b i f. absurd (false≢true f)) c l,
             );
             capped = λ c l r f. absurd (false≢true f);
           };
@@ -161,7 +162,7 @@ module _ (a : List ℕ) (m : List Bool) where
         }
 
     pub rests₁ : AllRest a m s → AllRest a m s₁
-    rests₁ = rests-same s s₁ same₁ (H .page-sound)
+    rests₁ = rests-same s s₁ same₁ (H .page-solvable)
 
     pub table₁ : HighTable a s₁
     table₁ = record { long = half₁ .half .long; within = half₁ .half .within; negated = h .fresh }
@@ -170,12 +171,12 @@ module _ (a : List ℕ) (m : List Bool) where
   indexed-index = ⊎-elim (λ z. inl z) (λ i. inr (i .lines-in, i .users-in))
 
   pub half-comparable : {s : List ℕ} → FloorHalf a m s → Comparable a s
-  half-comparable F = record { page-sound = F .half .page-sound; long = F .half .long; within = λ c l. F .half .within c l .low-in }
+  half-comparable F = record { page-solvable = F .half .page-solvable; long = F .half .long; within = λ c l. F .half .within c l .low-in }
 
   pub half-fallible : {users next s words : List ℕ} → FloorHalf a m s → MaybeUsers a users → conditionsOf a ≤ length next → WaitSet n words → Fallible a m users next s words
   half-fallible {s = s} F u x w =
       record {
-        page-sound = F .half .page-sound;
+        page-solvable = F .half .page-solvable;
         users-in = u;
         long = F .half .long;
         marked = F .half .marked;
@@ -222,7 +223,7 @@ module _ (a : List ℕ) (m : List Bool) where
     over-goal : (c : ℕ) → c < n → member m c ≡ true → free c ≡ true → nextFloorAt a s c .high ≤ held n s₂ c .high
     over-goal c l r f =
         ⊎-elim (λ e. omega (arith, e, F .under c l r .highs, cond-true (held n s c .high) (topOf a) f))
-        (λ e. omega (arith, e .1, x .each c l (e .0 .0), highs-over (S a (F .half .page-sound)) free (held n s) (F .half .shut) (held n s) (goal-mix F) c l r f))
+        (λ e. omega (arith, e .1, x .each c l (e .0 .0), highs-over (S a (F .half .page-solvable)) free (held n s) (F .half .shut) (held n s) (goal-mix F) c l r f))
         (g .falls c l)
 
     pub half₂ : FloorHalf a m s₂
@@ -230,13 +231,13 @@ module _ (a : List ℕ) (m : List Bool) where
         let H = F .half in
         record {
           half = record {
-            page-sound = H .page-sound;
+            page-solvable = H .page-solvable;
             long = omega (arith, H .long, g .same-length);
             marked = H .marked;
             shut = H .shut;
             within = λ c l. record { low-in = omega (arith, g .lows c l, H .within c l); high-in = omega (arith, high-fall c l, H .within c l) };
             negated = λ c l. ap (λ (i : ℕ). getD s₂ i 0) (omega arith) ∙ g .negated c l;
-            below = λ c l. omega (arith, g .lows c l, H .below c l, lows-anti (operator (S a (H .page-sound))) nobody (held n s₂) (held n s) (λ b i e. high-fall b i) c l .lows);
+            below = λ c l. omega (arith, g .lows c l, H .below c l, lows-anti (operator (S a (H .page-solvable))) nobody (held n s₂) (held n s) (λ b i e. high-fall b i) c l .lows);
             capped = λ c l r f. absurd (false≢true f);
           };
           under = λ c l r. record {
@@ -255,7 +256,7 @@ module _ (a : List ℕ) (m : List Bool) where
             arith,
             q c l r,
             g .lows c l,
-            E a (F .half .page-sound) .local-end lower (held n s₂) (held n s) c l (λ d i f. g .lows d i)
+            E a (F .half .page-solvable) .local-end lower (held n s₂) (held n s) c l (λ d i f. g .lows d i)
                 (λ d i f. elim (ℕ-discrete (held n s₂ d .high) (held n s d .high)) [
                   | yes y ↦ y
                   | no y ↦ absurd (⊎-elim (λ z. omega (arith, u .long)) (λ p. true≢false (sym (p d i y c f) ∙ o)) (g .woken))
@@ -272,9 +273,9 @@ module _ (a : List ℕ) (m : List Bool) where
           record {
             kept = kept-on k kept₂;
             half = half₂;
-            rests = rests-same s s₂ e (F .half .page-sound) q;
+            rests = rests-same s s₂ e (F .half .page-solvable) q;
             still = λ y c l. e c l ∙ same c l;
-            down = λ y c l r f. let o = sought-here a m c r f in omega (arith, g .down c l o, x .each c l o, high-eq (T-same s s₂ e (F .half .page-sound) c l));
+            down = λ y c l r f. let o = sought-here a m c r f in omega (arith, g .down c l o, x .each c l o, high-eq (T-same s s₂ e (F .half .page-solvable) c l));
             moves = λ y. absurd (false≢true y);
           }
 
@@ -324,7 +325,7 @@ module _ (a : List ℕ) (m : List Bool) where
           half = F .half;
           rests = r .rests;
           ends = λ c l y.
-              floor-done (S a (F .half .page-sound)) free (held n s′) (F .half .shut) (held n s′) (goal-mix F) (λ b i o f. refl) (λ b i o. floor-in (free b) (F .half .within b i)) (r .rests) (r .down z) c l y
+              floor-done (S a (F .half .page-solvable)) free (held n s′) (F .half .shut) (held n s′) (goal-mix F) (λ b i o f. refl) (λ b i o. floor-in (free b) (F .half .within b i)) (r .rests) (r .down z) c l y
               ∙ goal-same F₀ k c l y;
           still = λ y c l. ⊎-elim (λ p. r .still z c l ∙ p .1 c l ∙ ap (λ (x : List ℕ). held n x c) (w .still (sym (p .0) ∙ y))) (λ p. absurd (true≢false (sym (p .0) ∙ y))) (v .progress);
           moves = λ y. ⊎-elim (λ p. omega (arith, settled-less F₀ w (sym (p .0) ∙ y), v .kept .less, r .kept .less)) (λ p. omega (arith, p .1, settled-kept F₀ w .less, r .kept .less)) (v .progress);
@@ -339,7 +340,7 @@ module _ (a : List ℕ) (m : List Bool) where
         half = w .half;
         rests = w .rests;
         ends = λ c l y.
-            floor-done (S a (G .half .page-sound)) free (held n s′) (G .half .shut) (held n s′) (goal-mix G) (λ b i o f. refl) (λ b i o. floor-in (free b) (G .half .within b i)) (w .rests)
+            floor-done (S a (G .half .page-solvable)) free (held n s′) (G .half .shut) (held n s′) (goal-mix G) (λ b i o f. refl) (λ b i o. floor-in (free b) (G .half .within b i)) (w .rests)
             (λ b i o f. absurd (true≢false (sym f ∙ none b i o))) c l y
             ∙ goal-same F (settled-kept F w) c l y;
         still = λ z c l. ap (λ (x : List ℕ). held n x c) (w .still z);

@@ -37,7 +37,7 @@ module _ (a : List ℕ) (m : List Bool) (s : List ℕ) (b : RoundReady a m s) wh
   free = unknownByDefault (pageOf a)
 
   pub comparable : Comparable a s
-  comparable = record { page-sound = b .page-sound; long = b .long; within = b .within }
+  comparable = record { page-solvable = b .page-solvable; long = b .long; within = b .within }
 
   -- the first half
   module _ {s₁ : List ℕ} (h : HighsBegun a s s₁) where
@@ -49,13 +49,13 @@ module _ (a : List ℕ) (m : List Bool) (s : List ℕ) (b : RoundReady a m s) wh
 
     turned₁ : TurnedAt a (member m) (b .round) (held n s₁)
     turned₁ =
-        turned-same (S a (b .page-sound)) free (b .shut)
+        turned-same (S a (b .page-solvable)) free (b .shut)
         (λ c l r. pair-eq (h .lows c l) (cond-eq (free c) (λ f. free₁ c l f) (λ f. refl))) (b .turned)
 
     pub highs-half : Half upper a m s₁
     highs-half =
         record {
-          page-sound = b .page-sound;
+          page-solvable = b .page-solvable;
           long = omega (arith, b .long, h .same-length);
           marked = b .marked;
           shut = b .shut;
@@ -65,7 +65,7 @@ module _ (a : List ℕ) (m : List Bool) (s : List ℕ) (b : RoundReady a m s) wh
           };
           negated = λ c l. h .negated c l ∙ ap (λ (x : ℕ). topOf a - x) (sym (h .lows c l));
           below = λ c l. cond-least (free c) (λ f. omega arith) (λ f. omega (arith, none₁ c l f));
-          capped = λ c l r f. capped-by (S a (b .page-sound)) free (b .shut) turned₁ c l r f;
+          capped = λ c l r f. capped-by (S a (b .page-solvable)) free (b .shut) turned₁ c l r f;
         }
 
     -- the second
@@ -79,10 +79,10 @@ module _ (a : List ℕ) (m : List Bool) (s : List ℕ) (b : RoundReady a m s) wh
 
       turned₃ : TurnedAt a (member m) (b .round) (held n s₃)
       turned₃ =
-          turned-same (S a (b .page-sound)) free (b .shut) (λ c l r. pair-eq (lows₃ c l) (cond-eq (free c) (λ f. free₃ c l f) (λ f. refl))) (b .turned)
+          turned-same (S a (b .page-solvable)) free (b .shut) (λ c l r. pair-eq (lows₃ c l) (cond-eq (free c) (λ f. free₃ c l f) (λ f. refl))) (b .turned)
 
       topped₃ : ToppedAt a (member m) (b .round) (held n s₃)
-      topped₃ = topped-by (S a (b .page-sound)) free (b .shut) {L = held n s₁} turned₁ (λ c l r. high-eq (g .intervals c l) ∙ v .ends c l r)
+      topped₃ = topped-by (S a (b .page-solvable)) free (b .shut) {L = held n s₁} turned₁ (λ c l r. high-eq (g .intervals c l) ∙ v .ends c l r)
 
       within₃ : (c : ℕ) → c < n → Within (topOf a) (held n s₃ c)
       within₃ c l = subst (Within (topOf a)) (sym (g .intervals c l)) (v .half .within c l)
@@ -94,16 +94,16 @@ module _ (a : List ℕ) (m : List Bool) (s : List ℕ) (b : RoundReady a m s) wh
       lows-half =
           record {
             half = record {
-              page-sound = b .page-sound;
+              page-solvable = b .page-solvable;
               long = omega (arith, v .half .long, g .same-length);
               marked = b .marked;
               shut = b .shut;
               within = within₃;
               negated = λ c l. ap (λ (i : ℕ). getD s₃ i 0) (omega arith) ∙ g .negated c l ∙ ap (λ (x : ℕ). topOf a - x) (sym (high-eq (g .intervals c l)));
-              below = lows-known (S a (b .page-sound)) free (b .shut) turned₃ topped₃ apart₃;
+              below = lows-known (S a (b .page-solvable)) free (b .shut) turned₃ topped₃ apart₃;
               capped = λ c l r f. absurd (false≢true f);
             };
-            under = floor-first (S a (b .page-sound)) free (b .shut) turned₃ topped₃;
+            under = floor-first (S a (b .page-solvable)) free (b .shut) turned₃ topped₃;
           }
 
       learn₃ : toLearn a s₃ ≡ toLearn a s
@@ -126,13 +126,13 @@ module _ (a : List ℕ) (m : List Bool) (s : List ℕ) (b : RoundReady a m s) wh
         rests₃ : Users a users → (c : ℕ) → c < n → member m c ≡ true → has lows′ c ≡ false → RestsAt lower a s₃ c
         unfolding pageOf
         rests₃ u c l r q =
-            let few = head-of a (b .page-sound) .few in
+            let few = head-of a (b .page-solvable) .few in
             let out : has lows c ≡ false = by-bool (has lows c) (λ y. absurd (true≢false (sym (o .kept c (omega arith) y) ∙ q))) (λ y. y) in
             omega (
               arith,
               k .rests (λ z. omega (arith, u .long)) c l r out,
               lows₃ c l,
-              E a (b .page-sound) .local-end lower (held n s₃) (past a s) c l (λ d i f. lows₃ d i)
+              E a (b .page-solvable) .local-end lower (held n s₃) (past a s) c l (λ d i f. lows₃ d i)
                   (λ d i f. past-high d i (elim (ℕ-discrete (getD s₂ (2 * d + 1) 0) (getD s₃ (2 * d + 1) 0)) [
                     | yes y ↦ y
                     | no y ↦ absurd (⊎-elim (λ z. omega (arith, u .long)) (λ p. true≢false (sym (p d i y c f) ∙ q)) (o .woken))
@@ -144,7 +144,7 @@ module _ (a : List ℕ) (m : List Bool) (s : List ℕ) (b : RoundReady a m s) wh
 
       module _ {s₄ : List ℕ} {changed : Bool} (w : Floored a m s₃ s₄ changed) where
         turned₄ : TurnedAt a (member m) (suc (b .round)) (held n s₄)
-        turned₄ = turned-by (S a (b .page-sound)) free (b .shut) topped₃ (w .ends)
+        turned₄ = turned-by (S a (b .page-solvable)) free (b .shut) topped₃ (w .ends)
 
         -- everybody rests, over the high ends held
         pub lows-wait : {users lows : List ℕ} → WaitSet n lows → LowsWait a m users s₄ lows
@@ -155,7 +155,7 @@ module _ (a : List ℕ) (m : List Bool) (s : List ℕ) (b : RoundReady a m s) wh
               rests = λ y c l r z. omega (
                 arith,
                 w .rests c l r,
-                E a (b .page-sound) .local-end lower (past a s₄) (held n s₄) c l (λ d k f. refl)
+                E a (b .page-solvable) .local-end lower (past a s₄) (held n s₄) c l (λ d k f. refl)
                     (λ d k f. omega (arith, ap (λ (i : ℕ). getD s₄ i 0) {x = 2 * d + 1} {y = 0 + (2 * d + 1)} (omega arith), w .half .negated d k, w .half .within d k .high-in)),
               );
             }
@@ -166,7 +166,7 @@ module _ (a : List ℕ) (m : List Bool) (s : List ℕ) (b : RoundReady a m s) wh
               same-length = w .kept .same-length ∙ g .same-length ∙ v .steady .same-length ∙ h .same-length;
               beyond = w .kept .beyond ∙ g .beyond ∙ v .steady .beyond ∙ h .beyond;
               next = record {
-                page-sound = b .page-sound;
+                page-solvable = b .page-solvable;
                 long = w .half .long;
                 marked = b .marked;
                 shut = b .shut;
@@ -184,9 +184,9 @@ module _ (a : List ℕ) (m : List Bool) (s : List ℕ) (b : RoundReady a m s) wh
         ended : changed ≡ false → (c : ℕ) → c < n → member m c ≡ true → held n s₄ c ≡ closedAt a c
         ended z =
             let e = w .still z in
-            rounds-end (S a (b .page-sound)) free (b .shut)
-            (turned-same (S a (b .page-sound)) free (b .shut) (λ c l r. pair-eq (low-eq (e c l)) (ap (λ (p : Interval). cond (free c) (p .high) (topOf a)) (e c l))) turned₃)
-            (topped-same (S a (b .page-sound)) free (b .shut) (λ c l r f. high-eq (e c l)) topped₃) turned₄
+            rounds-end (S a (b .page-solvable)) free (b .shut)
+            (turned-same (S a (b .page-solvable)) free (b .shut) (λ c l r. pair-eq (low-eq (e c l)) (ap (λ (p : Interval). cond (free c) (p .high) (topOf a)) (e c l))) turned₃)
+            (topped-same (S a (b .page-solvable)) free (b .shut) (λ c l r f. high-eq (e c l)) topped₃) turned₄
 
         pub rounded-told : Rounded a m s s₄ changed
         rounded-told = rounded ended (λ y. y)
@@ -204,16 +204,16 @@ module _ (a : List ℕ) (m : List Bool) (s : List ℕ) (b : RoundReady a m s) wh
           topped₄ : ToppedAt a (member m) (suc (b .round)) (held n s₄)
           unfolding pageOf
           topped₄ =
-              topped-by (S a (b .page-sound)) free (b .shut) {L = held n s₄} turned₄
+              topped-by (S a (b .page-solvable)) free (b .shut) {L = held n s₄} turned₄
               (λ c l r. w .kept .others c l (none c l r) ∙ high-eq (g .intervals c l) ∙ v .ends c l r
-              ∙ settled-alike (S a (b .page-sound)) (E a (b .page-sound)) free (b .shut) upper (held n s₁) (held n s₄) low-same (λ d i p f. absurd (true≢false (sym f ∙ none d i p))) c l r)
+              ∙ settled-alike (S a (b .page-solvable)) (E a (b .page-solvable)) free (b .shut) upper (held n s₁) (held n s₄) low-same (λ d i p f. absurd (true≢false (sym f ∙ none d i p))) c l r)
 
           -- and the floor is that over these high ends, so both are the closed reading
           fresh-ended : (c : ℕ) → c < n → member m c ≡ true → held n s₄ c ≡ closedAt a c
           fresh-ended =
-              rounds-end (S a (b .page-sound)) free (b .shut) turned₄ topped₄
-              (turned-by (S a (b .page-sound)) free (b .shut) topped₄
-              (λ c l r. w .ends c l r ∙ sym (lows-same (S a (b .page-sound)) free (b .shut) (held n s₄) (held n s₃) (λ d i p f. w .kept .others d i f) c l r)))
+              rounds-end (S a (b .page-solvable)) free (b .shut) turned₄ topped₄
+              (turned-by (S a (b .page-solvable)) free (b .shut) topped₄
+              (λ c l r. w .ends c l r ∙ sym (lows-same (S a (b .page-solvable)) free (b .shut) (held n s₄) (held n s₃) (λ d i p f. w .kept .others d i f) c l r)))
 
       -- no reached condition is unknown by default
       module _ {s₄ : List ℕ} {changed : Bool} (none : (c : ℕ) → c < n → member m c ≡ true → free c ≡ false) (w : Settled lower a m s₃ s₄ changed) where
@@ -221,7 +221,7 @@ module _ (a : List ℕ) (m : List Bool) (s : List ℕ) (b : RoundReady a m s) wh
         plain = floored-plain a m none lows-half w
 
         pub comparable₄ : Comparable a s₄
-        comparable₄ = record { page-sound = b .page-sound; long = w .half .long; within = λ c l. w .half .within c l .low-in }
+        comparable₄ = record { page-solvable = b .page-solvable; long = w .half .long; within = λ c l. w .half .within c l .low-in }
 
         -- no low end rose
         pub rounded-still : changed ≡ false → Rounded a m s s₄ false

@@ -10,7 +10,7 @@ use lib.Dec.{eqb}
 use lib.ListN.{length, getD, take, drop, length-take}
 use lib.Seq.{getD-take, getD-drop}
 use borrow.Author.Tests.{eq-eqb, ne-eqb, eqb-true}
-use Rattle.semantics.specs.Area.{literalOf, codeOf, lineAt, pageOf, sound, topOf, conditionsOf, countOf, usedOf, firstLine}
+use Rattle.semantics.specs.Area.{literalOf, codeOf, lineAt, pageOf, topOf, conditionsOf, countOf, usedOf, firstLine}
 use Rattle.semantics.proofs.ExactAreas.{code-literal}
 use Rattle.semantics.proofs.Soundness.{both-true}
 use Rattle.semantics.proofs.Table.{or-cases}
@@ -24,6 +24,7 @@ use Rattle.page.proofs.LineNumbers.{scanning-at, lines-from}
 use Rattle.index.specs.Readers.{among, linesRead}
 use Rattle.settle.proofs.Draining.{read-cons}
 use Rattle.rounds.specs.Round.{Comparable, Fresh, Searched, Between, LinesHave}
+use Rattle.page.specs.Solvable.{solvable}
 
 module _ (a s : List ℕ) where
   -- one found is found in a larger set, and all fresh are all fresh in a smaller one
@@ -94,7 +95,7 @@ among-at code (x ∷ xs) h =
     ]
 
 -- a literal of the line at a place
-module _ (a s : List ℕ) (ok : sound a ≡ true) {at : ℕ} (x : LineIn a at) where
+module _ (a s : List ℕ) (ok : solvable a ≡ true) {at : ℕ} (x : LineIn a at) where
   here : Scanning a at (x .number)
   here = rw (x .place) (scanning-at a ok (x .number) (omega (arith, x .in-count)))
 
@@ -158,7 +159,7 @@ module _ {a s : List ℕ} {at k : ℕ} (v : Searching a s at k) (l : k < countOf
     where
       here : (d : ℕ) → LinesHave (linesLeft a (placeOf a k) k) (2 * d + 1) → ((c : ℕ) → LinesHave (linesLeft a (placeOf a (suc k)) (suc k)) (2 * c + 1) → Fresh a s c) → Fresh a s d
       here d p g =
-          let q = sym (read-cons (2 * d + 1) (lineAt (drop (placeOf a k) a)) (linesLeft a (placeOf a (suc k)) (suc k)) (p .0)) ∙ rw (lines-from a (v .ready .page-sound) k l) at (p .1) in
+          let q = sym (read-cons (2 * d + 1) (lineAt (drop (placeOf a k) a)) (linesLeft a (placeOf a (suc k)) (suc k)) (p .0)) ∙ rw (lines-from a (v .ready .page-solvable) k l) at (p .1) in
           ⊎-elim (λ y. h .all z d (p .0, rw (v .place) y)) (λ y. g d (p .0, y)) (or-cases (linesRead (2 * d + 1) (lineAt (drop (placeOf a k) a) ∷ []) (p .0)) _ q)
 
 pub searching-last : {a s : List ℕ} {at k : ℕ} → Searching a s at k → countOf a ≤ k → Searched a s (LinesHave (pageOf a .lines)) false

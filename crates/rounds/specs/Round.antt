@@ -12,7 +12,7 @@ use Rattle.fixpoint.specs.Sum.{sum}
 use Rattle.fixpoint.specs.ChaoticIteration.{DependencyClosed}
 use Rattle.fixpoint.specs.Tables.{Turned, Topped}
 use Rattle.fixpoint.specs.WellFounded.{closed}
-use Rattle.semantics.specs.Area.{sound, pageOf, topOf, conditionsOf}
+use Rattle.semantics.specs.Area.{pageOf, topOf, conditionsOf}
 use Rattle.semantics.specs.Body.{T, unknownByDefault}
 use Rattle.semantics.specs.Grade.{lower}
 use Rattle.semantics.specs.Page.{Line, names}
@@ -23,6 +23,7 @@ use Rattle.index.specs.Readers.{linesRead}
 use Rattle.settle.specs.Scratch.{held, roomAt, Half, RestsAt}
 use Rattle.settle.specs.Waiting.{WaitSet}
 use Rattle.unknowns.specs.NextHighs.{sought}
+use Rattle.page.specs.Solvable.{solvable}
 
 -- every reached condition waits
 pub record MarkedWait (n : ℕ) (m : List Bool) (words : List ℕ) : Type 0 where
@@ -71,11 +72,11 @@ pub record LowsBegun (a s s′ : List ℕ) : Type 0 where
 
 -- the numbers that the negations of the high ends read
 abbrev pub HighsIn : (a s : List ℕ) → Type 0
-HighsIn a s = (sound a ≡ true) × (4 * conditionsOf a ≤ length s) × ((c : ℕ) → c < conditionsOf a → getD s (2 * conditionsOf a + 2 * c) 0 ≤ topOf a)
+HighsIn a s = (solvable a ≡ true) × (4 * conditionsOf a ≤ length s) × ((c : ℕ) → c < conditionsOf a → getD s (2 * conditionsOf a + 2 * c) 0 ≤ topOf a)
 
 -- the numbers that a comparison of the negations reads
 pub record Comparable (a s : List ℕ) : Type 0 where
-  pub page-sound : sound a ≡ true
+  pub page-solvable : solvable a ≡ true
   pub long : 4 * conditionsOf a ≤ length s
   pub within : (c : ℕ) → c < conditionsOf a → getD s (2 * c) 0 ≤ topOf a
 
@@ -116,7 +117,7 @@ closedAt a = closed (conditionsOf a) (topOf a) (T (pageOf a)) (unknownByDefault 
 
 -- what a fall of high ends reads
 pub record Fallible (a : List ℕ) (m : List Bool) (users next s words : List ℕ) : Type 0 where
-  pub page-sound : sound a ≡ true
+  pub page-solvable : solvable a ≡ true
   pub users-in : MaybeUsers a users
   pub long : 4 * conditionsOf a ≤ length s
   pub marked : conditionsOf a ≤ length m
@@ -203,7 +204,7 @@ pub record Floored (a : List ℕ) (m : List Bool) (s s′ : List ℕ) (moved : B
 
 -- before a round: the floor is that of round k, and a low end 0 wherever a condition is not reached
 pub record RoundReady (a : List ℕ) (m : List Bool) (s : List ℕ) : Type 0 where
-  pub page-sound : sound a ≡ true
+  pub page-solvable : solvable a ≡ true
   pub long : 4 * conditionsOf a ≤ length s
   pub marked : conditionsOf a ≤ length m
   pub shut : DependencyClosed (conditionsOf a) (names (pageOf a)) (member m)

@@ -6,7 +6,7 @@ ghost use mathlib.Core.Logic.{_⊎_};
 ghost use mathlib.Core.List.{[], _∷_};
 ghost use Prim.Native.Nat.{ℕ, _≤_, _<_, _+_, _*_};
 ghost use lib.ListN.{length, getD, drop};
-ghost use Rattle.semantics.specs.Area.{sound, lineAt, pageOf, topOf, conditionsOf};
+ghost use Rattle.semantics.specs.Area.{lineAt, pageOf, topOf, conditionsOf};
 ghost use Rattle.page.specs.Places.{LineIn};
 ghost use Rattle.index.specs.Parts.{MaybeUsers};
 ghost use Rattle.semantics.specs.Grade.{lower};
@@ -14,6 +14,7 @@ ghost use Rattle.semantics.specs.Table.{anyBelow};
 ghost use Rattle.settle.specs.Waiting.{WaitSet, MaybeIndex, MaybeIndexed};
 ghost use Rattle.unknowns.specs.NextHighs.{sought};
 ghost use Rattle.rounds.specs.Round.{MarkedWait, HighsBegun, Renegated, Woke, LowsWait, LowsBegun, HighsIn, Comparable, Refreshed, Searched, Between, LinesHave, Fallible, Lowered, Fell, FloorHalf, AllRest, FloorStep, Floored, RoundReady, Rounded, Alternated};
+ghost use Rattle.page.specs.Solvable.{solvable};
 use settle::settle;
 use settle::wake;
 use value::End;
@@ -39,7 +40,7 @@ fn start_highs(a: &[u16], scratch: &mut [u16])
 
 // The negation of c has its number over the high ends; if it is another, whoever negates c waits.
 pub fn negate(a: &[u16], users: &[u16], scratch: &mut [u16], words: &mut [u64], c: u16)
-    requires { ⌜ (sound (now a) ≡ true) × MaybeUsers (now a) (now users) × (4 * conditionsOf (now a) ≤ length (now scratch)) × (c < conditionsOf (now a)) × (getD (now scratch) (2 * conditionsOf (now a) + 2 * c) 0 ≤ topOf (now a)) × WaitSet (conditionsOf (now a)) (now words) ⌝ }
+    requires { ⌜ (solvable (now a) ≡ true) × MaybeUsers (now a) (now users) × (4 * conditionsOf (now a) ≤ length (now scratch)) × (c < conditionsOf (now a)) × (getD (now scratch) (2 * conditionsOf (now a) + 2 * c) 0 ≤ topOf (now a)) × WaitSet (conditionsOf (now a)) (now words) ⌝ }
     ensures { λ r. ⌜ Renegated (now (a .entry)) (now (users .entry)) c (now (scratch .entry)) (now (scratch .exit)) (now (words .entry)) (now (words .exit)) ⌝ }
 {
     let base = 2 * a[1] as usize;
@@ -175,7 +176,7 @@ fn lower_free(
     next: &[u8],
     d: u16,
 ) -> bool
-    requires { ⌜ (sound (now a) ≡ true) × MaybeUsers (now a) (now users) × (4 * conditionsOf (now a) ≤ length (now scratch)) × (conditionsOf (now a) ≤ length (now marks)) × (conditionsOf (now a) ≤ length (now next)) × (d < conditionsOf (now a)) × (getD (now scratch) (2 * conditionsOf (now a) + 2 * d) 0 ≤ topOf (now a)) × WaitSet (conditionsOf (now a)) (now words) ⌝ }
+    requires { ⌜ (solvable (now a) ≡ true) × MaybeUsers (now a) (now users) × (4 * conditionsOf (now a) ≤ length (now scratch)) × (conditionsOf (now a) ≤ length (now marks)) × (conditionsOf (now a) ≤ length (now next)) × (d < conditionsOf (now a)) × (getD (now scratch) (2 * conditionsOf (now a) + 2 * d) 0 ≤ topOf (now a)) × WaitSet (conditionsOf (now a)) (now words) ⌝ }
     ensures { λ r. ⌜ Lowered (now (a .entry)) (now (marks .entry)) (now (users .entry)) (now (next .entry)) d (now (scratch .entry)) (now (scratch .exit)) (now (words .entry)) (now (words .exit)) r ⌝ }
 {
     if !unknowns::is_sought(a, marks, d) {

@@ -33,6 +33,7 @@ use Rattle.body.specs.Body.{Body}
 use Rattle.body.specs.FirstLine.{FirstLine}
 use Rattle.page.proofs.Head.{conditions-is}
 use Rattle.run.specs.Answers.{Answered, statusIf}
+use Rattle.page.specs.Solvable.{solvable}
 
 pub answered : {left : Left} {x : Answer} {r : List ℕ} → left ≡ record { answer = x; run = r } → Answered left x r
 answered e = record { answer-is = sym (ap (λ (l : Left). l .answer) e); run-is = sym (ap (λ (l : Left). l .run) e) }
@@ -84,7 +85,7 @@ module _ (a r : List ℕ) where
             }
 
 -- the line that holds the low end of T of the intervals held
-module _ (a r values : List ℕ) (ok : sound a ≡ true) (rs : runSound (pageOf a) r ≡ true) (long : 2 * conditionsOf a ≤ length values) (t : EndTable lower (topOf a) (conditionsOf a) (intervalAt r) values) where
+module _ (a r values : List ℕ) (ok : solvable a ≡ true) (rs : runSound (pageOf a) r ≡ true) (long : 2 * conditionsOf a ≤ length values) (t : EndTable lower (topOf a) (conditionsOf a) (intervalAt r) values) where
   abbrev I : Assign
   I = intervalOf (worklistOf (pageOf a) r .intervals)
 

@@ -7,15 +7,14 @@ use Prim.Native.Nat.{ℕ, suc, _+_, _*_, _-_, _≤_, _<_}
 use native.Mathlib.Omega.{arith}
 use lib.ListN.{length, getD, drop}
 use Rattle.semantics.specs.Area.{sound, pageOf, topOf, conditionsOf}
-use Rattle.semantics.specs.Call.{drove, drive, Answer}
-use Rattle.semantics.specs.Operation.{Left, operation}
+use Rattle.semantics.specs.Call.{drove, Answer, outcome}
+use Rattle.semantics.specs.Operation.{Left, driveOf}
 use Rattle.semantics.specs.Page.{Page}
 use Rattle.semantics.specs.RunArea.{markAt, runOf, worklistOf, reachedOf, runSound}
 use Rattle.semantics.specs.Worklist.{Worklist, evaluated, holder, lowest, Status, rest, spent, statusAs, status, Driven, lastOf, oneMore, driven}
 use Rattle.semantics.proofs.Areas.{Encodable, sound-encodable, state-back, reached-back, rest-back, reencoded, waits-at}
 use Rattle.semantics.proofs.Drives.{driven-none, driven-spent, driven-next, driven-line}
 use Rattle.semantics.proofs.Operations.{drive-done}
-use Rattle.semantics.proofs.Soundness.{sound-proper}
 use Rattle.semantics.proofs.Steps.{encodable-evaluated}
 use borrow.Author.Tests.{eq-eqb}
 use Rattle.worklist.specs.Cells.{Lowest}
@@ -26,8 +25,10 @@ use Rattle.step.specs.Beside.{Beside}
 use Rattle.step.proofs.Telling.{told-holder}
 use Rattle.page.proofs.Head.{conditions-is}
 use Rattle.run.specs.Answers.{Answered, statusIf}
-use Rattle.run.specs.Steps.{Ready, LastLine, Stopped}
+use Rattle.run.specs.Steps.{driveLeft, Ready, LastLine, Stopped}
 use Rattle.run.proofs.Answering.{rest-of, waits-of}
+use Rattle.page.specs.Solvable.{solvable}
+use Rattle.page.proofs.Solvable.{solvable-proper}
 
 module _ (a run₀ : List ℕ) (allowance : ℕ) where
   abbrev page : Page
@@ -43,6 +44,22 @@ module _ (a run₀ : List ℕ) (allowance : ℕ) where
   abbrev onward : List ℕ → ℕ → Driven
   onward run taken = driven (pageOf a) (reachedOf (pageOf a) run₀) (allowance - taken) (worklistOf (pageOf a) run)
 
+  left-done : driveLeft a run₀ allowance
+      ≡ record {
+        answer = drove (whole .taken) (whole .line) (status (whole .state));
+        run = runOf (pageOf a) (reachedOf (pageOf a) run₀) (whole .state) ++ drop (3 * pageOf a .conditions) run₀;
+      }
+  unfolding driveLeft outcome
+  left-done = refl
+
+  -- nothing refuses a drive on sound areas
+  pub drive-left : sound a ≡ true → runSound (pageOf a) run₀ ≡ true → driveOf a run₀ allowance ≡ driveLeft a run₀ allowance
+  drive-left ok rs = drive-done a run₀ ok rs allowance ∙ sym left-done
+
+  pub drive-answers : sound a ≡ true → runSound (pageOf a) run₀ ≡ true → {x : Answer} {run : List ℕ} → Answered (driveLeft a run₀ allowance) x run
+      → Answered (driveOf a run₀ allowance) x run
+  drive-answers ok rs h = rw (drive-left ok rs) h
+
   -- the last of so many evaluations was of c, which held the grades low and high before: what is told of that is the line `told`
   pub record Last (run : List ℕ) (taken c low high told : ℕ) : Type 0 where
     pub some : 0 < taken
@@ -53,7 +70,7 @@ module _ (a run₀ : List ℕ) (allowance : ℕ) where
 
   -- After so many evaluations: the whole drive is these and the one from here on.
   pub record Driving (run : List ℕ) (taken c low high : ℕ) : Type 0 where
-    pub page-sound : sound a ≡ true
+    pub page-solvable : solvable a ≡ true
     pub start-sound : runSound (pageOf a) run₀ ≡ true
     pub run-sound : runSound (pageOf a) run ≡ true
     pub same-length : length run ≡ length run₀
@@ -70,11 +87,11 @@ module _ (a run₀ : List ℕ) (allowance : ℕ) where
         (driven (pageOf a) (reachedOf (pageOf a) run₀) (allowance - taken) (worklistOf (pageOf a) run) .line)
     pub last : ((taken ≡ 0) × (told ≡ 0)) ⊎ Last run taken c low high told
 
-  pub driving-first : {c low high : ℕ} → sound a ≡ true → runSound (pageOf a) run₀ ≡ true → Driving run₀ 0 c low high
+  pub driving-first : {c low high : ℕ} → solvable a ≡ true → runSound (pageOf a) run₀ ≡ true → Driving run₀ 0 c low high
   driving-first ok rs =
       let z : allowance - 0 ≡ allowance = omega arith in
       record {
-        page-sound = ok;
+        page-solvable = ok;
         start-sound = rs;
         run-sound = rs;
         same-length = refl;
@@ -95,9 +112,9 @@ module _ (a run₀ : List ℕ) (allowance : ℕ) where
 
     -- the run is at rest, or the allowance is used: the drive ends here
     ends : onward run taken ≡ record { taken = 0; line = 0; state = worklistOf page run } → {x : Status} → status (worklistOf page run) ≡ x
-        → {line : ℕ} → line ≡ s .told → Answered (operation a run₀ (drive allowance)) (drove taken line x) run
+        → {line : ℕ} → line ≡ s .told → Answered (driveLeft a run₀ allowance) (drove taken line x) run
     ends e {x} q {line} k =
-        let d = drive-done a run₀ (s .page-sound) (s .start-sound) allowance in
+        let d = left-done in
         let n : whole .taken ≡ taken = s .count ∙ ap (λ (o : Driven). taken + o .taken) e ∙ omega arith in
         let j : whole .line ≡ line = s .line ∙ ap (λ (o : Driven). lastOf (o .taken) (s .told) (o .line)) e ∙ sym k in
         let t : whole .state ≡ worklistOf page run = s .state ∙ ap (λ (o : Driven). o .state) e in
@@ -112,7 +129,7 @@ module _ (a run₀ : List ℕ) (allowance : ℕ) where
     ready : {words values : List ℕ} → Beside a run words values → Ready a run values taken c₀ low₀ high₀
     ready b =
         record {
-          page-sound = s .page-sound;
+          page-solvable = s .page-solvable;
           run-sound = s .run-sound;
           long = b .long;
           table = b .table;
@@ -148,7 +165,7 @@ module _ (a run₀ : List ℕ) (allowance : ℕ) where
           → {c′ low′ high′ : ℕ} → (c′ ≡ c) × (low′ ≡ getD run (3 * c) 0) × (high′ ≡ getD run (3 * c + 1) 0) → Driving run′ (taken + 1) c′ low′ high′
       driving-next k {run′} v len q =
           record {
-            page-sound = s .page-sound;
+            page-solvable = s .page-solvable;
             start-sound = s .start-sound;
             run-sound = v .run-sound;
             same-length = len ∙ s .same-length;
@@ -164,9 +181,9 @@ module _ (a run₀ : List ℕ) (allowance : ℕ) where
                 (record {
                   some = omega arith;
                   inside = l;
-                  low-in = graded-of a run (s .page-sound) (s .run-sound) .within c l .low-in;
-                  high-in = graded-of a run (s .page-sound) (s .run-sound) .within c l .high-in;
-                  tells = λ line f. told-holder a run (s .page-sound) (s .run-sound) c l (low .found l) v f;
+                  low-in = graded-of a run (s .page-solvable) (s .run-sound) .within c l .low-in;
+                  high-in = graded-of a run (s .page-solvable) (s .run-sound) .within c l .high-in;
+                  tells = λ line f. told-holder a run (s .page-solvable) (s .run-sound) c l (low .found l) v f;
                 }));
           }
         where
@@ -183,7 +200,7 @@ module _ (a run₀ : List ℕ) (allowance : ℕ) where
           inside = rw (conditions-is a) l
 
           fits : Encodable page (reachedOf page run) next
-          fits = encodable-evaluated page (sound-proper a (s .page-sound)) (reachedOf page run) here (sound-encodable page run (s .run-sound)) c inside (waits-at page run c inside ∙ eq-eqb (markAt run c) 2 (low .found l))
+          fits = encodable-evaluated page (solvable-proper a (s .page-solvable)) (reachedOf page run) here (sound-encodable page run (s .run-sound)) c inside (waits-at page run c inside ∙ eq-eqb (markAt run c) 2 (low .found l))
 
           held : worklistOf page run′ ≡ evaluated page m here c
           held = ap (worklistOf page) (v .area) ∙ state-back page (reachedOf page run) next fits tail ∙ ap (λ (k : List Bool). evaluated page k here c) (s .reached)

@@ -11,8 +11,9 @@ ghost use Rattle.index.specs.Parts.{MaybeLines, MaybeUsers};
 ghost use Rattle.worklist.specs.Evaluation.{Evaluated};
 ghost use Rattle.worklist.specs.Waiting.{WordsMatch};
 ghost use Rattle.run.specs.Answers.{Answered, Drives, evaluateAnswerOf, valueAnswerOf, lineAnswerOf, driveAnswerOf};
-ghost use Rattle.run.specs.Steps.{Ready, LastLine, Stopped};
+ghost use Rattle.run.specs.Steps.{driveLeft, Ready, LastLine, Stopped};
 ghost use Rattle.step.specs.Beside.{Beside};
+ghost use Rattle.page.specs.Solvable.{solvable};
 use step::Before;
 
 // What an evaluation answers: the number of a refusal, or whether the interval changed and which line holds its low end.
@@ -30,7 +31,7 @@ struct Told {
 
 // An evaluation that nothing refuses. The set of those that wait is not asked for, so it is left empty.
 fn evaluate_waiting(page: &[u16], run: &mut [u16], c: u16) -> Told
-    requires { ⌜ (sound (now page) ≡ true) × (runSound (pageOf (now page)) (now run) ≡ true) × (c < conditionsOf (now page)) × (markAt (now run) c ≡ 2) ⌝ }
+    requires { ⌜ (solvable (now page) ≡ true) × (runSound (pageOf (now page)) (now run) ≡ true) × (c < conditionsOf (now page)) × (markAt (now run) c ≡ 2) ⌝ }
     ensures { λ r. ⌜ Evaluated (pageOf (now (page .entry))) c (now (run .entry)) (now (run .exit)) (r .changed) × (r .line ≡ holder (pageOf (now (page .entry))) (worklistOf (pageOf (now (page .entry))) (now (run .entry))) c) ⌝ }
 {
     let mut words = [0u64; 8];
@@ -115,7 +116,7 @@ pub enum LineAnswer {
 
 // The line that holds the low end of T of the intervals held, where nothing refuses.
 fn line_now(page: &[u16], run: &[u16], c: u16) -> u16
-    requires { ⌜ (sound (now page) ≡ true) × (runSound (pageOf (now page)) (now run) ≡ true) × (c < conditionsOf (now page)) ⌝ }
+    requires { ⌜ (solvable (now page) ≡ true) × (runSound (pageOf (now page)) (now run) ≡ true) × (c < conditionsOf (now page)) ⌝ }
     ensures { λ r. ⌜ r ≡ holder (pageOf (now (page .entry))) (worklistOf (pageOf (now (page .entry))) (now (run .entry))) c ⌝ }
 {
     let mut values = [0u8; 1024];
@@ -170,7 +171,7 @@ fn drive_steps(
     values: &mut [u8],
     allowance: u32,
 ) -> Steps
-    requires { ⌜ (sound (now a) ≡ true) × (runSound (pageOf (now a)) (now run) ≡ true) × MaybeLines (now a) (now lines) × MaybeUsers (now a) (now users) × Beside (now a) (now run) (now words) (now values) × WordsMatch (conditionsOf (now a)) (now run) (now words) ⌝ }
+    requires { ⌜ (solvable (now a) ≡ true) × (runSound (pageOf (now a)) (now run) ≡ true) × MaybeLines (now a) (now lines) × MaybeUsers (now a) (now users) × Beside (now a) (now run) (now words) (now values) × WordsMatch (conditionsOf (now a)) (now run) (now words) ⌝ }
     ensures { λ r. ⌜ Stopped (now (a .entry)) (now (run .entry)) allowance (now (run .exit)) (now (values .exit)) (r .taken) (r .rest) (r .before .condition) (r .before .low) (r .before .high) ⌝ }
 {
     let mut taken: u32 = 0;
@@ -221,7 +222,7 @@ fn drive_filled(
     values: &mut [u8],
     allowance: u32,
 ) -> Steps
-    requires { ⌜ (sound (now a) ≡ true) × (runSound (pageOf (now a)) (now run) ≡ true) × MaybeLines (now a) (now lines) × MaybeUsers (now a) (now users) × (2 * conditionsOf (now a) ≤ length (now values)) ⌝ }
+    requires { ⌜ (solvable (now a) ≡ true) × (runSound (pageOf (now a)) (now run) ≡ true) × MaybeLines (now a) (now lines) × MaybeUsers (now a) (now users) × (2 * conditionsOf (now a) ≤ length (now values)) ⌝ }
     ensures { λ r. ⌜ Stopped (now (a .entry)) (now (run .entry)) allowance (now (run .exit)) (now (values .exit)) (r .taken) (r .rest) (r .before .condition) (r .before .low) (r .before .high) ⌝ }
 {
     let mut words = [0u64; 8];
@@ -238,8 +239,8 @@ fn drive_over(
     run: &mut [u16],
     allowance: u32,
 ) -> DriveAnswer
-    requires { ⌜ (sound (now a) ≡ true) × (runSound (pageOf (now a)) (now run) ≡ true) × MaybeLines (now a) (now lines) × MaybeUsers (now a) (now users) ⌝ }
-    ensures { λ r. ⌜ Answered (driveOf (now (a .entry)) (now (run .entry)) allowance) (driveAnswerOf r) (now (run .exit)) ⌝ }
+    requires { ⌜ (solvable (now a) ≡ true) × (runSound (pageOf (now a)) (now run) ≡ true) × MaybeLines (now a) (now lines) × MaybeUsers (now a) (now users) ⌝ }
+    ensures { λ r. ⌜ Answered (driveLeft (now (a .entry)) (now (run .entry)) allowance) (driveAnswerOf r) (now (run .exit)) ⌝ }
 {
     let mut values = [0u8; 1024];
     let steps = drive_filled(a, lines, users, run, &mut values, allowance);
@@ -272,9 +273,14 @@ pub fn drive_counted(page: &[u16], run: &mut [u16], allowance: u32) -> Drove
 }
 
 // The same with an index, which is built in the workspace.
-fn drive_built(page: &[u16], run: &mut [u16], workspace: &mut [u16], allowance: u32) -> DriveAnswer
-    requires { ⌜ (sound (now page) ≡ true) × (runSound (pageOf (now page)) (now run) ≡ true) × (length (now workspace) ≡ indexLength (now page)) ⌝ }
-    ensures { λ r. ⌜ Answered (driveOf (now (page .entry)) (now (run .entry)) allowance) (driveAnswerOf r) (now (run .exit)) ⌝ }
+pub fn drive_built(
+    page: &[u16],
+    run: &mut [u16],
+    workspace: &mut [u16],
+    allowance: u32,
+) -> DriveAnswer
+    requires { ⌜ (solvable (now page) ≡ true) × (runSound (pageOf (now page)) (now run) ≡ true) × (length (now workspace) ≡ indexLength (now page)) ⌝ }
+    ensures { λ r. ⌜ Answered (driveLeft (now (page .entry)) (now (run .entry)) allowance) (driveAnswerOf r) (now (run .exit)) ⌝ }
 {
     index::build(page, workspace);
     let k = index::lines_length(page);

@@ -10,7 +10,7 @@ use Rattle.fixpoint.specs.Interval.{same, Interval, Assign}
 use Rattle.fixpoint.specs.Sum.{sum}
 use Rattle.fixpoint.specs.Support.{roof, raise}
 use Rattle.fixpoint.specs.WellFounded.{closed}
-use Rattle.semantics.specs.Area.{kind, span, linesOf, pageOf, allUnder, linesOk, sound, every, defaultsOk}
+use Rattle.semantics.specs.Area.{kind, span, linesOf, pageOf, allUnder, linesOk, soundTo, sound, every, defaultsOk}
 use Rattle.semantics.proofs.AreaRows.{AreaRow, opensOn, callsOn, closesOn, refusesOn, HoldsOn, AllHoldOn, areaRows, area1, areaNoKind, areaTwice, areaAsked, areaHalf, areaNine, chain, opened1, rested1, unreached1, spoilt1, many, nines, ten9s, scratch1, areaCamera, areaDoubt, areaLoop, areaNoEntry, areaNoNumber, areaTwoEntries, areaNumberTwo}
 use Rattle.semantics.specs.Body.{bodies, unknownByDefault, bodyless, largestOf, T}
 use Rattle.semantics.specs.Call.{firstOf, outcome}
@@ -74,7 +74,7 @@ law [] e = tt
 law (r ∷ rs) e = let h = both-true (every (tests r)) (test rs) e in (passed r (every-true (tests r) (h .0)), law rs (h .1))
 
 computed : test areaRows ≡ true
-unfolding areaRows area1 areaNoKind areaTwice areaAsked areaHalf areaNine chain areaCamera areaDoubt areaLoop areaNoEntry areaNoNumber areaTwoEntries areaNumberTwo opened1 rested1 unreached1 spoilt1 many nines ten9s scratch1 test sameList sameCause sameOpening figures sameStatus openOf operation outcome sound kind span linesOk allUnder pageOf linesOf runOf cells worklistOf reachedOf runSound allBelow same sum start changes waitingAfter evaluated lowestFrom driveFrom closure pass passes adds passCount listed tableFrom anyBelow allUnknown countR countE bound mentions linesName rounding divided combine foldFrom foldAll weighted negated bodies unknownByDefault bodyless largestOf T firstWith lineHolding zeros sweep sweeps supportList closeList rounds closedList roof raise stillAt at like likeAt defaultsOk defaults
+unfolding areaRows area1 areaNoKind areaTwice areaAsked areaHalf areaNine chain areaCamera areaDoubt areaLoop areaNoEntry areaNoNumber areaTwoEntries areaNumberTwo opened1 rested1 unreached1 spoilt1 many nines ten9s scratch1 test sameList sameCause sameOpening figures sameStatus openOf operation outcome soundTo kind span linesOk allUnder pageOf linesOf runOf cells worklistOf reachedOf runSound allBelow same sum start changes waitingAfter evaluated lowestFrom driveFrom closure pass passes adds passCount listed tableFrom anyBelow allUnknown countR countE bound mentions linesName rounding divided combine foldFrom foldAll weighted negated bodies unknownByDefault bodyless largestOf T firstWith lineHolding zeros sweep sweeps supportList closeList rounds closedList roof raise stillAt at like likeAt defaultsOk defaults
 computed = refl
 
 pub area-bench : AllHoldOn areaRows

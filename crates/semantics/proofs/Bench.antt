@@ -10,7 +10,7 @@ use Rattle.fixpoint.specs.LeastFixpoint.{lfp}
 use Rattle.fixpoint.specs.Sum.{sum}
 use Rattle.fixpoint.specs.Support.{roof, raise}
 use Rattle.fixpoint.specs.WellFounded.{closed}
-use Rattle.semantics.specs.Area.{areaOf, pageOf, sound, kind, span, linesOf, allUnder, linesOk, lineCodes, every, defaultsOk}
+use Rattle.semantics.specs.Area.{areaOf, pageOf, soundTo, sound, kind, span, linesOf, allUnder, linesOk, lineCodes, every, defaultsOk}
 use Rattle.semantics.specs.Body.{bodies, unknownByDefault, bodyless, largestOf, T}
 use Rattle.semantics.specs.Grade.{rounding, divided, combine, foldFrom, foldAll, weighted, negated}
 use Rattle.semantics.specs.Page.{mentions, linesName, Page, defaults}
@@ -61,7 +61,7 @@ law [] e = tt
 law (r ∷ rs) e = let h = both-true (every (tests r)) (test rs) e in (passed r (every-true (tests r) (h .0)), law rs (h .1))
 
 computed : test rows ≡ true
-unfolding rows page1 page3 page4 page5 page6 page7 page8 pageOurs pageExact test sameStatus sameFlag sameList same sum rounding divided combine foldFrom foldAll weighted negated mentions linesName bodies unknownByDefault bodyless largestOf T tableFrom anyBelow listed pass passes closure countE countR bound sweep sweeps allUnknown plainList supportList closeList rounds closedList roof raise areaOf sound kind span allUnder linesOk lineCodes start changes waitingAfter evaluated lowestFrom driveFrom defaultsOk defaults allBelow pageOf linesOf
+unfolding rows page1 page3 page4 page5 page6 page7 page8 pageOurs pageExact test sameStatus sameFlag sameList same sum rounding divided combine foldFrom foldAll weighted negated mentions linesName bodies unknownByDefault bodyless largestOf T tableFrom anyBelow listed pass passes closure countE countR bound sweep sweeps allUnknown plainList supportList closeList rounds closedList roof raise areaOf soundTo kind span allUnder linesOk lineCodes start changes waitingAfter evaluated lowestFrom driveFrom defaultsOk defaults allBelow pageOf linesOf
 computed = refl
 
 pub bench : AllHold rows

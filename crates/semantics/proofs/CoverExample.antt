@@ -9,7 +9,7 @@ use lib.Dec.{eqb, leb, ltb}
 use lib.ListN.{getD}
 use borrow.Author.Tests.{eqb-true, leb-true, ltb-true}
 use Rattle.fixpoint.specs.Interval.{Interval, Assign}
-use Rattle.semantics.specs.Area.{areaOf, sound, kind, span, allUnder, linesOk, lineCodes, every, defaultsOk, pageOf, linesOf}
+use Rattle.semantics.specs.Area.{areaOf, soundTo, sound, kind, span, allUnder, linesOk, lineCodes, every, defaultsOk, pageOf, linesOf}
 use Rattle.semantics.specs.Exact.{Fraction, whole, scaled, Equal, Covers, exactCombine, exactWeighted, exactNegated, exactFold, Figures, exactBodies, exactBody, Exact, hasBody, mayTakeAny}
 use Rattle.semantics.specs.Page.{mentions, linesName, defaults}
 use Rattle.semantics.specs.Reading.{IsPlain, IsClosed, Reached, queried, named}
@@ -40,7 +40,7 @@ abbrev pub figures : Figures
 figures c = getD (whole 5 ∷ over 5 2 ∷ over 10 3 ∷ over 5 24 ∷ whole 0 ∷ whole 8 ∷ over 25 6 ∷ over 21 4 ∷ over 5 2 ∷ over 10 3 ∷ []) c (whole 0)
 
 is-proper : Proper pageExact
-is-proper = proper pageExact (unfold pageExact areaOf sound kind span allUnder linesOk lineCodes defaultsOk defaults allBelow pageOf linesOf tableFrom unknownByDefault in refl)
+is-proper = proper pageExact (unfold pageExact areaOf soundTo kind span allUnder linesOk lineCodes defaultsOk defaults allBelow pageOf linesOf tableFrom unknownByDefault in refl)
 
 asked : (q : ℕ) → listed q asks ≡ true → q < pageExact .conditions
 asked q e = under-listed (pageExact .conditions) asks (unfold pageExact allUnder in refl) q e
@@ -82,7 +82,7 @@ abbrev pub ones : Figures
 ones c = whole 1
 
 proper6 : Proper page6
-proper6 = proper page6 (unfold page6 areaOf sound kind span allUnder linesOk lineCodes defaultsOk defaults allBelow pageOf linesOf tableFrom unknownByDefault in refl)
+proper6 = proper page6 (unfold page6 areaOf soundTo kind span allUnder linesOk lineCodes defaultsOk defaults allBelow pageOf linesOf tableFrom unknownByDefault in refl)
 
 inside6 : {c : ℕ} → Reached page6 (0 ∷ []) c → 0 ≡ c
 inside6 {c} r =

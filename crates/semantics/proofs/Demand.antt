@@ -37,7 +37,7 @@ use Rattle.semantics.proofs.Readings.{page-system, plain-is, plain-orde
 use Rattle.semantics.proofs.Soundness.{sound-proper, both-true}
 use Rattle.semantics.proofs.Table.{length-from, getD-table, or-cases}
 
-rest-iff : (n : ℕ) (b : Worklist) → length (b .waiting) ≡ n → (status b ≡ rest) ↔ ((c : ℕ) → c < n → member (b .waiting) c ≡ false)
+pub rest-iff : (n : ℕ) (b : Worklist) → length (b .waiting) ≡ n → (status b ≡ rest) ↔ ((c : ℕ) → c < n → member (b .waiting) c ≡ false)
 rest-iff n b l = (λ e c k. lowest-none 0 (b .waiting) (rest-none (lowest b) e) c, λ q. go q (lowest b) refl)
   where
     go : ((c : ℕ) → c < n → member (b .waiting) c ≡ false) → (o : Option ℕ) → lowest b ≡ o → statusAs o ≡ rest

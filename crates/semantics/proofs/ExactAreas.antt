@@ -1,4 +1,4 @@
--- The sound areas are exactly the areas of proper pages, with anything behind them. Assumes nothing.
+-- The sound areas are exactly the areas of proper pages of at most 1,024 lines, with anything behind them. Assumes nothing.
 use mathlib.Core.Path.{_≡_, refl, sym, _∙_, ap, ap₂, subst}
 use mathlib.Core.Logic.{_≢_, _↔_}
 use mathlib.Core.Bool.{Bool, true, false, cond, _&&_, false≢true, true≢false}
@@ -9,12 +9,12 @@ use lib.Dec.{eqb, leb, ltb}
 use lib.ListN.{length, getD, take, drop, length-map, length-append, length-take, length-drop, take-append-drop}
 use lib.Seq.{take-at, drop-at, take-add, take-all, getD-take, getD-drop, drop-drop}
 use borrow.Author.Tests.{leb-true, ltb-true, eqb-true, eqb-false, le-leb, lt-ltb, eq-eqb}
-use Rattle.semantics.specs.Area.{Kind, factKind, ruleKind, queryKind, defaultKind, noKind, kind, spanAs, span, literalOf, literalsAt, lineAs, lineAt, lineTests, linesOf, pageOf, every, allUnder, fieldTests, headTests, linesOk, defaultTests, defaultsOk, sound, headLength, firstLine, defaultOf, topOf, conditionsOf, countOf, usedOf, kindOf, codeOf, lineCode, lineCodes, areaOf}
+use Rattle.semantics.specs.Area.{Kind, factKind, ruleKind, queryKind, defaultKind, noKind, kind, spanAs, span, literalOf, literalsAt, lineAs, lineAt, lineTests, linesOf, pageOf, every, allUnder, fieldTests, headTests, linesOk, defaultTests, defaultsOk, soundTo, sound, headLength, firstLine, defaultOf, topOf, conditionsOf, countOf, usedOf, kindOf, codeOf, lineCode, lineCodes, areaOf}
 use Rattle.semantics.specs.Grade.{Op, M, X, L, B, P}
 use Rattle.semantics.specs.Page.{Literal, positive, negative, conditionOf, Reading, K, W, Line, fact, rule, query, default, Page, defaults}
 use Rattle.semantics.proofs.Proper.{LiteralsBelow, InRange, AllInRange, Proper}
 use Rattle.semantics.proofs.RoundTrip.{kind-of, line-span, defaultNumbers, lines-begin, page-area, default-area}
-use Rattle.semantics.proofs.Soundness.{both-true, Every, every-true, every-of, Sound, sound-parts, sound-proper}
+use Rattle.semantics.proofs.Soundness.{both-true, Every, every-true, every-of, Sound, parts-to, sound-proper, few-lines}
 use Rattle.semantics.proofs.Table.{length-from, table-is, all-true}
 use Rattle.semantics.specs.Body.{unknownByDefault}
 use Rattle.fixpoint.specs.Sum.{bit}
@@ -71,7 +71,7 @@ bit-most : (t : Bool) → bit t ≤ 1
 bit-most true = omega arith
 bit-most false = omega arith
 
-module _ (page : Page) (z : List ℕ) (w : Proper page) where
+module _ {most : ℕ} (page : Page) (z : List ℕ) (w : Proper page) (few : length (page .lines) ≤ most) where
   abbrev whole : List ℕ
   whole = areaOf page ++ z
 
@@ -85,7 +85,7 @@ module _ (page : Page) (z : List ℕ) (w : Proper page) where
         length-from (page .conditions) 0 (λ c. bit (unknownByDefault page c)),
       )
 
-  head-passes : Every (headTests whole)
+  head-passes : Every (headTests most whole)
   unfolding areaOf
   head-passes =
       let u : ℕ = headLength (page .conditions) + length (lineCodes (page .lines)) in (
@@ -103,7 +103,7 @@ module _ (page : Page) (z : List ℕ) (w : Proper page) where
                   (
                     le-leb (page .conditions) 512 (w .conditions-most),
                     (
-                      le-leb (length (page .lines)) 1024 (w .few-lines),
+                      le-leb (length (page .lines)) most few,
                       tt,
                     ),
                   ),
@@ -137,9 +137,9 @@ module _ (page : Page) (z : List ℕ) (w : Proper page) where
       (sym (lines-begin page z))
       (lines-pass (page .top) (page .conditions) (headLength (page .conditions) + n - headLength (page .conditions)) (page .lines) z (w .ranged) (omega arith))
 
-  pub proper-sound : sound whole ≡ true
-  unfolding sound
-  proper-sound = every-of (every (headTests whole) ∷ _ ∷ defaultsOk whole ∷ []) (every-of (headTests whole) head-passes, (lines-whole, (numbers-pass, tt)))
+  pub proper-sound : soundTo most whole ≡ true
+  unfolding soundTo
+  proper-sound = every-of (every (headTests most whole) ∷ _ ∷ defaultsOk whole ∷ []) (every-of (headTests most whole) head-passes, (lines-whole, (numbers-pass, tt)))
 
 -- a sound area is the area of its page
 pub code-literal : (x : ℕ) → codeOf (literalOf x) ≡ x
@@ -203,7 +203,7 @@ span-least queryKind y = omega arith
 span-least defaultKind y = omega arith
 span-least noKind y = omega arith
 
-line-back : (top n left : ℕ) (p : List ℕ) → left ≤ length p → Every (lineTests top n left p) → take (span p) p ≡ lineCode (lineAt p)
+pub line-back : (top n left : ℕ) (p : List ℕ) → left ≤ length p → Every (lineTests top n left p) → take (span p) p ≡ lineCode (lineAt p)
 unfolding span
 line-back top n left p l h = go p (omega (arith, leb-true (span p) left (h .0))) (h .1 .1)
   where
@@ -231,9 +231,9 @@ length-lines zero p = refl
 length-lines (suc k) p = ap suc (length-lines k (drop (span p) p))
 
 -- the D numbers of a sound area are those of its page
-defaults-back : (a : List ℕ) → Sound a → take (conditionsOf a) (drop 4 a) ≡ defaultNumbers (pageOf a)
+defaults-back : (most : ℕ) (a : List ℕ) → Sound most a → take (conditionsOf a) (drop 4 a) ≡ defaultNumbers (pageOf a)
 unfolding unknownByDefault pageOf
-defaults-back a s =
+defaults-back most a s =
     sym (table-is 0 (take (conditionsOf a) (drop 4 a)) (conditionsOf a) (λ c. bit (unknownByDefault (pageOf a) c))
     (simp (length-take, length-drop) (omega (arith, leb-true (firstLine a) (usedOf a) (s .head .1 .0), leb-true (usedOf a) (length a) (s .head .1 .1 .0))))
     (λ c l. getD-take (conditionsOf a) (drop 4 a) c 0 l ∙ getD-drop 4 a c 0 ∙ s .told c l ∙ sym (bit-few (defaults (pageOf a .lines) c) (omega (arith, s .single c l, s .told c l)))))
@@ -248,10 +248,10 @@ head-back (t ∷ c ∷ k ∷ v ∷ q) ds cs f m e u =
     let four : v ≡ suc (suc (suc (suc (c + length cs)))) = omega arith in
     ap (λ (j : ℕ). take j (t ∷ c ∷ k ∷ v ∷ q)) four ∙ ap (λ (l : List ℕ). t ∷ c ∷ k ∷ v ∷ l) e
 
-pub sound-exact : (a : List ℕ) → sound a ≡ true → take (usedOf a) a ≡ areaOf (pageOf a)
+pub exact-to : (most : ℕ) (a : List ℕ) → soundTo most a ≡ true → take (usedOf a) a ≡ areaOf (pageOf a)
 unfolding pageOf areaOf
-sound-exact a e =
-    let s = sound-parts a e in
+exact-to most a e =
+    let s = parts-to most a e in
     let h = s .head in
     let n = conditionsOf a in
     let f : firstLine a ≤ usedOf a = leb-true (firstLine a) (usedOf a) (h .1 .0) in
@@ -263,17 +263,21 @@ sound-exact a e =
     ap length (sym cs) ∙ simp (length-take, length-drop) (omega arith) in
     let both : take (n + length (lineCodes ls)) (drop 4 a) ≡ defaultNumbers (pageOf a) ++ lineCodes ls =
     take-add n (length (lineCodes ls)) (drop 4 a)
-    ∙ ap₂ {C = List ℕ} (λ x y. x ++ y) (defaults-back a s)
+    ∙ ap₂ {C = List ℕ} (λ x y. x ++ y) (defaults-back most a s)
     (ap (λ (p : List ℕ). take (length (lineCodes ls)) p) (drop-drop n 4 a) ∙ ap (λ (k : ℕ). take k (drop (firstLine a) a)) m ∙ cs) in
     let u : usedOf a ≡ headLength n + length (lineCodes ls) = omega (arith, m) in
     head-back a (defaultNumbers (pageOf a)) (lineCodes ls) (leb-true 4 (length a) (h .0)) refl both u
     ∙ ap₂ {C = List ℕ} (λ x y. topOf a ∷ n ∷ x ∷ y ∷ (defaultNumbers (pageOf a) ++ lineCodes ls)) (sym (length-lines (countOf a) (drop (firstLine a) a))) u
 
--- sound areas are exactly the areas of proper pages with anything behind them
+pub sound-exact : (a : List ℕ) → sound a ≡ true → take (usedOf a) a ≡ areaOf (pageOf a)
+sound-exact = exact-to 1024
+
+-- sound areas are exactly the areas of proper pages of at most 1,024 lines, with anything behind them
 pub record AreaOfPage (a : List ℕ) : Type 0 where
   pub page : Page
   pub rest : List ℕ
   pub proper : Proper page
+  pub few : length (page .lines) ≤ 1024
   pub is : a ≡ areaOf page ++ rest
 
 pub sound-iff : (a : List ℕ) → (sound a ≡ true) ↔ AreaOfPage a
@@ -282,7 +286,8 @@ sound-iff a = (
     page = pageOf a;
     rest = drop (usedOf a) a;
     proper = sound-proper a e;
+    few = few-lines 1024 a e;
     is = sym (take-append-drop (usedOf a) a) ∙ ap (λ (l : List ℕ). l ++ drop (usedOf a) a) (sound-exact a e);
   },
-  λ r. subst (λ (l : List ℕ). sound l ≡ true) (sym (r .is)) (proper-sound (r .page) (r .rest) (r .proper)),
+  λ r. subst (λ (l : List ℕ). sound l ≡ true) (sym (r .is)) (proper-sound (r .page) (r .rest) (r .proper) (r .few)),
 )

@@ -6,7 +6,7 @@ use Prim.Native.Nat.{ℕ, _<_}
 use native.Mathlib.Omega.{arith}
 use Rattle.fixpoint.specs.Interval.{Interval}
 use Rattle.fixpoint.specs.Support.{roof, raise}
-use Rattle.semantics.specs.Area.{kind, span, linesOk, allUnder, lineCodes, areaOf, sound, defaultsOk, pageOf, linesOf}
+use Rattle.semantics.specs.Area.{kind, span, linesOk, allUnder, lineCodes, areaOf, soundTo, sound, defaultsOk, pageOf, linesOf}
 use Rattle.semantics.specs.Body.{bodies, unknownByDefault, bodyless, largestOf, T}
 use Rattle.semantics.specs.Grade.{M, P, rounding, divided, combine, foldFrom, foldAll, weighted, negated}
 use Rattle.semantics.specs.Page.{positive, negative, fact, rule, default, mentions, linesName, Page, defaults}
@@ -36,7 +36,7 @@ pageWide = record { top = 1; conditions = 1; lines = fact 0 0 1 ∷ [] }
 
 proper-wide : Proper pageWide
 unfolding pageWide
-proper-wide = proper pageWide (unfold areaOf lineCodes sound kind span linesOk allUnder defaultsOk defaults allBelow pageOf linesOf tableFrom unknownByDefault in refl)
+proper-wide = proper pageWide (unfold areaOf lineCodes soundTo kind span linesOk allUnder defaultsOk defaults allBelow pageOf linesOf tableFrom unknownByDefault in refl)
 
 pub wide-fact : ((c : ℕ) → ¬ Loops pageWide c) × Reads (IsClosed pageWide) 0 (interval 0 1)
 unfolding pageWide linesName linesNegate raised raisePass tableFrom largest rounding divided combine foldFrom foldAll weighted negated bodies unknownByDefault bodyless largestOf T allUnknown sweep sweeps supportList closeList rounds closedList roof raise defaults
@@ -48,7 +48,7 @@ pageDefault = record { top = 1; conditions = 1; lines = default 0 ∷ [] }
 
 pub proper-default : Proper pageDefault
 unfolding pageDefault
-proper-default = proper pageDefault (unfold areaOf lineCodes sound kind span linesOk allUnder defaultsOk defaults allBelow pageOf linesOf tableFrom unknownByDefault in refl)
+proper-default = proper pageDefault (unfold areaOf lineCodes soundTo kind span linesOk allUnder defaultsOk defaults allBelow pageOf linesOf tableFrom unknownByDefault in refl)
 
 pub wide-default : ((c : ℕ) → ¬ Loops pageDefault c) × Reads (IsClosed pageDefault) 0 (interval 0 1)
 unfolding pageDefault linesName linesNegate raised raisePass tableFrom largest rounding divided combine foldFrom foldAll weighted negated bodies unknownByDefault bodyless largestOf T allUnknown sweep sweeps supportList closeList rounds closedList roof raise defaults
@@ -60,7 +60,7 @@ pageLoop = record { top = 1; conditions = 1; lines = rule 0 1 M (negative 0 ∷ 
 
 proper-loop : Proper pageLoop
 unfolding pageLoop
-proper-loop = proper pageLoop (unfold areaOf lineCodes sound kind span linesOk allUnder defaultsOk defaults allBelow pageOf linesOf tableFrom unknownByDefault in refl)
+proper-loop = proper pageLoop (unfold areaOf lineCodes soundTo kind span linesOk allUnder defaultsOk defaults allBelow pageOf linesOf tableFrom unknownByDefault in refl)
 
 pub loop-wide : Loops pageLoop 0 × Reads (IsClosed pageLoop) 0 (interval 0 1)
 unfolding pageLoop linesName linesNegate mentions denies tableFrom rounding divided combine foldFrom foldAll weighted negated bodies unknownByDefault bodyless largestOf T allUnknown sweep sweeps supportList closeList rounds closedList roof raise defaults
@@ -72,7 +72,7 @@ pageWeight = record { top = 2; conditions = 2; lines = fact 0 1 1 ∷ rule 1 1 M
 
 proper-weight : Proper pageWeight
 unfolding pageWeight
-proper-weight = proper pageWeight (unfold areaOf lineCodes sound kind span linesOk allUnder defaultsOk defaults allBelow pageOf linesOf tableFrom unknownByDefault in refl)
+proper-weight = proper pageWeight (unfold areaOf lineCodes soundTo kind span linesOk allUnder defaultsOk defaults allBelow pageOf linesOf tableFrom unknownByDefault in refl)
 
 pub weight-wide : ((c : ℕ) → ¬ Loops pageWeight c) × Reads (IsClosed pageWeight) 1 (interval 0 1)
 unfolding pageWeight linesName linesNegate mentions denies raised raisePass tableFrom largest rounding divided combine foldFrom foldAll weighted negated bodies unknownByDefault bodyless largestOf T allUnknown sweep sweeps supportList closeList rounds closedList roof raise defaults
@@ -84,7 +84,7 @@ pageP = record { top = 2; conditions = 2; lines = fact 0 1 1 ∷ rule 1 2 P (pos
 
 proper-p : Proper pageP
 unfolding pageP
-proper-p = proper pageP (unfold areaOf lineCodes sound kind span linesOk allUnder defaultsOk defaults allBelow pageOf linesOf tableFrom unknownByDefault in refl)
+proper-p = proper pageP (unfold areaOf lineCodes soundTo kind span linesOk allUnder defaultsOk defaults allBelow pageOf linesOf tableFrom unknownByDefault in refl)
 
 pub p-wide : ((c : ℕ) → ¬ Loops pageP c) × Reads (IsClosed pageP) 1 (interval 0 1)
 unfolding pageP linesName linesNegate mentions denies raised raisePass tableFrom largest rounding divided combine foldFrom foldAll weighted negated bodies unknownByDefault bodyless largestOf T allUnknown sweep sweeps supportList closeList rounds closedList roof raise defaults

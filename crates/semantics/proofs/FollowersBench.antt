@@ -8,7 +8,7 @@ use borrow.Author.Tests.{eqb-true, ltb-true}
 use Rattle.fixpoint.specs.KnowledgeOrder.{bottom}
 use Rattle.fixpoint.specs.LeastFixpoint.{iter, lfp}
 use Rattle.fixpoint.specs.Sum.{sum, count}
-use Rattle.semantics.specs.Area.{kind, span, linesOf, pageOf, every, allUnder, linesOk, sound, defaultsOk}
+use Rattle.semantics.specs.Area.{kind, span, linesOf, pageOf, every, allUnder, linesOk, soundTo, sound, defaultsOk}
 use Rattle.semantics.specs.Call.{firstOf}
 use Rattle.semantics.specs.Followers.{refusedFollowers, followedBy, FollowerCount, followersCauses, FollowersOf}
 use Rattle.semantics.specs.Page.{mentions, linesName, names, defaults}
@@ -48,7 +48,7 @@ law [] e = tt
 law (r ∷ rs) e = let h = both-true (every (tests r)) (test rs) e in passed r rs (every-true (tests r) (h .0)) (law rs (h .1))
 
 computed : test followersRows ≡ true
-unfolding followersRows areaBack areaSelf areaTwo areaThree areaPlain test sameCause sound kind span linesOk allUnder pageOf linesOf mentions linesName far spread lfp iter bottom largest sum defaultsOk defaults allBelow
+unfolding followersRows areaBack areaSelf areaTwo areaThree areaPlain test sameCause soundTo kind span linesOk allUnder pageOf linesOf mentions linesName far spread lfp iter bottom largest sum defaultsOk defaults allBelow
 computed = refl
 
 pub followers-bench : FollowersHold followersRows

@@ -11,7 +11,7 @@ use lib.ListN.{drop}
 use borrow.Author.Tests.{ltb-true, not-true}
 use Rattle.fixpoint.specs.KnowledgeOrder.{bottom}
 use Rattle.fixpoint.specs.LeastFixpoint.{iter, lfp}
-use Rattle.semantics.specs.Area.{kind, span, linesOf, pageOf, every, allUnder, linesOk, sound, defaultsOk}
+use Rattle.semantics.specs.Area.{kind, span, linesOf, pageOf, every, allUnder, linesOk, soundTo, sound, defaultsOk}
 use Rattle.semantics.specs.Call.{firstOf}
 use Rattle.semantics.specs.Layers.{denies, linesNegate, negates, name, negate, empty, Loops, LowestLoop, LayersAnswer, refusedLayers, loopsAt, layered, layersCauses, LayersWritten, LayersOf}
 use Rattle.semantics.specs.Page.{mentions, linesName, Page, names, defaults}
@@ -80,7 +80,7 @@ law [] e = tt
 law (r ∷ rs) e = let h = both-true (every (tests r)) (test rs) e in passed r rs (every-true (tests r) (h .0)) (law rs (h .1))
 
 computed : test layersRows ≡ true
-unfolding layersRows areaBack areaSelf areaTwo areaThree areaPlain test sameList sameCause sound kind span linesOk allUnder pageOf linesOf allBelow mentions linesName denies linesNegate far spread lfp iter bottom largest raised raisePass tableFrom defaultsOk defaults
+unfolding layersRows areaBack areaSelf areaTwo areaThree areaPlain test sameList sameCause soundTo kind span linesOk allUnder pageOf linesOf allBelow mentions linesName denies linesNegate far spread lfp iter bottom largest raised raisePass tableFrom defaultsOk defaults
 computed = refl
 
 pub layers-bench : LayersHold layersRows

@@ -55,6 +55,8 @@ pub mod OutputRow
 pub mod Invariant
 pub mod Areas
 pub mod Demand
+-- a drive that is allowed enough, from any list of queries
+pub mod PlainRuns
 -- evaluations on run areas
 pub mod Steps
 -- the operations, cause by cause
@@ -80,6 +82,12 @@ pub mod Exactness
 pub mod ExactnessNeeds
 pub mod LayersRows
 pub mod LayersBench
+-- ticket 8: lists of trials, the pages that they change, and what is printed for them
+pub mod TrialLists
+pub mod TrialPages
+pub mod Trials
+pub mod TrialCuts
+pub mod TrialRows
 -- ticket 9: the check of picks
 pub mod Picks
 pub mod PicksRows

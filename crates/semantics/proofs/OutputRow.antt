@@ -1,8 +1,9 @@
 -- The example of document 01, "The program `attach`": what is printed for it. Assumes nothing.
 use mathlib.Core.Path.{sym, ap₂}
 use mathlib.Core.List.{List, [], _∷_}
-use Prim.Native.Nat.{ℕ}
+use Prim.Native.Nat.{ℕ, _≤_}
 use native.Mathlib.Omega.{arith}
+use lib.ListN.{length}
 use Rattle.fixpoint.specs.Interval.{Interval}
 use Rattle.semantics.specs.Page.{K, W, defaults}
 use Rattle.semantics.proofs.Proper.{Proper}
@@ -22,10 +23,13 @@ proper1 =
       top-most = omega arith;
       conditions-least = omega arith;
       conditions-most = omega arith;
-      few-lines = omega arith;
       ranged = ((omega arith, omega arith, omega arith), ((omega arith, omega arith, omega arith), ((omega arith, omega arith, omega arith, omega arith, omega arith, (omega arith, tt)), ((omega arith, omega arith, omega arith, omega arith, omega arith, (omega arith, tt)), (omega arith, (omega arith, tt))))));
       single = λ c. omega arith;
     }
+
+few1 : length (page1 .lines) ≤ 1024
+unfolding page1
+few1 = omega arith
 
 -- `top,10`, `K,0,2,7`, `W,1,3,8`, `end,2`
 abbrev pub output1 : List ℕ
@@ -50,4 +54,4 @@ answered1 =
 
 pub output-row : IsOutput (textOf page1) output1
 unfolding IsOutput
-output-row = rw (text-accepted page1 proper1, page-written page1 proper1) answered1
+output-row = rw (text-accepted page1 proper1 few1, page-written page1 proper1 few1) answered1

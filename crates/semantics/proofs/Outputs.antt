@@ -17,7 +17,7 @@ use Rattle.semantics.specs.Area.{sound, pageOf, areaOf}
 use Rattle.semantics.specs.ReadPage.{Refusal, textRefusal, pageRead, usedBy, refusalOf, refusedPage, readPage, readAs, readOf}
 use Rattle.semantics.specs.Fields.{numberText, joined}
 use Rattle.semantics.proofs.Readings.{plain-is, closed-is, plain-one, closed-one}
-use Rattle.semantics.proofs.ReadProper.{accepted-proper, SmallRefusal, read-small}
+use Rattle.semantics.proofs.ReadProper.{accepted-proper, accepted-few, SmallRefusal, read-small}
 use Rattle.semantics.proofs.ExactAreas.{proper-sound}
 use Rattle.semantics.proofs.RoundTrip.{page-area}
 use Rattle.semantics.proofs.UsedLength.{mostUsed, used-most}
@@ -60,7 +60,7 @@ module _ (page : Page) (w : Proper page) where
   answers-one {A} {B} a b K c l = plain-one page w (a K) (b K) c l
   answers-one {A} {B} a b W c l = closed-one page w (a W) (b W) c l
 
-  answers-within : {A : Answers} → AreAnswers page A → (r : Reading) (c : ℕ) → c < page .conditions → Within (page .top) (A r c)
+  pub answers-within : {A : Answers} → AreAnswers page A → (r : Reading) (c : ℕ) → c < page .conditions → Within (page .top) (A r c)
   answers-within {A} a K c l = a K .within c l
   answers-within {A} a W c l = a W .closes .within c l
 
@@ -171,11 +171,11 @@ module _ (page : Page) (w : Proper page) {A : Answers} (a : AreAnswers page A) w
       )
   lines-short (default c ∷ ls) h = lines-short ls (h .1)
 
-  page-short : length (pageOutput page A) ≤ 14353
-  page-short =
+  page-short : length (page .lines) ≤ 1024 → length (pageOutput page A) ≤ 14353
+  page-short few =
       let qs = queriesOf (page .lines) in
       let n = length qs in
-      let m : n ≤ 1024 = omega (arith, queries-most (page .lines), w .few-lines) in
+      let m : n ≤ 1024 = omega (arith, queries-most (page .lines), few) in
       omega (
         arith,
         ap length (page-output page A),
@@ -187,7 +187,7 @@ module _ (page : Page) (w : Proper page) {A : Answers} (a : AreAnswers page A) w
       )
 
 -- a refusal of a text has a small number and a small line
-text-small : (text : List ℕ) (r : Refusal) → textRefusal text ≡ some r → SmallRefusal (r .number) (r .line) (r .place)
+pub text-small : (text : List ℕ) (r : Refusal) → textRefusal text ≡ some r → SmallRefusal (r .number) (r .line) (r .place)
 unfolding readOf refusalOf
 text-small text r e = read-small text [] (rw e)
 
@@ -200,7 +200,7 @@ output-short text output p = go (textRefusal text) refl p
     go (some r) e p =
         let s = text-small text r e in
         omega (arith, ap length p, refusal-short (r .number) (r .line) (omega (arith, s .number-most)) (omega (arith, s .line-most)))
-    go none e p = omega (arith, ap length (p .is), page-short (pageRead text) (accepted-proper text e) (p .are))
+    go none e p = omega (arith, ap length (p .is), page-short (pageRead text) (accepted-proper text e) (p .are) (accepted-few text e))
 
 -- Reading into an area that is long enough for every page: it is refused exactly if the text is.
 module _ (text area : List ℕ) (long : mostUsed ≤ length area) where
@@ -208,7 +208,7 @@ module _ (text area : List ℕ) (long : mostUsed ≤ length area) where
   unfolding refusalOf areaOf
   no-cause e =
       let a = areaOf (pageRead text) in
-      let s : sound (a ++ []) ≡ true = proper-sound (pageRead text) [] (accepted-proper text e) in
+      let s : sound (a ++ []) ≡ true = proper-sound (pageRead text) [] (accepted-proper text e) (accepted-few text e) in
       let m : usedBy text ≤ length area = omega (arith, used-most (a ++ []) s) in
       rw (e, le-ltb (length area) (usedBy text) m)
 

@@ -9,7 +9,7 @@ use lib.Dec.{ltb, eqb}
 use lib.ListN.{length}
 use borrow.Author.Tests.{eqb-true, ltb-true, not-true}
 use Rattle.fixpoint.specs.Interval.{same}
-use Rattle.semantics.specs.Area.{kind, span, linesOf, pageOf, every, allUnder, linesOk, sound, defaultsOk}
+use Rattle.semantics.specs.Area.{kind, span, linesOf, pageOf, every, allUnder, linesOk, soundTo, sound, defaultsOk}
 use Rattle.semantics.specs.Body.{bodies, unknownByDefault, bodyless, largestOf, T}
 use Rattle.semantics.specs.Call.{firstOf, outcome}
 use Rattle.semantics.specs.Demand.{performFrom}
@@ -99,7 +99,7 @@ law (checks a qs picks figures o ∷ rs) e =
     (passed a qs picks figures o (every-true (tests (checks a qs picks figures o)) (h .0)), law rs (h .1))
 
 computed : test picksRows ≡ true
-unfolding picksRows area1 areaNoKind areaNine chain many test sameList sameCause sameStatus sound kind span linesOk allUnder pageOf linesOf allBelow same performFrom outcome pickWaits start changes waitingAfter evaluated lowestFrom closure pass passes listed tableFrom anyBelow allUnknown mentions linesName rounding divided combine foldFrom foldAll weighted negated bodies unknownByDefault bodyless largestOf T defaultsOk defaults
+unfolding picksRows area1 areaNoKind areaNine chain many test sameList sameCause sameStatus soundTo kind span linesOk allUnder pageOf linesOf allBelow same performFrom outcome pickWaits start changes waitingAfter evaluated lowestFrom closure pass passes listed tableFrom anyBelow allUnknown mentions linesName rounding divided combine foldFrom foldAll weighted negated bodies unknownByDefault bodyless largestOf T defaultsOk defaults
 computed = refl
 
 pub picks-bench : PicksHold picksRows

@@ -1,4 +1,5 @@
--- Pages within the limits of document 01: what a sound area holds and an accepted text says (`sound-proper`, `read-proper`). Assumes nothing.
+-- Pages within the limits of document 01 but for the count of lines, which no law of the readings asks for: what a sound area holds and an
+-- accepted text says (`sound-proper`, `accepted-proper`). Assumes nothing.
 use mathlib.Core.List.{List, [], _∷_}
 use Prim.Native.Nat.{ℕ, _≤_, _<_}
 use lib.ListN.{length}
@@ -19,12 +20,11 @@ abbrev pub AllInRange : ℕ → ℕ → List Line → Type 0
 AllInRange top n [] = Unit {0}
 AllInRange top n (l ∷ ls) = InRange top n l × AllInRange top n ls
 
--- a page within the limits: top 1 to 200, C 1 to 512, at most 1,024 lines after the first, at most one D line for a condition
+-- a page within the limits but for its count of lines: top 1 to 200, C 1 to 512, at most one D line for a condition
 pub record Proper (page : Page) : Type 0 where
   pub top-least : 1 ≤ page .top
   pub top-most : page .top ≤ 200
   pub conditions-least : 1 ≤ page .conditions
   pub conditions-most : page .conditions ≤ 512
-  pub few-lines : length (page .lines) ≤ 1024
   pub ranged : AllInRange (page .top) (page .conditions) (page .lines)
   pub single : (c : ℕ) → defaults (page .lines) c ≤ 1

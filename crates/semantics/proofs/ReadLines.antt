@@ -13,7 +13,7 @@ use Rattle.semantics.specs.ReadPage.{Fault, Refusal, placed, toldAt, orE
 use Rattle.semantics.proofs.FieldRanges.{some-none, else-none, no-cause-placed, NoFault, no-fault}
 use Rattle.semantics.proofs.Invariant.{NoCause}
 
-told-none : (k : ℕ) (o : Option Fault) → toldAt k o ≡ none → o ≡ none
+pub told-none : (k : ℕ) (o : Option Fault) → toldAt k o ≡ none → o ≡ none
 told-none k none e = refl
 told-none k (some f) e = some-none e
 

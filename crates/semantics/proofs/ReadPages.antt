@@ -15,14 +15,14 @@ use Rattle.semantics.specs.Written.{lineTexts, textOf}
 use Rattle.semantics.proofs.RoundTrip.{page-area}
 use Rattle.semantics.proofs.ExactAreas.{proper-sound}
 use Rattle.semantics.proofs.ReadLines.{good-line, good-head, good-text, good-read}
-use Rattle.semantics.proofs.ReadProper.{accepted-proper}
+use Rattle.semantics.proofs.ReadProper.{accepted-few, accepted-proper}
 use Rattle.semantics.proofs.TextParts.{ended-lines-of, joined-fields-of, some-line}
 use Rattle.semantics.proofs.TextForms.{head-back, line-back}
 
 -- The area of an accepted page is sound.
 pub read-sound : (bytes area : List ℕ) → refusalOf bytes area ≡ none → sound (readOf bytes area .area) ≡ true
 unfolding readOf
-read-sound bytes area e = rw e (proper-sound (pageRead bytes) (drop (usedBy bytes) area) (accepted-proper bytes (good-read bytes area e .text)))
+read-sound bytes area e = rw e (proper-sound (pageRead bytes) (drop (usedBy bytes) area) (accepted-proper bytes (good-read bytes area e .text)) (accepted-few bytes (good-read bytes area e .text)))
 
 -- What is read is what was written: an accepted text is the text of its page.
 texts-back : (top n k : ℕ) (before : List Line) (ls : List (List ℕ)) → badLine top n k before ls ≡ none → lineTexts (linesIn ls) ≡ ls

@@ -61,10 +61,16 @@ accepted-proper bytes e =
       top-most = t .1;
       conditions-least = n .0;
       conditions-most = n .1;
-      few-lines = omega (arith, w .1);
       ranged = w .0;
       single = λ c. omega (arith, lines-single (topIn ls) (conditionsIn ls) 2 [] (drop 1 ls) (h .others) c (omega arith));
     }
+
+pub accepted-few : (bytes : List ℕ) → textRefusal bytes ≡ none → length (pageRead bytes .lines) ≤ 1024
+unfolding textRefusal pageIn
+accepted-few bytes e =
+    let h = good-head (textLines bytes) (else-none (toldAt 0 (placed 0 (firstOf (textCauses bytes)))) _ e .1) in
+    let ls = textLines bytes in
+    omega (arith, lines-proper (topIn ls) (conditionsIn ls) 2 [] (drop 1 ls) (omega arith) (h .others) .1)
 
 -- what an answer says
 pub record GoodPage (bytes area : List ℕ) (used : ℕ) : Type 0 where
@@ -79,7 +85,7 @@ read-good bytes area {used} e = go (refusalOf bytes area) refl e
     go (some r) f e = let z : _≡_ {A = ℕ} 0 1 = cc in absurd (omega arith)
     go none f e =
         let a = areaOf (pageRead bytes) ++ drop (usedBy bytes) area in
-        let s : sound a ≡ true = proper-sound (pageRead bytes) (drop (usedBy bytes) area) (accepted-proper bytes (else-none (textRefusal bytes) _ f .0)) in
+        let s : sound a ≡ true = let t = else-none (textRefusal bytes) _ f .0 in proper-sound (pageRead bytes) (drop (usedBy bytes) area) (accepted-proper bytes t) (accepted-few bytes t) in
         let q : used ≡ usedBy bytes = cc in
         record { page-sound = rw f s; short = omega (arith, used-most a s) }
 

@@ -11,7 +11,7 @@ use Rattle.fixpoint.specs.KnowledgeOrder.{Alike}
 use Rattle.fixpoint.specs.LeastFixpoint.{iter}
 use Rattle.fixpoint.specs.Support.{roof, raise, close}
 use Rattle.fixpoint.specs.Reachable.{IsCount}
-use Rattle.semantics.specs.Area.{areaOf, pageOf, sound, kind, span, linesOf, allUnder, linesOk, lineCodes, every, defaultsOk}
+use Rattle.semantics.specs.Area.{areaOf, pageOf, soundTo, sound, kind, span, linesOf, allUnder, linesOk, lineCodes, every, defaultsOk}
 use Rattle.semantics.specs.Body.{bodies, unknownByDefault, bodyless, largestOf, T}
 use Rattle.semantics.specs.Grade.{rounding, divided, combine, foldFrom, foldAll, weighted, negated}
 use Rattle.semantics.specs.Page.{mentions, linesName, Page, defaults}
@@ -101,7 +101,7 @@ law [] e = tt
 law (r ∷ rs) e = let h = both-true (every (tests r)) (test rs) e in (passed r (every-true (tests r) (h .0)), law rs (h .1))
 
 computed : test countRows ≡ true
-unfolding countRows chain open0 loops page1 page3 page4 page5 page6 test stillAt at like likeAt allBelow same rounding divided combine foldFrom foldAll weighted negated mentions linesName bodies unknownByDefault bodyless largestOf T tableFrom anyBelow listed pass passes closure sweep sweeps allUnknown supportList closeList rounds roof raise areaOf sound kind span allUnder linesOk lineCodes defaultsOk defaults pageOf linesOf
+unfolding countRows chain open0 loops page1 page3 page4 page5 page6 test stillAt at like likeAt allBelow same rounding divided combine foldFrom foldAll weighted negated mentions linesName bodies unknownByDefault bodyless largestOf T tableFrom anyBelow listed pass passes closure sweep sweeps allUnknown supportList closeList rounds roof raise areaOf soundTo kind span allUnder linesOk lineCodes defaultsOk defaults pageOf linesOf
 computed = refl
 
 pub count-bench : AllCount countRows

@@ -315,7 +315,6 @@ small-proper p w =
       top-most = omega (arith, w .top-is);
       conditions-least = w .conditions-least;
       conditions-most = omega (arith, w .conditions-most);
-      few-lines = omega (arith, w .few-lines);
       ranged = rw (w .top-is) (lines-ranged (p .conditions) (p .lines) (w .each));
       single = λ c. omega (arith, lines-single (p .conditions) (p .lines) (w .each) c);
     }
@@ -323,4 +322,4 @@ small-proper p w =
 -- "the reader, lent a page area long enough, accepts each", and reads the page that was written
 pub small-read : (p : Page) → SmallPage p → (area : List ℕ) → usedOf (areaOf p) ≤ length area
     → readOf (textOf p) area ≡ record { answer = readPage (usedOf (areaOf p)); area = areaOf p ++ drop (usedOf (areaOf p)) area }
-small-read p w = written-read p (small-proper p w)
+small-read p w = written-read p (small-proper p w) (omega (arith, w .few-lines))

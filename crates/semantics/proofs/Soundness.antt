@@ -7,8 +7,8 @@ use native.Mathlib.Decide.{decLt}
 use native.Mathlib.Omega.{arith}
 use lib.Dec.{eqb, leb, ltb}
 use lib.ListN.{length, getD, take, drop, length-take, length-drop, length-map}
-use borrow.Author.Tests.{leb-true, ltb-true, eqb-true, ne-eqb}
-use Rattle.semantics.specs.Area.{Kind, factKind, ruleKind, queryKind, defaultKind, noKind, kind, spanAs, span, literalOf, literalsAt, lineAs, linesOf, pageOf, every, allUnder, fieldTests, lineTests, headTests, linesOk, defaultTests, defaultsOk, sound, firstLine, defaultOf, topOf, conditionsOf, countOf, usedOf}
+use borrow.Author.Tests.{leb-true, ltb-true, eqb-true, ne-eqb, le-leb}
+use Rattle.semantics.specs.Area.{Kind, factKind, ruleKind, queryKind, defaultKind, noKind, kind, spanAs, span, literalOf, literalsAt, lineAs, linesOf, pageOf, every, allUnder, fieldTests, lineTests, headTests, linesOk, defaultTests, defaultsOk, soundTo, sound, firstLine, defaultOf, topOf, conditionsOf, countOf, usedOf}
 use Rattle.semantics.specs.Page.{Literal, positive, negative, conditionOf, Line, fact, rule, query, default, Page, defaults}
 use Rattle.semantics.proofs.Proper.{LiteralsBelow, InRange, AllInRange, Proper}
 use Rattle.semantics.proofs.Table.{all-at}
@@ -75,23 +75,41 @@ length-lines zero p = refl
 length-lines (suc k) p = ap suc (length-lines k (drop (span p) p))
 
 -- what soundness says, test by test
-pub record Sound (a : List ℕ) : Type 0 where
-  pub head : Every (headTests a)
+pub record Sound (most : ℕ) (a : List ℕ) : Type 0 where
+  pub head : Every (headTests most a)
   pub lines : linesOk (topOf a) (conditionsOf a) (countOf a) (usedOf a - firstLine a) (drop (firstLine a) a) ≡ true
   pub single : (c : ℕ) → c < conditionsOf a → defaultOf a c ≤ 1
   pub told : (c : ℕ) → c < conditionsOf a → defaultOf a c ≡ defaults (pageOf a .lines) c
 
-pub sound-parts : (a : List ℕ) → sound a ≡ true → Sound a
-unfolding sound defaultsOk
-sound-parts a e =
-    let s = every-true (every (headTests a) ∷ linesOk (topOf a) (conditionsOf a) (countOf a) (usedOf a - firstLine a) (drop (firstLine a) a) ∷ defaultsOk a ∷ []) e in
+pub parts-to : (most : ℕ) (a : List ℕ) → soundTo most a ≡ true → Sound most a
+unfolding soundTo defaultsOk
+parts-to most a e =
+    let s = every-true (every (headTests most a) ∷ linesOk (topOf a) (conditionsOf a) (countOf a) (usedOf a - firstLine a) (drop (firstLine a) a) ∷ defaultsOk a ∷ []) e in
     let d : (c : ℕ) → c < conditionsOf a → Every (defaultTests a c) = λ c l. every-true (defaultTests a c) (all-at (conditionsOf a) (λ c. every (defaultTests a c)) (s .1 .1 .0) c l) in
     record {
-      head = every-true (headTests a) (s .0);
+      head = every-true (headTests most a) (s .0);
       lines = s .1 .0;
       single = λ c l. leb-true (defaultOf a c) 1 (d c l .0);
       told = λ c l. eqb-true (defaultOf a c) (defaults (pageOf a .lines) c) (d c l .1 .0);
     }
+
+pub sound-parts : (a : List ℕ) → sound a ≡ true → Sound 1024 a
+sound-parts = parts-to 1024
+
+-- soundness with at most so many lines is soundness with any greater limit
+pub sound-more : (most more : ℕ) → most ≤ more → (a : List ℕ) → soundTo most a ≡ true → soundTo more a ≡ true
+unfolding soundTo
+sound-more most more l a e =
+    let s = every-true (every (headTests most a) ∷ linesOk (topOf a) (conditionsOf a) (countOf a) (usedOf a - firstLine a) (drop (firstLine a) a) ∷ defaultsOk a ∷ []) e in
+    let h = every-true (headTests most a) (s .0) in
+    let k : leb (countOf a) more ≡ true = le-leb (countOf a) more (omega (arith, leb-true (countOf a) most (h .1 .1 .1 .1 .1 .1 .1 .0))) in
+    every-of (every (headTests more a) ∷ linesOk (topOf a) (conditionsOf a) (countOf a) (usedOf a - firstLine a) (drop (firstLine a) a) ∷ defaultsOk a ∷ [])
+    (every-of (headTests more a) (h .0, (h .1 .0, (h .1 .1 .0, (h .1 .1 .1 .0, (h .1 .1 .1 .1 .0, (h .1 .1 .1 .1 .1 .0, (h .1 .1 .1 .1 .1 .1 .0, (k, tt)))))))), (s .1 .0, (s .1 .1 .0, tt)))
+
+-- so many lines
+pub few-lines : (most : ℕ) (a : List ℕ) → soundTo most a ≡ true → length (pageOf a .lines) ≤ most
+unfolding pageOf
+few-lines most a e = rw (length-lines (countOf a) (drop (firstLine a) a)) (leb-true (countOf a) most (parts-to most a e .head .1 .1 .1 .1 .1 .1 .1 .0))
 
 -- no D line of a condition at or over C is in range
 none-over : (top n : ℕ) (ls : List Line) → AllInRange top n ls → (c : ℕ) → n ≤ c → defaults ls c ≡ 0
@@ -102,10 +120,10 @@ none-over top n (rule d v op lits ∷ ls) w c h = none-over top n ls (w .1) c h
 none-over top n (query r d ∷ ls) w c h = none-over top n ls (w .1) c h
 none-over top n (default d ∷ ls) w c h = rw (ne-eqb d c (λ e. omega (arith, w .0))) (omega (arith, none-over top n ls (w .1) c h))
 
-pub sound-proper : (a : List ℕ) → sound a ≡ true → Proper (pageOf a)
+pub proper-to : (most : ℕ) (a : List ℕ) → soundTo most a ≡ true → Proper (pageOf a)
 unfolding pageOf
-sound-proper a e =
-    let s = sound-parts a e in
+proper-to most a e =
+    let s = parts-to most a e in
     let h = s .head in
     let r = all-in-range (topOf a) (conditionsOf a) (countOf a) (usedOf a - firstLine a) (drop (firstLine a) a) (simp length-drop (omega (arith, leb-true))) (s .lines) in
     record {
@@ -113,10 +131,12 @@ sound-proper a e =
       top-most = omega (arith, leb-true);
       conditions-least = omega (arith, leb-true);
       conditions-most = omega (arith, leb-true);
-      few-lines = rw length-lines (omega (arith, leb-true));
       ranged = r;
       single = λ c. elim (decLt c (conditionsOf a)) [
         | yes l ↦ omega (arith, s .single c l, s .told c l)
         | no l ↦ omega (arith, none-over (topOf a) (conditionsOf a) (linesOf (countOf a) (drop (firstLine a) a)) r c (omega arith))
       ];
     }
+
+pub sound-proper : (a : List ℕ) → sound a ≡ true → Proper (pageOf a)
+sound-proper = proper-to 1024

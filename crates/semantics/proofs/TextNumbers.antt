@@ -96,6 +96,11 @@ number-short n h = longer 2 100 n (λ i k. longer 1 10 i (λ j l. omega (arith, 
 pub number-four : (n : ℕ) → n < 10000 → length (numberText n) ≤ 4
 number-four n h = longer 3 1000 n number-short (omega arith) h
 
+-- seven below 10,000,000
+pub number-seven : (n : ℕ) → n < 10000000 → length (numberText n) ≤ 7
+number-seven n h =
+    longer 6 1000000 n (λ i j. longer 5 100000 i (λ k l. longer 4 10000 k number-four (omega arith) l) (omega arith) j) (omega arith) h
+
 -- The three lengths of the text of a number below 1,000.
 pub data Digits (n : ℕ) : Type 0 where
   one : n < 10 → numberText n ≡ digit n ∷ [] → Digits n

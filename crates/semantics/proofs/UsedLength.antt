@@ -7,11 +7,11 @@ use native.Mathlib.Omega.{arith}
 use lib.ListN.{length, getD, drop}
 use borrow.Author.Needs.{needs}
 use borrow.Author.Tests.{leb-true, eqb-true}
-use Rattle.semantics.specs.Area.{Kind, factKind, ruleKind, queryKind, defaultKind, noKind, kind, spanAs, span, literalsAt, every, fieldTests, lineTests, headTests, linesOk, sound, firstLine, topOf, conditionsOf, countOf, usedOf, lineCodes, areaOf}
+use Rattle.semantics.specs.Area.{Kind, factKind, ruleKind, queryKind, defaultKind, noKind, kind, spanAs, span, literalsAt, every, fieldTests, lineTests, headTests, linesOk, soundTo, sound, firstLine, topOf, conditionsOf, countOf, usedOf, lineCodes, areaOf}
 use Rattle.semantics.specs.Grade.{M}
 use Rattle.semantics.specs.Page.{positive, Line, rule, Page, defaults}
 use Rattle.semantics.proofs.Proper.{AllInRange, Proper}
-use Rattle.semantics.proofs.Soundness.{both-true, Every, every-true, sound-parts}
+use Rattle.semantics.proofs.Soundness.{both-true, Every, every-true, parts-to}
 use Rattle.semantics.proofs.ExactAreas.{proper-sound}
 
 -- an entry takes at most 12 numbers: four, and eight literals
@@ -38,16 +38,20 @@ short-lines top n (suc k) left p e =
 abbrev pub mostUsed : ℕ
 mostUsed = 12804
 
-pub used-most : (a : List ℕ) → sound a ≡ true → usedOf a ≤ mostUsed
-used-most a e =
-    let s = sound-parts a e in
+-- with at most so many lines
+pub used-to : (most : ℕ) (a : List ℕ) → soundTo most a ≡ true → usedOf a ≤ 516 + 12 * most
+used-to most a e =
+    let s = parts-to most a e in
     let h = s .head in
     omega (
       arith,
-      leb-true (countOf a) 1024 (h .1 .1 .1 .1 .1 .1 .1 .0),
+      leb-true (countOf a) most (h .1 .1 .1 .1 .1 .1 .1 .0),
       leb-true (conditionsOf a) 512 (h .1 .1 .1 .1 .1 .1 .0),
       short-lines (topOf a) (conditionsOf a) (countOf a) (usedOf a - firstLine a) (drop (firstLine a) a) (s .lines),
     )
+
+pub used-most : (a : List ℕ) → sound a ≡ true → usedOf a ≤ mostUsed
+used-most a e = omega (arith, used-to 1024 a e)
 
 -- as much: k rules of eight literals
 abbrev longest : Line
@@ -82,14 +86,13 @@ no-defaults (suc k) c = no-defaults k c
 abbrev rules-page : ℕ → Page
 rules-page k = record { top = 1; conditions = 512; lines = rules k }
 
-proper-rules : (k : ℕ) → k ≤ 1024 → Proper (rules-page k)
-proper-rules k h =
+proper-rules : (k : ℕ) → Proper (rules-page k)
+proper-rules k =
     record {
       top-least = omega arith;
       top-most = omega arith;
       conditions-least = omega arith;
       conditions-most = omega arith;
-      few-lines = omega (arith, length-rules k);
       ranged = ranged-rules k;
       single = λ c. omega (arith, no-defaults k c);
     }
@@ -99,4 +102,4 @@ unfolding areaOf
 used-rules k = ap (λ (n : ℕ). 516 + n) (length-codes k)
 
 pub used-attained : (a : List ℕ) × (sound a ≡ true) × (usedOf a ≡ mostUsed)
-used-attained = (areaOf (rules-page 1024) ++ [], proper-sound (rules-page 1024) [] (proper-rules 1024 (omega arith)), used-rules 1024)
+used-attained = (areaOf (rules-page 1024) ++ [], proper-sound (rules-page 1024) [] (proper-rules 1024) (omega (arith, length-rules 1024)), used-rules 1024)

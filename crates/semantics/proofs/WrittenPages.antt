@@ -131,8 +131,8 @@ module _ (top n : ℕ) (t : top < 1000) (l : n ≤ 1000) where
   lines-short (x ∷ ls) w =
       omega (arith, length-append (joined (lineFields x)) (10 ∷ endedLines (lineTexts ls)), line-short x (w .0), lines-short ls (w .1))
 
--- The text of a proper page.
-module _ (page : Page) (w : Proper page) where
+-- The text of a proper page of at most 1,024 lines.
+module _ (page : Page) (w : Proper page) (few : length (page .lines) ≤ 1024) where
   top′ : page .top < 1000
   top′ = omega (arith, w .top-most)
 
@@ -195,7 +195,7 @@ module _ (page : Page) (w : Proper page) where
   no-bad-line =
       rw (top-read, conditions-read, text-lines, head-fields)
       (rw (is-head, head-passes)
-      (none-bad (page .top) (page .conditions) top′ some′ 2 [] (page .lines) (w .ranged) (λ c. omega (arith, w .single c)) (omega (arith, w .few-lines))))
+      (none-bad (page .top) (page .conditions) top′ some′ 2 [] (page .lines) (w .ranged) (λ c. omega (arith, w .single c)) (omega (arith, few))))
 
   -- it is at most 53,258 bytes long
   text-short : length (textOf page) ≤ 53258
@@ -212,7 +212,7 @@ module _ (page : Page) (w : Proper page) where
         number-short (page .top) top′,
         number-short (page .conditions) conditions′,
         lines-short (page .top) (page .conditions) top′ some′ (page .lines) (w .ranged),
-        w .few-lines,
+        few,
       )
 
   text-ends : getD (textOf page) (length (textOf page) - 1) 0 ≡ 10
@@ -229,7 +229,7 @@ module _ (page : Page) (w : Proper page) where
       let t = textOf page in
       rw (le-ltb 65535 (length t) (omega (arith, text-short)), ne-eqb (length t) 0 text-filled, eq-eqb (getD t (length t - 1) 0) 10 text-ends) no-bad-line
 
-  -- every proper page is read from its text, given a long enough area
+  -- every such page is read from its text, given a long enough area
   pub written-read : (area : List ℕ) → usedOf (areaOf page) ≤ length area
       → readOf (textOf page) area ≡ record { answer = readPage (usedOf (areaOf page)); area = areaOf page ++ drop (usedOf (areaOf page)) area }
   unfolding readOf refusalOf

@@ -114,9 +114,9 @@ unfoldable pub linesOk : ℕ → ℕ → ℕ → ℕ → List ℕ → Bool
 linesOk top n zero left p = eqb left 0
 linesOk top n (suc k) left p = every (lineTests top n left p) && linesOk top n k (left - span p) (drop (span p) p)
 
--- "at least as long as its four head numbers and its used length (these four numbers counted in it)", top 1 to 200, C 1 to 512, "the count of lines is at most 1,024"
-abbrev pub headTests : List ℕ → List Bool
-headTests a =
+-- "at least as long as its four head numbers and its used length (these four numbers counted in it)", top 1 to 200, C 1 to 512, and at most so many lines
+abbrev pub headTests : (most : ℕ) → List ℕ → List Bool
+headTests most a =
     leb 4 (length a)
     ∷ leb (firstLine a) (usedOf a)
     ∷ leb (usedOf a) (length a)
@@ -124,7 +124,7 @@ headTests a =
     ∷ leb (topOf a) 200
     ∷ leb 1 (conditionsOf a)
     ∷ leb (conditionsOf a) 512
-    ∷ leb (countOf a) 1024
+    ∷ leb (countOf a) most
     ∷ []
 
 -- "A D number of 1 needs exactly one such entry, and 0 needs none"; no other number is sound
@@ -134,15 +134,19 @@ defaultTests a c = leb (defaultOf a c) 1 ∷ eqb (defaultOf a c) (defaults (page
 unfoldable pub defaultsOk : List ℕ → Bool
 defaultsOk a = allBelow (conditionsOf a) (λ c. every (defaultTests a c))
 
--- "A page area is sound when .."
-unfoldable pub sound : List ℕ → Bool
-sound a =
+-- "A page area is sound when ..", with at most so many lines
+unfoldable pub soundTo : (most : ℕ) → List ℕ → Bool
+soundTo most a =
     every (
-    every (headTests a)
+    every (headTests most a)
     ∷ linesOk (topOf a) (conditionsOf a) (countOf a) (usedOf a - firstLine a) (drop (firstLine a) a)
     ∷ defaultsOk a
     ∷ []
     )
+
+-- "the count of lines is at most 1,024"
+abbrev pub sound : List ℕ → Bool
+sound = soundTo 1024
 
 -- The area of a page: what the reader writes. Sound areas are exactly these, for proper pages, with anything behind them
 -- (`sound-proper`, `proper-sound`, `sound-exact`).

@@ -32,6 +32,8 @@ pub mod Fields
 pub mod Output
 -- document 02, ticket 3: loops through an absence
 pub mod Layers
+-- document 02, ticket 8: trying facts
+pub mod Trials
 -- document 02, ticket 9: checking the picks of a simulator
 pub mod Picks
 -- document 02, ticket 11: two stalls on one page, and demand 3 for one stall's own part

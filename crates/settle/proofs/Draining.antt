@@ -9,7 +9,7 @@ use native.Mathlib.Omega.{arith}
 use lib.Dec.{eqb}
 use lib.ListN.{length, getD, drop}
 use Rattle.fixpoint.proofs.Cond.{by-bool}
-use Rattle.semantics.specs.Area.{sound, lineAt, pageOf, topOf, conditionsOf, countOf}
+use Rattle.semantics.specs.Area.{lineAt, pageOf, topOf, conditionsOf, countOf}
 use Rattle.semantics.specs.Grade.{End}
 use Rattle.semantics.specs.Page.{Line, fact, rule, query, default}
 use Rattle.semantics.specs.Table.{member}
@@ -28,6 +28,7 @@ use Rattle.settle.proofs.Members.{waiters, few-wait, else-same, rest-in
 use Rattle.settle.proofs.Raising.{E, rests-by}
 use Rattle.settle.proofs.Settling.{Settling, settling-first, settling-next, settling-last}
 use Rattle.index.proofs.Grouped.{group-within}
+use Rattle.page.specs.Solvable.{solvable}
 
 -- what a line reads its page reads
 pub read-cons : (code : ℕ) (l : Line) (ls : List Line) (c : ℕ) → linesRead code (l ∷ ls) c ≡ (linesRead code (l ∷ []) c || linesRead code ls c)
@@ -41,7 +42,7 @@ read-cons code (rule d w op lits) ls c = go (eqb d c && among code lits)
 read-cons code (query r d) ls c = refl
 read-cons code (default d) ls c = refl
 
-module _ (a : List ℕ) (ok : sound a ≡ true) (code c : ℕ) where
+module _ (a : List ℕ) (ok : solvable a ≡ true) (code c : ℕ) where
   read-from : (m k : ℕ) → k + m < countOf a → linesRead code (lineAt (drop (placeOf a (k + m)) a) ∷ []) c ≡ true → linesRead code (linesLeft a (placeOf a k) k) c ≡ true
   read-from zero k l r =
       let q : k + 0 ≡ k = omega arith in
@@ -60,7 +61,7 @@ module _ (a : List ℕ) (ok : sound a ≡ true) (code c : ℕ) where
       (subst (λ (j : ℕ). linesRead code (lineAt (drop (placeOf a j) a) ∷ []) c ≡ true) {x = x .number} {y = 0 + x .number} (omega arith) (subst (λ (j : ℕ). linesRead code (lineAt (drop j a) ∷ []) c ≡ true) (x .place) r)))
 
 -- the group of a condition
-module _ (a first places : List ℕ) (ok : sound a ≡ true) (g : LinesByHead a first places) (c : ℕ) (real : c < conditionsOf a) where
+module _ (a first places : List ℕ) (ok : solvable a ≡ true) (g : LinesByHead a first places) (c : ℕ) (real : c < conditionsOf a) where
   abbrev from : ℕ
   from = getD first c 0
 
@@ -116,7 +117,7 @@ module _ (e : End) (a : List ℕ) (m : List Bool) (first places s₀ : List ℕ)
 
   pub draining-last : {s words : List ℕ} {changed : Bool} → Draining s words changed → ((c : ℕ) → c < 512 → has words c ≡ false) → Settled e a m s₀ s changed
   draining-last v q =
-      settling-last e a m (v .settling) (λ c l r. v .waiting .rests c l r (q c (omega (arith, head-of a (v .settling .half .page-sound) .few))))
+      settling-last e a m (v .settling) (λ c l r. v .waiting .rests c l r (q c (omega (arith, head-of a (v .settling .half .page-solvable) .few))))
 
   -- c is taken out and its group looked at
   module _ {s words : List ℕ} {changed : Bool} (v : Draining s words changed) (c : ℕ) (small : c < 512) (waits : has words c ≡ true) (words₁ : List ℕ) (x : Removed c words words₁) where
@@ -134,8 +135,8 @@ module _ (e : End) (a : List ℕ) (m : List Bool) (first places s₀ : List ℕ)
       abbrev n : ℕ
       n = conditionsOf a
 
-      ok : sound a ≡ true
-      ok = v .settling .half .page-sound
+      ok : solvable a ≡ true
+      ok = v .settling .half .page-solvable
 
       few : n ≤ 512
       few = head-of a ok .few
@@ -214,10 +215,10 @@ module _ {e : End} {a : List ℕ} {m : List Bool} {first places users : List ℕ
   drains-real = v .draining .waiting .set .inside c small (v .any .found small)
 
   pub drains-few : conditionsOf a ≤ 512
-  drains-few = head-of a (v .draining .settling .half .page-sound) .few
+  drains-few = head-of a (v .draining .settling .half .page-solvable) .few
 
   pub drains-group : Lookable a places (getD first c 0) (getD first (c + 1) 0)
-  drains-group = group-lookable a first places (v .draining .settling .half .page-sound) (v .draining .groups) c drains-real
+  drains-group = group-lookable a first places (v .draining .settling .half .page-solvable) (v .draining .groups) c drains-real
 
   module _ (words₁ : List ℕ) (x : Removed c words words₁) where
     pub drains-set : WaitSet (conditionsOf a) words₁

@@ -51,7 +51,7 @@ module _ (e : End) (a : List ℕ) (m : List Bool) (place : ℕ → ℕ) (from : 
     -- a line looked at before
     earlier : (j : ℕ) → from ≤ j → j < i → Covered e a m s₀ s′ (place j)
     earlier j l u c o q g p d =
-        let y = line-level n (topOf a) e (held n s′) (held n s) (lineAt (drop (place j) a)) (line-ranged a (v .half .page-sound) (lines j l u)) c
+        let y = line-level n (topOf a) e (held n s′) (held n s) (lineAt (drop (place j) a)) (line-ranged a (v .half .page-solvable) (lines j l u)) c
         (λ b k f. between b k (g b k f)) (r .steady .others) d in
         omega (arith, y .2, v .covered j l u c o q (λ b k f. before b k (g b k f)) (y .0) (y .1), r .steady .rises c o)
 
@@ -114,7 +114,7 @@ sweeping-first {e} {a} {m} h q f = record { size = q; passed = 0; in-count = ome
 
 module _ {e : End} {a : List ℕ} {m : List Bool} {n : ℕ} {s₀ s : List ℕ} {at : ℕ} {rose : Bool} (v : Sweeping e a m n s₀ s at rose) where
   here : Scanning a at (v .passed)
-  here = rw (v .place) (scanning-at a (v .looked .half .page-sound) (v .passed) (v .in-count))
+  here = rw (v .place) (scanning-at a (v .looked .half .page-solvable) (v .passed) (v .in-count))
 
   -- behind the last line nothing is left
   ended : countOf a ≤ v .passed → usedOf a ≤ at

@@ -11,14 +11,13 @@ use Rattle.fixpoint.specs.Interval.{Interval, Assign}
 use Rattle.fixpoint.specs.System.{System}
 use Rattle.fixpoint.proofs.Cond.{by-bool}
 use Rattle.fixpoint.proofs.Sum.{sum-le, sum-drop}
-use Rattle.semantics.specs.Area.{sound, lineAt, pageOf, topOf, conditionsOf, countOf}
+use Rattle.semantics.specs.Area.{lineAt, pageOf, topOf, conditionsOf, countOf}
 use Rattle.semantics.specs.Body.{lineBody, T, bodyless, unknownByDefault}
 use Rattle.semantics.specs.Grade.{End, lower, upper}
 use Rattle.semantics.specs.Page.{names}
 use Rattle.semantics.specs.Table.{member}
 use Rattle.semantics.proofs.Proper.{InRange, AllInRange}
 use Rattle.semantics.proofs.Readings.{page-system}
-use Rattle.semantics.proofs.Soundness.{sound-proper}
 use Rattle.page.specs.Places.{placeOf, LineIn, LineOf}
 use Rattle.page.specs.Lines.{EntryIn}
 use Rattle.page.proofs.Head.{head-of}
@@ -34,20 +33,22 @@ use Rattle.settle.specs.Scratch.{baseOf, tableOf, held, staysAt, settled
 use Rattle.settle.proofs.EndReads.{line-level, page-ends}
 use Rattle.settle.proofs.Halves.{ends-in, end-in, settled-stays, below-T, settled-others, settled-T}
 use Rattle.settle.proofs.Scratch.{end-at, base-in, part-is, half-table, half-grades, put-here, put-else, put-other, put-negated, put-rest, put-beyond}
+use Rattle.page.specs.Solvable.{solvable}
+use Rattle.page.proofs.Solvable.{solvable-proper}
 
-module _ (a : List ℕ) (ok : sound a ≡ true) where
+module _ (a : List ℕ) (ok : solvable a ≡ true) where
   pub S : System (conditionsOf a) (topOf a) (T (pageOf a)) (names (pageOf a))
   unfolding pageOf
-  S = page-system (pageOf a) (sound-proper a ok)
+  S = page-system (pageOf a) (solvable-proper a ok)
 
   pub E : EndLocal (conditionsOf a) (T (pageOf a)) (names (pageOf a)) (reads (pageOf a))
   unfolding pageOf
-  E = page-ends (pageOf a) (sound-proper a ok)
+  E = page-ends (pageOf a) (solvable-proper a ok)
 
   -- every line is in range
   ranged-from : (k : ℕ) → k ≤ countOf a → AllInRange (topOf a) (conditionsOf a) (linesLeft a (placeOf a k) k)
   unfolding pageOf placeOf
-  ranged-from zero l = rw (lines-first a) (sound-proper a ok .ranged)
+  ranged-from zero l = rw (lines-first a) (solvable-proper a ok .ranged)
   ranged-from (suc k) l = (rw (lines-from a ok k (omega arith)) at (ranged-from k (omega arith))) .1
 
   pub line-ranged : {at : ℕ} → LineIn a at → InRange (topOf a) (conditionsOf a) (lineAt (drop at a))
@@ -93,7 +94,7 @@ module _ {e : End} {a : List ℕ} {m : List Bool} {s : List ℕ} (H : Half e a m
   pub T-below : endOf e (T (pageOf a) (held (conditionsOf a) s) c) ≤ settledAt e a s c
   unfolding pageOf
   T-below =
-      below-T (S a (H .page-sound)) (E a (H .page-sound)) (unknownByDefault (pageOf a)) e (held (conditionsOf a) s) (H .within) (held (conditionsOf a) s) (λ b i. refl) (H .below) c l
+      below-T (S a (H .page-solvable)) (E a (H .page-solvable)) (unknownByDefault (pageOf a)) e (held (conditionsOf a) s) (H .within) (held (conditionsOf a) s) (λ b i. refl) (H .below) c l
       (H .capped c l r)
 
   pub rests-by : ((j : ℕ) → j < countOf a → (p : Interval) → lineBody (topOf a) (held (conditionsOf a) s) c (lineAt (drop (placeOf a j) a)) ≡ p ∷ [] → endOf e p ≤ endOf e (held (conditionsOf a) s c))
@@ -102,7 +103,7 @@ module _ {e : End} {a : List ℕ} {m : List Bool} {s : List ℕ} (H : Half e a m
   rests-by b =
       by-bool (staysAt e a c)
       (λ f. omega (arith, T-below, settled-stays (conditionsOf a) (topOf a) (T (pageOf a)) (unknownByDefault (pageOf a)) e (held (conditionsOf a) s) c f))
-      (λ f. body-most e a (H .page-sound) (held (conditionsOf a) s) c (endOf e (held (conditionsOf a) s c)) b (λ z. omega (arith, bodyless-end e a c f)))
+      (λ f. body-most e a (H .page-solvable) (held (conditionsOf a) s) c (endOf e (held (conditionsOf a) s c)) b (λ z. omega (arith, bodyless-end e a c f)))
 
 -- the line at a place, whose head is h
 module _ (e : End) (a : List ℕ) (m : List Bool) (s : List ℕ) (at : ℕ) (H : Half e a m s) (x : LineIn a at) where
@@ -165,7 +166,7 @@ module _ (e : End) (a : List ℕ) (m : List Bool) (s : List ℕ) (at : ℕ) (H :
           omega (
             arith,
             q .2,
-            body-has e a (H .page-sound) (held n s) h (x .number) (x .in-count) (q .0) (moved-to (held n s) h (q .0) (q .1)),
+            body-has e a (H .page-solvable) (held n s) h (x .number) (x .in-count) (q .0) (moved-to (held n s) h (q .0) (q .1)),
             T-below H h real reached,
           )
 
@@ -194,7 +195,7 @@ module _ (e : End) (a : List ℕ) (m : List Bool) (s : List ℕ) (at : ℕ) (H :
       stayed′ c l f = else′ c (λ z. goes (subst (λ (b : ℕ). staysAt e a b ≡ true) z f))
 
       settled-same : (c : ℕ) → c < n → settledAt e a s′ c ≡ settledAt e a s c
-      settled-same c l = settled-others (S a (H .page-sound)) (E a (H .page-sound)) (unknownByDefault (pageOf a)) e (held n s′) (held n s) to-others stayed′ c l
+      settled-same c l = settled-others (S a (H .page-solvable)) (E a (H .page-solvable)) (unknownByDefault (pageOf a)) e (held n s′) (held n s) to-others stayed′ c l
 
       rises′ : (c : ℕ) → c < n → endOf e (held n s c) ≤ endOf e (held n s′ c)
       rises′ = by-head (λ c. endOf e (held n s c) ≤ endOf e (held n s′ c)) (omega (arith, here)) (λ c l z. omega (arith, else′ c z))
@@ -202,7 +203,7 @@ module _ (e : End) (a : List ℕ) (m : List Bool) (s : List ℕ) (at : ℕ) (H :
       half′ : Half e a m s′
       half′ =
           record {
-            page-sound = H .page-sound;
+            page-solvable = H .page-solvable;
             long = rw length-set (H .long);
             marked = H .marked;
             shut = H .shut;
@@ -213,7 +214,7 @@ module _ (e : End) (a : List ℕ) (m : List Bool) (s : List ℕ) (at : ℕ) (H :
             below = λ c l. by-head (λ c. endOf e (held n s′ c) ≤ settledAt e a s′ c) (omega (arith, here, v-below, settled-same h real)) (λ c l z. omega (arith, else′ c z, settled-same c l, H .below c l)) c l;
             capped = λ c l r f. omega (
               arith,
-              ap (endOf e) (settled-T (S a (H .page-sound)) (E a (H .page-sound)) (unknownByDefault (pageOf a)) e (held n s′) (held n s) to-others stayed′ c l),
+              ap (endOf e) (settled-T (S a (H .page-solvable)) (E a (H .page-solvable)) (unknownByDefault (pageOf a)) e (held n s′) (held n s) to-others stayed′ c l),
               H .capped c l r f,
               stayed′ c l f,
             );
@@ -241,7 +242,7 @@ module _ (e : End) (a : List ℕ) (m : List Bool) (s : List ℕ) (at : ℕ) (H :
 
       covered′ : Covered e a m s s′ at
       covered′ c l r g p d =
-          let q = line-level n (topOf a) e (held n s′) (held n s) (lineAt (drop at a)) (line-ranged a (H .page-sound) x) c g to-others d in
+          let q = line-level n (topOf a) e (held n s′) (held n s) (lineAt (drop at a)) (line-ranged a (H .page-solvable) x) c g to-others d in
           let y = adds-v c (q .0) (q .1) in
           rw (y .0) (omega (arith, q .2, y .1, here))
 
@@ -267,8 +268,8 @@ module _ (e : End) (a : List ℕ) (m : List Bool) (s : List ℕ) (at : ℕ) (H :
 
   pub facts : Facts
   facts =
-      let k = head-of a (H .page-sound) in
-      record { four = line-entry a (H .page-sound) x .four; head = k .four; real = line-head a (H .page-sound) x; few = k .few; long = H .long; marked = H .marked }
+      let k = head-of a (H .page-solvable) in
+      record { four = line-entry a (H .page-solvable) x .four; head = k .four; real = line-head a (H .page-solvable) x; few = k .few; long = H .long; marked = H .marked }
 
   pub line-here : getD a (at + 1) 0 ≤ 5 → LineOf a h at
   line-here l = record { number = x .number; in-count = x .in-count; place = x .place; head = refl; body = l }
@@ -302,4 +303,4 @@ module _ (e : End) (a : List ℕ) (m : List Bool) (s : List ℕ) (at : ℕ) (H :
         pub raised-here : member m h ≡ true → getD s (base + 2 * h) 0 < v → Raised e a m at s (set s (base + 2 * h) v) true
         raised-here r l =
             subst (λ (b : ℕ). Raised e a m at s (set s (b + 2 * h) v) true) (sym q)
-            (raised-up on-table (line-head a (H .page-sound) x) r (rw (end-at n s e h, ← q) l))
+            (raised-up on-table (line-head a (H .page-solvable) x) r (rw (end-at n s e h, ← q) l))

@@ -50,8 +50,8 @@ module _ (e : End) (a : List ℕ) (m : List Bool) where
         moves = v .moves;
         rests = q;
         ends = λ c l r.
-            settled-at (S a (h .page-sound)) (E a (h .page-sound)) (unknownByDefault (pageOf a)) e (held n s) (h .within) (h .shut) (held n s) (λ b i. refl) (λ b i f. refl) (h .below) q c l r
-            ∙ settled-others (S a (h .page-sound)) (E a (h .page-sound)) (unknownByDefault (pageOf a)) e (held n s) (held n s₀) (v .steady .others) (v .steady .stayed) c l;
+            settled-at (S a (h .page-solvable)) (E a (h .page-solvable)) (unknownByDefault (pageOf a)) e (held n s) (h .within) (h .shut) (held n s) (λ b i. refl) (λ b i f. refl) (h .below) q c l r
+            ∙ settled-others (S a (h .page-solvable)) (E a (h .page-solvable)) (unknownByDefault (pageOf a)) e (held n s) (held n s₀) (v .steady .others) (v .steady .stayed) c l;
       }
 
   -- if a sweep raised nothing, T makes no more of any

@@ -9,9 +9,9 @@ use native.Mathlib.Omega.{arith}
 use lib.Dec.{eqb}
 use lib.ListN.{length, getD, take, drop}
 use borrow.Author.Tests.{eq-eqb, eqb-true}
-use Rattle.semantics.specs.Area.{sound, pageOf, conditionsOf}
+use Rattle.semantics.specs.Area.{pageOf, conditionsOf}
 use Rattle.semantics.specs.Grade.{End}
-use Rattle.semantics.proofs.Soundness.{sound-proper, both-true}
+use Rattle.semantics.proofs.Soundness.{both-true}
 use Rattle.semantics.proofs.Table.{or-cases}
 use Rattle.page.proofs.Head.{head-of}
 use Rattle.bits.specs.Words.{has, Inserted}
@@ -22,6 +22,8 @@ use Rattle.index.proofs.Grouped.{group-within}
 use Rattle.index.proofs.Parts.{has-lines, has-users}
 use Rattle.index.proofs.Readers.{reads-below}
 use Rattle.settle.specs.Waiting.{WaitSet, HeadsWait, Woken, Indexed, MaybeIndexed}
+use Rattle.page.specs.Solvable.{solvable}
+use Rattle.page.proofs.Solvable.{solvable-proper}
 
 -- heads join the set one after the other
 module _ (heads : List ℕ) (from to : ℕ) (words₀ : List ℕ) where
@@ -63,7 +65,7 @@ module _ (heads : List ℕ) (from to : ℕ) (words₀ : List ℕ) where
   waking-last {words} {i} v l = let q : i ≡ to = omega (arith, v .within) in subst (λ (x : ℕ). HeadsWait heads from x words₀ words) q (v .woken)
 
 -- the parts of an index as the code takes them
-module _ (a : List ℕ) (ok : sound a ≡ true) where
+module _ (a : List ℕ) (ok : solvable a ≡ true) where
   abbrev n : ℕ
   n = conditionsOf a
 

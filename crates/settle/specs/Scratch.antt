@@ -11,7 +11,7 @@ use Prim.Native.Nat.{ℕ, _+_, _*_, _-_, _≤_, _<_}
 use lib.ListN.{length, getD, take, drop}
 use Rattle.fixpoint.specs.Interval.{Interval, Within, Assign}
 use Rattle.fixpoint.specs.ChaoticIteration.{DependencyClosed}
-use Rattle.semantics.specs.Area.{sound, lineAt, pageOf, topOf, conditionsOf}
+use Rattle.semantics.specs.Area.{lineAt, pageOf, topOf, conditionsOf}
 use Rattle.semantics.specs.Body.{lineBody, T, unknownByDefault}
 use Rattle.semantics.specs.Grade.{End, lower, upper, rounding}
 use Rattle.semantics.specs.Page.{names}
@@ -20,6 +20,7 @@ use Rattle.index.specs.Readers.{linesRead}
 use Rattle.page.specs.Places.{LineIn}
 use Rattle.value.specs.Table.{endOf, other}
 use Rattle.settle.specs.Ends.{stays, settledAll, settledEnd, room}
+use Rattle.page.specs.Solvable.{solvable}
 
 -- where the table of an end begins, and the table
 abbrev pub baseOf : ℕ → End → ℕ
@@ -55,7 +56,7 @@ CappedAt e a s c =
 
 -- a half under way: grades, the negations of the other ends, no end above what it comes to, and no line that would raise an end that stays
 pub record Half (e : End) (a : List ℕ) (m : List Bool) (s : List ℕ) : Type 0 where
-  pub page-sound : sound a ≡ true
+  pub page-solvable : solvable a ≡ true
   pub long : 4 * conditionsOf a ≤ length s
   pub marked : conditionsOf a ≤ length m
   pub shut : DependencyClosed (conditionsOf a) (names (pageOf a)) (member m)

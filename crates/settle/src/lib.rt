@@ -3,12 +3,13 @@ ghost use mathlib.Core.Path.{_≡_};
 ghost use mathlib.Core.Bool.{true};
 ghost use Prim.Native.Nat.{ℕ, _+_, _*_, _≤_, _<_};
 ghost use lib.ListN.{length, getD};
-ghost use Rattle.semantics.specs.Area.{sound, conditionsOf, countOf};
+ghost use Rattle.semantics.specs.Area.{conditionsOf, countOf};
 ghost use Rattle.page.specs.Places.{placeOf, LineIn};
 ghost use Rattle.index.specs.Parts.{Lines, Users};
 ghost use Rattle.value.specs.Table.{side};
 ghost use Rattle.settle.specs.Scratch.{baseOf, FiguresOf, Half, Raised, Lookable, Looked, Settled};
 ghost use Rattle.settle.specs.Waiting.{WaitSet, HeadsWait, Woken, Waiting, MaybeIndexed};
+ghost use Rattle.page.specs.Solvable.{solvable};
 use value::End;
 
 // Where the table of an end begins.
@@ -31,7 +32,7 @@ struct Figures {
 
 // The figures of a page at an end.
 fn figures_of(a: &[u16], end: End) -> Figures
-    requires { ⌜ sound (now a) ≡ true ⌝ }
+    requires { ⌜ solvable (now a) ≡ true ⌝ }
     ensures { λ r. ⌜ FiguresOf (side end) (now (a .entry)) (r .n) (r .base) (r .add) ⌝ }
 {
     let n = a[1] as usize;
@@ -161,7 +162,7 @@ fn wake_heads(words: &mut [u64], heads: &[u16], from: usize, to: usize)
 
 // The heads of the rules that have the literal `code` wait; the first `base` numbers of the index say where each group begins.
 fn wake_group(a: &[u16], users: &[u16], base: usize, words: &mut [u64], code: u16)
-    requires { ⌜ (sound (now a) ≡ true) × Users (now a) (now users) × (code < 2 * conditionsOf (now a)) × WaitSet (conditionsOf (now a)) (now words) × (base ≡ 2 * conditionsOf (now a) + 1) ⌝ }
+    requires { ⌜ (solvable (now a) ≡ true) × Users (now a) (now users) × (code < 2 * conditionsOf (now a)) × WaitSet (conditionsOf (now a)) (now words) × (base ≡ 2 * conditionsOf (now a) + 1) ⌝ }
     ensures { λ _. ⌜ Woken (now (a .entry)) code (now (words .entry)) (now (words .exit)) ⌝ }
 {
     let start = &users[0..base];
@@ -172,7 +173,7 @@ fn wake_group(a: &[u16], users: &[u16], base: usize, words: &mut [u64], code: u1
 
 // The same, where `base` is not at hand.
 pub fn wake(a: &[u16], users: &[u16], words: &mut [u64], code: u16)
-    requires { ⌜ (sound (now a) ≡ true) × Users (now a) (now users) × (code < 2 * conditionsOf (now a)) × WaitSet (conditionsOf (now a)) (now words) ⌝ }
+    requires { ⌜ (solvable (now a) ≡ true) × Users (now a) (now users) × (code < 2 * conditionsOf (now a)) × WaitSet (conditionsOf (now a)) (now words) ⌝ }
     ensures { λ _. ⌜ Woken (now (a .entry)) code (now (words .entry)) (now (words .exit)) ⌝ }
 {
     wake_group(a, users, 2 * a[1] as usize + 1, words, code);

@@ -11,7 +11,7 @@ use lib.Seq.{getD-take}
 use Rattle.fixpoint.specs.KnowledgeOrder.{Alike}
 use Rattle.fixpoint.proofs.Cond.{by-bool, cond-true, cond-false}
 use Rattle.fixpoint.proofs.KnowledgeOrder.{pair-eq}
-use Rattle.semantics.specs.Area.{sound, pageOf, topOf, conditionsOf}
+use Rattle.semantics.specs.Area.{pageOf, topOf, conditionsOf}
 use Rattle.semantics.specs.Body.{T}
 use Rattle.semantics.specs.Grade.{lower, upper}
 use Rattle.semantics.specs.Table.{member, anyBelow}
@@ -34,6 +34,7 @@ use Rattle.stages.proofs.Assignments.{low-eq, high-eq}
 use Rattle.stages.proofs.Notes.{no-later}
 use Rattle.stages.proofs.PageStages.{stage-rises, stage-falls, next-at}
 use Rattle.stages.proofs.Supporting.{zeros, none-in}
+use Rattle.page.specs.Solvable.{solvable}
 
 -- reached and free, or not
 both : (x y : Bool) → x ≡ true → y ≡ true → (x && y) ≡ true
@@ -62,8 +63,8 @@ module _ {a : List ℕ} {m : List Bool} {users tops : List ℕ} {k : ℕ} {s low
   abbrev n : ℕ
   n = conditionsOf a
 
-  ok : sound a ≡ true
-  ok = b .tables .page-sound
+  ok : solvable a ≡ true
+  ok = b .tables .page-solvable
 
   few : n ≤ 512
   few = head-of a ok .few
@@ -83,7 +84,7 @@ module _ {a : List ℕ} {m : List Bool} {users tops : List ℕ} {k : ℕ} {s low
   pub advance-notable : Notable a m s zeros
   advance-notable =
       record {
-        page-sound = ok;
+        page-solvable = ok;
         long = b .tables .long;
         marked = b .tables .marked;
         grades = grades-of lower (topOf a) n (held n s) (take (2 * n) s) (simp length-take (omega (arith, b .tables .long))) (λ c l. b .tables .within c l .low-in) low-table;
@@ -91,7 +92,7 @@ module _ {a : List ℕ} {m : List Bool} {users tops : List ℕ} {k : ℕ} {s low
       }
 
   pub advance-places : Places a m tops
-  advance-places = record { page-sound = ok; marked = b .tables .marked; long = b .tops-in .known }
+  advance-places = record { page-solvable = ok; marked = b .tables .marked; long = b .tops-in .known }
 
   pub advance-table : HighTable a s
   advance-table = record { long = b .tables .long; within = b .tables .within; negated = b .tables .over-low }
@@ -163,7 +164,7 @@ module _ {a : List ℕ} {m : List Bool} {users tops : List ℕ} {k : ℕ} {s low
       pub highs-ready : {look lows₁ : List ℕ} → MaybeUsers a users → WaitSet n look → WaitSet n lows₁ → HighsReady a users m tops′ s₁ look lows₁
       highs-ready u x y =
           record {
-            page-sound = ok;
+            page-solvable = ok;
             users-in = u;
             long = omega (arith, b .tables .long, v .noting .same-length);
             marked = b .tables .marked;
@@ -217,7 +218,7 @@ module _ {a : List ℕ} {m : List Bool} {users tops : List ℕ} {k : ℕ} {s low
         pub advance-comparable : Comparable a s₂
         advance-comparable =
             record {
-              page-sound = ok;
+              page-solvable = ok;
               long = omega (arith, b .tables .long, v .noting .same-length, h .same-length);
               within = λ c l. omega (arith, low₂ c l, b .tables .within c l .low-in);
             }
@@ -233,7 +234,7 @@ module _ {a : List ℕ} {m : List Bool} {users tops : List ℕ} {k : ℕ} {s low
         pub take-ready : {look₂ : List ℕ} → MaybeUsers a users → WaitSet n look₂ → TakeReady a users s₂ moved lows₂ look₂
         take-ready u x =
             record {
-              page-sound = ok;
+              page-solvable = ok;
               users-in = u;
               long = advance-comparable .long;
               within = λ c l. omega (arith, h .negations c l, grade₁ c l);
@@ -254,7 +255,7 @@ module _ {a : List ℕ} {m : List Bool} {users tops : List ℕ} {k : ℕ} {s low
           tables₃ : Tables a m s₃
           tables₃ =
               record {
-                page-sound = ok;
+                page-solvable = ok;
                 long = omega (arith, advance-comparable .long, t .same-length);
                 marked = b .tables .marked;
                 shut = b .tables .shut;

@@ -8,11 +8,12 @@ use native.Mathlib.Omega.{arith}
 use lib.ListN.{length, getD, set, drop, length-set}
 use lib.Seq.{getD-set-same, getD-set-other, drop-set-lt}
 use Rattle.fixpoint.proofs.Cond.{cond-true, cond-false, cond-most}
-use Rattle.semantics.specs.Area.{sound, pageOf, topOf, conditionsOf}
+use Rattle.semantics.specs.Area.{pageOf, topOf, conditionsOf}
 use Rattle.semantics.specs.Table.{member}
-use Rattle.semantics.proofs.Soundness.{sound-proper}
 use Rattle.rounds.proofs.Starting.{upto}
 use Rattle.stages.specs.Steps.{freeAt, firstHigh, BegunAt, Begun, firstTop, TopsCopied}
+use Rattle.page.specs.Solvable.{solvable}
+use Rattle.page.proofs.Solvable.{solvable-proper}
 
 -- the high ends of the conditions before c
 module _ (a : List ℕ) (m : List Bool) (s : List ℕ) where
@@ -56,9 +57,9 @@ module _ (a : List ℕ) (m : List Bool) (s : List ℕ) where
 pub first-free : (a s : List ℕ) (c : ℕ) → freeAt a c ≡ true → topOf a ≡ firstTop a s c
 first-free a s c e = sym (cond-true (topOf a) (getD s (2 * conditionsOf a + 2 * c) 0) e)
 
-pub first-small : (a : List ℕ) → sound a ≡ true → (s : List ℕ) (c : ℕ) → getD s (2 * conditionsOf a + 2 * c) 0 ≤ 200 → firstTop a s c ≤ 200
+pub first-small : (a : List ℕ) → solvable a ≡ true → (s : List ℕ) (c : ℕ) → getD s (2 * conditionsOf a + 2 * c) 0 ≤ 200 → firstTop a s c ≤ 200
 unfolding pageOf
-first-small a ok s c h = cond-most (freeAt a c) (λ e. sound-proper a ok .top-most) (λ e. h)
+first-small a ok s c h = cond-most (freeAt a c) (λ e. solvable-proper a ok .top-most) (λ e. h)
 
 pub first-bound : (a s : List ℕ) (c : ℕ) → freeAt a c ≡ false → getD s (2 * conditionsOf a + 2 * c) 0 ≡ firstTop a s c
 first-bound a s c e = sym (cond-false (topOf a) (getD s (2 * conditionsOf a + 2 * c) 0) e)
@@ -69,7 +70,7 @@ module _ (a : List ℕ) (m : List Bool) (s₀ : List ℕ) where
   size = conditionsOf a
 
   pub record Beginning (s : List ℕ) (c : ℕ) : Type 0 where
-    pub page-sound : sound a ≡ true
+    pub page-solvable : solvable a ≡ true
     pub long : 4 * size ≤ length s
     pub marked : size ≤ length m
     pub within : c ≤ size
@@ -77,9 +78,9 @@ module _ (a : List ℕ) (m : List Bool) (s₀ : List ℕ) where
     pub beyond : drop (4 * size) s ≡ drop (4 * size) s₀
     pub each : (d : ℕ) → d < c → BegunAt a m s d
 
-  pub beginning-first : sound a ≡ true → 4 * size ≤ length s₀ → size ≤ length m → Beginning s₀ 0
+  pub beginning-first : solvable a ≡ true → 4 * size ≤ length s₀ → size ≤ length m → Beginning s₀ 0
   beginning-first ok h g =
-      record { page-sound = ok; long = h; marked = g; within = omega arith; same-length = refl; beyond = refl; each = λ d l. absurd (omega arith) }
+      record { page-solvable = ok; long = h; marked = g; within = omega arith; same-length = refl; beyond = refl; each = λ d l. absurd (omega arith) }
 
   module _ {s : List ℕ} {c : ℕ} (v : Beginning s c) (l : c < size) (y : ℕ) (q : y ≡ firstHigh a m c) where
     abbrev s₁ : List ℕ
@@ -135,7 +136,7 @@ module _ (a : List ℕ) (m : List Bool) (s₀ : List ℕ) where
     pub beginning-next : Beginning s₄ (c + 1)
     beginning-next =
         record {
-          page-sound = v .page-sound;
+          page-solvable = v .page-solvable;
           long = omega (arith, v .long, long₄);
           marked = v .marked;
           within = omega arith;

@@ -9,9 +9,8 @@ use native.Mathlib.Omega.{arith}
 use lib.ListN.{length, getD, drop}
 use Rattle.fixpoint.proofs.Cond.{by-bool, cond-true, cond-false}
 use Rattle.fixpoint.proofs.KnowledgeOrder.{pair-eq}
-use Rattle.semantics.specs.Area.{sound, pageOf, topOf, conditionsOf}
+use Rattle.semantics.specs.Area.{pageOf, topOf, conditionsOf}
 use Rattle.semantics.specs.Table.{member}
-use Rattle.semantics.proofs.Soundness.{sound-proper}
 use Rattle.rounds.specs.Round.{MarkedWait}
 use Rattle.rounds.proofs.Rounding.{all-lows}
 use Rattle.stages.specs.Counted.{CountReady, Counted}
@@ -19,6 +18,8 @@ use Rattle.stages.specs.Steps.{firstHigh, Begun, TopsCopied}
 use Rattle.stages.specs.Stages.{Tables, Tops, AtStage, Supported, Advanced}
 use Rattle.stages.proofs.Assignments.{high-eq}
 use Rattle.stages.proofs.PageStages.{stage-first, closed-in, MovingAt, moving-on, rounds-few, counted-here, counted-after}
+use Rattle.page.specs.Solvable.{solvable}
+use Rattle.page.proofs.Solvable.{solvable-proper}
 
 -- before the first round
 module _ {a : List ℕ} {m : List Bool} {s : List ℕ} (b : CountReady a m s) where
@@ -27,14 +28,14 @@ module _ {a : List ℕ} {m : List Bool} {s : List ℕ} (b : CountReady a m s) wh
 
   pub tops-small : (c : ℕ) → c < n → member m c ≡ true → getD s (2 * n + 2 * c) 0 ≤ 200
   unfolding pageOf
-  tops-small c l r = omega (arith, high-eq (b .reads-closed c l r), closed-in a (b .page-sound) m (b .shut) c l, sound-proper a (b .page-sound) .top-most)
+  tops-small c l r = omega (arith, high-eq (b .reads-closed c l r), closed-in a (b .page-solvable) m (b .shut) c l, solvable-proper a (b .page-solvable) .top-most)
 
   pub tops-are : {tops₀ tops : List ℕ} → TopsCopied a m s tops₀ tops → Tops a m 0 tops
   tops-are v =
       record {
         known = v .long;
         closed = λ c l r e. v .copied c l r ∙ cond-false (topOf a) (getD s (2 * n + 2 * c) 0) e ∙ high-eq (b .reads-closed c l r);
-        free = λ c l r e. v .copied c l r ∙ cond-true (topOf a) (getD s (2 * n + 2 * c) 0) e ∙ sym (high-eq (stage-first a (b .page-sound) m (b .shut) c));
+        free = λ c l r e. v .copied c l r ∙ cond-true (topOf a) (getD s (2 * n + 2 * c) 0) e ∙ sym (high-eq (stage-first a (b .page-solvable) m (b .shut) c));
       }
 
   module _ {s₁ : List ℕ} (v : Begun a m s s₁) where
@@ -44,7 +45,7 @@ module _ {a : List ℕ} {m : List Bool} {s : List ℕ} (b : CountReady a m s) wh
     tables : Tables a m s₁
     tables =
         record {
-          page-sound = b .page-sound;
+          page-solvable = b .page-solvable;
           long = omega (arith, b .long, v .same-length);
           marked = b .marked;
           shut = b .shut;
@@ -59,7 +60,7 @@ module _ {a : List ℕ} {m : List Bool} {s : List ℕ} (b : CountReady a m s) wh
         record {
           tables = tables;
           tops-in = p;
-          staged = λ c l r. pair-eq (v .each c l .low) (v .each c l .high ∙ cond-true (topOf a) 0 r) ∙ sym (stage-first a (b .page-sound) m (b .shut) c);
+          staged = λ c l r. pair-eq (v .each c l .low) (v .each c l .high ∙ cond-true (topOf a) 0 r) ∙ sym (stage-first a (b .page-solvable) m (b .shut) c);
           look-in = w .set;
           spread = inl w;
           whole = λ e. inl w;
@@ -72,7 +73,7 @@ pub record Rounding (a : List ℕ) (m : List Bool) (users tops₀ tops s₀ s lo
   pub beyond : drop (4 * conditionsOf a) s ≡ drop (4 * conditionsOf a) s₀
   pub size : length tops ≡ length tops₀
   pub at : AtStage a m users tops k s look lows
-  pub moving : MovingAt a (at .tables .page-sound) m (at .tables .shut) k
+  pub moving : MovingAt a (at .tables .page-solvable) m (at .tables .shut) k
 
 pub rounding-first : {a : List ℕ} {m : List Bool} {users tops s look lows : List ℕ} → AtStage a m users tops 0 s look lows → Rounding a m users tops tops s s look lows 0
 rounding-first v = record { same-length = refl; beyond = refl; size = refl; at = v; moving = λ j l. absurd (omega arith) }
@@ -82,8 +83,8 @@ pub counted-from : {a : List ℕ} {m : List Bool} {s s₀ s′ : List ℕ} {k : 
 counted-from v e f = record { same-length = v .same-length ∙ e; beyond = v .beyond ∙ f; is-count = v .is-count }
 
 module _ {a : List ℕ} {m : List Bool} {users tops₀ tops s₀ s look lows : List ℕ} {k : ℕ} (v : Rounding a m users tops₀ tops s₀ s look lows k) where
-  ok : sound a ≡ true
-  ok = v .at .tables .page-sound
+  ok : solvable a ≡ true
+  ok = v .at .tables .page-solvable
 
   pub rounds-small : k ≤ 102400
   rounds-small = rounds-few a ok m (v .at .tables .shut) k (v .moving)

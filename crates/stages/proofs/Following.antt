@@ -9,7 +9,7 @@ use native.Mathlib.Omega.{arith}
 use lib.ListN.{length, getD, set, drop, length-set}
 use lib.Seq.{getD-set-same, getD-set-other, drop-set-lt}
 use Rattle.fixpoint.proofs.KnowledgeOrder.{pair-eq}
-use Rattle.semantics.specs.Area.{sound, pageOf, topOf, conditionsOf}
+use Rattle.semantics.specs.Area.{pageOf, topOf, conditionsOf}
 use Rattle.page.proofs.Head.{head-of}
 use Rattle.bits.specs.Words.{has, Removed, AnyIn}
 use Rattle.index.specs.Parts.{MaybeUsers}
@@ -19,13 +19,14 @@ use Rattle.settle.specs.Waiting.{WaitSet}
 use Rattle.rounds.specs.Round.{LowsBegun, Renegated, Woke}
 use Rattle.stages.specs.Steps.{FollowReady}
 use Rattle.settle.proofs.Members.{waiters, else-same, gone, rest-in, fewer, any-real}
+use Rattle.page.specs.Solvable.{solvable}
 
 -- the number of a negation
 abbrev overHigh : (a s : List ℕ) → ℕ → ℕ
 overHigh a s d = topOf a - getD s (2 * conditionsOf a + 2 * d) 0
 
 pub record Following (a users s₀ s lowered lows₀ lows : List ℕ) (c : ℕ) : Type 0 where
-  pub page-sound : sound a ≡ true
+  pub page-solvable : solvable a ≡ true
   pub users-in : MaybeUsers a users
   pub long : 4 * conditionsOf a ≤ length s
   pub grades : (d : ℕ) → d < conditionsOf a → getD s₀ (2 * conditionsOf a + 2 * d) 0 ≤ topOf a
@@ -44,7 +45,7 @@ pub record Following (a users s₀ s lowered lows₀ lows : List ℕ) (c : ℕ) 
 pub following-first : {a users s lowered lows : List ℕ} {c : ℕ} → FollowReady a users s lowered lows → AnyIn lowered c → Following a users s s lowered lows lows c
 following-first h y =
     record {
-      page-sound = h .page-sound;
+      page-solvable = h .page-solvable;
       users-in = h .users-in;
       long = h .long;
       grades = h .within;
@@ -66,7 +67,7 @@ module _ {a users s₀ s lowered lows₀ lows : List ℕ} {c : ℕ} (v : Followi
   n = conditionsOf a
 
   few : n ≤ 512
-  few = head-of a (v .page-sound) .few
+  few = head-of a (v .page-solvable) .few
 
   pub following-last : 512 ≤ c → LowsBegun a s₀ s × Woke a users s₀ s lows₀ lows
   following-last l =
@@ -126,7 +127,7 @@ module _ {a users s₀ s lowered lows₀ lows : List ℕ} {c : ℕ} (v : Followi
                 | inr g ↦ inr (λ d l q e. elim (ℕ-discrete d c) [
                   | yes z ↦ λ h k. g (λ y. e (subst (λ (j : ℕ). getD s₀ (2 * j + 1) 0 ≡ overHigh a s₀ j) (sym z) (sym (v .todo c following-real (v .any .found small)) ∙ y ∙ unfold number in number-is))) h
                       (subst (λ (j : ℕ). linesRead (2 * j + 1) (pageOf a .lines) h ≡ true) z k)
-                  | no z ↦ λ h k. r .kept h (omega (arith, few, reads-below a (v .page-sound) (2 * d + 1) h k)) (f d l (sym (was d l z) ∙ q) e h k)
+                  | no z ↦ λ h k. r .kept h (omega (arith, few, reads-below a (v .page-solvable) (2 * d + 1) h k)) (f d l (sym (was d l z) ∙ q) e h k)
                 ])
               ]
             ]
@@ -134,7 +135,7 @@ module _ {a users s₀ s lowered lows₀ lows : List ℕ} {c : ℕ} (v : Followi
         pub following-next : {c′ : ℕ} → AnyIn lowered₁ c′ → Following a users s₀ s′ lowered₁ lows₀ lows′ c′
         following-next y =
             record {
-              page-sound = v .page-sound;
+              page-solvable = v .page-solvable;
               users-in = v .users-in;
               long = omega (arith, ap length stored, length-set s (2 * c + 1) number, v .long);
               grades = v .grades;

@@ -44,7 +44,7 @@ pub record Freeing (a users : List ℕ) (m : List Bool) (tops s₀ s look₀ loo
 pub freeing-first : {a users : List ℕ} {m : List Bool} {tops s look lowered : List ℕ} → LowerReady a users m tops s look lowered → Nobody lowered
     → Freeing a users m tops s s look look lowered false 0
 freeing-first {a} h z =
-    let few = head-of a (h .page-sound) .few in
+    let few = head-of a (h .page-solvable) .few in
     record {
       ready = h;
       within = omega arith;
@@ -65,7 +65,7 @@ module _ {a users : List ℕ} {m : List Bool} {tops s₀ s look₀ look lowered 
   n = conditionsOf a
 
   few : n ≤ 512
-  few = head-of a (v .ready .page-sound) .few
+  few = head-of a (v .ready .page-solvable) .few
 
   pub freeing-last : n ≤ c → FreeLowered a users m tops s₀ s look₀ look lowered fell
   freeing-last l =
@@ -144,7 +144,7 @@ module _ {a users : List ℕ} {m : List Bool} {tops s₀ s look₀ look lowered 
                 | inl z ↦ inl z
                 | inr g ↦ inr (λ d i q h e. elim (ℕ-discrete d c) [
                   | yes z ↦ g h (subst (λ (j : ℕ). linesRead (2 * j) (pageOf a .lines) h ≡ true) z e)
-                  | no z ↦ k .kept h (omega (arith, few, reads-below a (v .ready .page-sound) (2 * d) h e)) (f d i (sym (was d i z) ∙ q) h e)
+                  | no z ↦ k .kept h (omega (arith, few, reads-below a (v .ready .page-solvable) (2 * d) h e)) (f d i (sym (was d i z) ∙ q) h e)
                 ])
               ]
             ]
@@ -153,7 +153,7 @@ module _ {a users : List ℕ} {m : List Bool} {tops s₀ s look₀ look lowered 
         falls e =
             record {
               ready = record {
-                page-sound = v .ready .page-sound;
+                page-solvable = v .ready .page-solvable;
                 users-in = v .ready .users-in;
                 long = omega (arith, v .ready .long, same-long);
                 marked = v .ready .marked;
@@ -199,7 +199,7 @@ module _ {a users : List ℕ} {m : List Bool} {tops s look lows : List ℕ} (b :
   pub free-ready : LowerReady a users m tops s look zeros
   free-ready =
       record {
-        page-sound = b .page-sound;
+        page-solvable = b .page-solvable;
         users-in = b .users-in;
         long = b .long;
         marked = b .marked;
@@ -234,7 +234,7 @@ module _ {a users : List ℕ} {m : List Bool} {tops s look lows : List ℕ} (b :
     pub highs-follow : FollowReady a users s₁ lowered lows
     highs-follow =
         record {
-          page-sound = b .page-sound;
+          page-solvable = b .page-solvable;
           users-in = b .users-in;
           long = omega (arith, b .long, v .same-length);
           within = λ c l. ⊎-elim (λ y. omega (arith, y .same, b .within c l)) (λ y. omega (arith, y .0 .fallen, y .0 .over, b .within c l)) (v .each c l);

@@ -59,7 +59,7 @@ pub record Lowering (a users : List ℕ) (m : List Bool) (tops s₀ s look₀ lo
 pub lowering-first : {a users : List ℕ} {m : List Bool} {tops s look lowered : List ℕ} {c : ℕ} → LowerReady a users m tops s look lowered → Nobody lowered
     → Whole users (conditionsOf a) m look → AnyIn look c → Lowering a users m tops s s look look lowered false c
 lowering-first {a} h z w y =
-    let few = head-of a (h .page-sound) .few in
+    let few = head-of a (h .page-solvable) .few in
     record {
       ready = h;
       whole = w;
@@ -80,7 +80,7 @@ module _ {a users : List ℕ} {m : List Bool} {tops s₀ s look₀ look lowered 
   n = conditionsOf a
 
   few : n ≤ 512
-  few = head-of a (v .ready .page-sound) .few
+  few = head-of a (v .ready .page-solvable) .few
 
   pub lowering-last : 512 ≤ c → Lowered a m tops s₀ s look₀ look lowered fell
   lowering-last l =
@@ -106,7 +106,7 @@ module _ {a users : List ℕ} {m : List Bool} {tops s₀ s look₀ look lowered 
       pub lowering-ready : LowerReady a users m tops s look₁ lowered
       lowering-ready =
           record {
-            page-sound = v .ready .page-sound;
+            page-solvable = v .ready .page-solvable;
             users-in = v .ready .users-in;
             long = v .ready .long;
             marked = v .ready .marked;
@@ -197,7 +197,7 @@ module _ {a users : List ℕ} {m : List Bool} {tops s₀ s look₀ look lowered 
         lowering-falls e y =
             record {
               ready = record {
-                page-sound = v .ready .page-sound;
+                page-solvable = v .ready .page-solvable;
                 users-in = v .ready .users-in;
                 long = omega (arith, v .ready .long, same-long);
                 marked = v .ready .marked;

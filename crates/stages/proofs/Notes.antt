@@ -9,7 +9,7 @@ use native.Mathlib.Omega.{arith}
 use lib.ListN.{length, getD, set, take, drop, length-set}
 use lib.Seq.{getD-set-same, getD-set-other, drop-set-lt, take-set-le}
 use Rattle.fixpoint.specs.Interval.{Interval, Assign}
-use Rattle.semantics.specs.Area.{sound, firstLine, lineAt, pageOf, topOf, conditionsOf, countOf}
+use Rattle.semantics.specs.Area.{firstLine, lineAt, pageOf, topOf, conditionsOf, countOf}
 use Rattle.semantics.specs.Body.{lineBody, T}
 use Rattle.semantics.specs.Grade.{lower}
 use Rattle.semantics.specs.Table.{member}
@@ -31,6 +31,7 @@ use Rattle.settle.proofs.Members.{waiters, else-same, rest-in, fewer, any-real,
 use Rattle.settle.proofs.Raising.{line-entry, line-head}
 use Rattle.rounds.specs.Round.{past}
 use Rattle.stages.specs.Steps.{ahead, seen, Notable, RisesAt, Noting, Covers, NotedAt, Noted, Ahead, AllNoted, LowsRest}
+use Rattle.page.specs.Solvable.{solvable}
 
 module _ (a : List ℕ) (m : List Bool) where
   abbrev n : ℕ
@@ -49,7 +50,7 @@ module _ (a : List ℕ) (m : List Bool) where
     pub notable-on : Notable a m s moved → Notable a m s′ moved′
     notable-on h =
         record {
-          page-sound = h .page-sound;
+          page-solvable = h .page-solvable;
           long = omega (arith, h .long, v .same-length);
           marked = h .marked;
           grades = subst (Grades (topOf a) n) (sym (v .table)) (h .grades);
@@ -137,10 +138,10 @@ module _ (a : List ℕ) (m : List Bool) (s moved : List ℕ) (at : ℕ) (H : Not
       s′ = set s (2 * size + (2 * h + 1)) (topOf a - v)
 
       real : h < size
-      real = line-head a (H .page-sound) x
+      real = line-head a (H .page-solvable) x
 
       small : size ≤ 512
-      small = head-of a (H .page-sound) .few
+      small = head-of a (H .page-solvable) .few
 
       here : getD s′ (2 * size + (2 * h + 1)) 0 ≡ topOf a - v
       here = getD-set-same s (2 * size + (2 * h + 1)) (topOf a - v) 0 (omega (arith, H .long, real))
@@ -148,7 +149,7 @@ module _ (a : List ℕ) (m : List Bool) (s moved : List ℕ) (at : ℕ) (H : Not
       below′ : ahead a s′ h ≤ T (pageOf a) (seen a s) h .low
       below′ =
           let q = line-adds in
-          omega (arith, here, w .grade, q .2, body-has lower a (H .page-sound) (seen a s) h (x .number) (x .in-count) (q .0) (moved-to h (q .0) (q .1)))
+          omega (arith, here, w .grade, q .2, body-has lower a (H .page-solvable) (seen a s) h (x .number) (x .in-count) (q .0) (moved-to h (q .0) (q .1)))
 
       up : Noting a m s s′ moved moved′
       up =
@@ -178,8 +179,8 @@ module _ (a : List ℕ) (m : List Bool) (s moved : List ℕ) (at : ℕ) (H : Not
 
   pub facts : Facts
   facts =
-      let k = head-of a (H .page-sound) in
-      record { four = line-entry a (H .page-sound) x .four; head = k .four; in-range = line-head a (H .page-sound) x; few = k .few; long = H .long; marked = H .marked }
+      let k = head-of a (H .page-solvable) in
+      record { four = line-entry a (H .page-solvable) x .four; head = k .four; in-range = line-head a (H .page-solvable) x; few = k .few; long = H .long; marked = H .marked }
 
   pub line-here : getD a (at + 1) 0 ≤ 5 → LineOf a h at
   line-here l = record { number = x .number; in-count = x .in-count; place = x .place; head = refl; body = l }
@@ -285,7 +286,7 @@ module _ {a : List ℕ} {m : List Bool} {s₀ s moved₀ moved : List ℕ} {at k
   page-last l = let q : k ≡ countOf a = omega (arith, v .in-count) in subst (λ (x : ℕ). Noted a m (placeOf a) 0 x s₀ s moved₀ moved) q (v .noted)
 
 -- all lines noted: T makes no more of any
-pub page-noted : {a : List ℕ} {m : List Bool} {s s′ moved moved′ : List ℕ} → sound a ≡ true → Noted a m (placeOf a) 0 (countOf a) s s′ moved moved′ → AllNoted a m s s′ moved moved′
+pub page-noted : {a : List ℕ} {m : List Bool} {s s′ moved moved′ : List ℕ} → solvable a ≡ true → Noted a m (placeOf a) 0 (countOf a) s s′ moved moved′ → AllNoted a m s s′ moved moved′
 page-noted {a} {m} {s} {s′} ok v =
     record {
       noting = v .noting;
@@ -307,7 +308,7 @@ waiting-first {a} {m} g h w r y = record { groups = g; notable = h; noting = not
 
 module _ {a : List ℕ} {m : List Bool} {first places : List ℕ} {s₀ s moved₀ moved lows : List ℕ} {c : ℕ} (v : NotingWaiting a m first places s₀ s moved₀ moved lows c) where
   pub waiting-few : conditionsOf a ≤ 512
-  waiting-few = head-of a (v .notable .page-sound) .few
+  waiting-few = head-of a (v .notable .page-solvable) .few
 
   pub waiting-last : 512 ≤ c → AllNoted a m s₀ s moved₀ moved × WaitSet (conditionsOf a) lows
   waiting-last l = (
@@ -320,7 +321,7 @@ module _ {a : List ℕ} {m : List Bool} {first places : List ℕ} {s₀ s moved�
     waiting-real = any-real (v .lows-in) (v .any) small
 
     pub waiting-group : Lookable a places (getD first c 0) (getD first (c + 1) 0)
-    waiting-group = group-lookable a first places (v .notable .page-sound) (v .groups) c waiting-real
+    waiting-group = group-lookable a first places (v .notable .page-solvable) (v .groups) c waiting-real
 
     module _ (lows₁ : List ℕ) (x : Removed c lows lows₁) where
       pub waiting-less : {c′ : ℕ} → AnyIn lows₁ c′ → waiters lows₁ < waiters lows
@@ -329,7 +330,7 @@ module _ {a : List ℕ} {m : List Bool} {first places : List ℕ} {s₀ s moved�
       module _ {s′ moved′ : List ℕ} (r : Noted a m (λ i. getD places i 0) (getD first c 0) (getD first (c + 1) 0) s s′ moved moved′) where
         rests-c : member m c ≡ true → Ahead a s₀ s′ c
         rests-c q =
-            body-most lower a (v .notable .page-sound) (seen a s₀) c (ahead a s′ c)
+            body-most lower a (v .notable .page-solvable) (seen a s₀) c (ahead a s′ c)
             (λ j u p d.
             let y = v .groups .every c (placeOf a j) waiting-real (line-of (topOf a) (seen a s₀) c a j u d) in
             covers-after a m (v .noting) s′ (getD places (y .0) 0) (r .covers (y .0) (y .1) (y .2)) c waiting-real q p

@@ -16,14 +16,13 @@ use Rattle.fixpoint.proofs.KnowledgeOrder.{pair-eq}
 use Rattle.fixpoint.proofs.PlainReading.{operator}
 use Rattle.fixpoint.proofs.Sum.{sum-le, sum-const}
 use Rattle.fixpoint.proofs.WellFounded.{closed-within}
-use Rattle.semantics.specs.Area.{sound, pageOf, topOf, conditionsOf}
+use Rattle.semantics.specs.Area.{pageOf, topOf, conditionsOf}
 use Rattle.semantics.specs.Body.{T, unknownByDefault}
 use Rattle.semantics.specs.Grade.{upper}
 use Rattle.semantics.specs.Page.{names}
 use Rattle.semantics.specs.Rounds.{IsRoundCount}
 use Rattle.semantics.specs.Table.{member}
 use Rattle.semantics.proofs.Readings.{page-agrees}
-use Rattle.semantics.proofs.Soundness.{sound-proper}
 use Rattle.page.proofs.Head.{head-of}
 use Rattle.settle.specs.Ends.{reads}
 use Rattle.settle.specs.Scratch.{held, settledAt, CappedAt}
@@ -32,8 +31,10 @@ use Rattle.rounds.specs.Round.{closedAt}
 use Rattle.stages.specs.Steps.{freeAt}
 use Rattle.stages.specs.Stages.{stageAt, betweenAt, SameFloor}
 use Rattle.stages.proofs.Assignments.{high-eq, first-at, falls, rises, over-closed, support-is, next-is, restart-known, moving-next, count-here, count-after}
+use Rattle.page.specs.Solvable.{solvable}
+use Rattle.page.proofs.Solvable.{solvable-proper}
 
-module _ (a : List ℕ) (ok : sound a ≡ true) (m : List Bool) (shut : DependencyClosed (conditionsOf a) (names (pageOf a)) (member m)) where
+module _ (a : List ℕ) (ok : solvable a ≡ true) (m : List Bool) (shut : DependencyClosed (conditionsOf a) (names (pageOf a)) (member m)) where
   abbrev n : ℕ
   n = conditionsOf a
 
@@ -104,7 +105,7 @@ module _ (a : List ℕ) (ok : sound a ≡ true) (m : List Bool) (shut : Dependen
   pub rounds-few : (k : ℕ) → MovingAt k → k ≤ 102400
   unfolding pageOf
   rounds-few k h =
-      let w = sound-proper a ok in
+      let w = solvable-proper a ok in
       omega (
         arith,
         stage-bound (S a ok) shut (freeAt a) (page-agrees (pageOf a) w) k h,

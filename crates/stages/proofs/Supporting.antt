@@ -10,7 +10,7 @@ use lib.ListN.{length, getD}
 use Rattle.fixpoint.specs.Interval.{Within}
 use Rattle.fixpoint.proofs.Cond.{by-bool, cond-true, cond-false}
 use Rattle.fixpoint.proofs.KnowledgeOrder.{pair-eq}
-use Rattle.semantics.specs.Area.{sound, pageOf, topOf, conditionsOf}
+use Rattle.semantics.specs.Area.{pageOf, topOf, conditionsOf}
 use Rattle.semantics.specs.Body.{T}
 use Rattle.semantics.specs.Grade.{lower, upper}
 use Rattle.semantics.specs.Table.{member}
@@ -27,6 +27,7 @@ use Rattle.stages.specs.Steps.{Nobody, freeAt, LowerReady, Unlooked, Low
 use Rattle.stages.specs.Stages.{stageAt, betweenAt, Tables, Older, AtStage, Supported}
 use Rattle.stages.proofs.Assignments.{low-eq, high-eq}
 use Rattle.stages.proofs.PageStages.{stage-over, between-falls, FloorOf, support-at, capped-at, KeepsTop, restart-at}
+use Rattle.page.specs.Solvable.{solvable}
 
 -- an empty set
 abbrev pub zeros : List ℕ
@@ -43,8 +44,8 @@ module _ {a : List ℕ} {m : List Bool} {users tops : List ℕ} {k : ℕ} {s loo
   abbrev n : ℕ
   n = conditionsOf a
 
-  ok : sound a ≡ true
-  ok = b .tables .page-sound
+  ok : solvable a ≡ true
+  ok = b .tables .page-solvable
 
   few : n ≤ 512
   few = head-of a ok .few
@@ -56,7 +57,7 @@ module _ {a : List ℕ} {m : List Bool} {users tops : List ℕ} {k : ℕ} {s loo
   pub lower-ready : MaybeUsers a users → LowerReady a users m tops s look zeros
   lower-ready u =
       record {
-        page-sound = ok;
+        page-solvable = ok;
         users-in = u;
         long = b .tables .long;
         marked = b .tables .marked;
@@ -134,7 +135,7 @@ module _ {a : List ℕ} {m : List Bool} {users tops : List ℕ} {k : ℕ} {s loo
     pub tops-half : Half upper a m s₁
     tops-half =
         record {
-          page-sound = ok;
+          page-solvable = ok;
           long = omega (arith, b .tables .long, v .same-length);
           marked = b .tables .marked;
           shut = b .tables .shut;
@@ -165,7 +166,7 @@ module _ {a : List ℕ} {m : List Bool} {users tops : List ℕ} {k : ℕ} {s loo
       tables₁ : Tables a m s₁
       tables₁ =
           record {
-            page-sound = ok;
+            page-solvable = ok;
             long = tops-half .long;
             marked = b .tables .marked;
             shut = b .tables .shut;
@@ -225,7 +226,7 @@ module _ {a : List ℕ} {m : List Bool} {users tops : List ℕ} {k : ℕ} {s loo
       pub follow-ready : MaybeUsers a users → FollowReady a users s₂ lowered lows
       follow-ready u =
           record {
-            page-sound = ok;
+            page-solvable = ok;
             users-in = u;
             long = x .half .long;
             within = λ c l. x .half .within c l .high-in;
@@ -245,7 +246,7 @@ module _ {a : List ℕ} {m : List Bool} {users tops : List ℕ} {k : ℕ} {s loo
         tables₃ : Tables a m s₃
         tables₃ =
             record {
-              page-sound = ok;
+              page-solvable = ok;
               long = omega (arith, x .half .long, g .same-length);
               marked = b .tables .marked;
               shut = b .tables .shut;

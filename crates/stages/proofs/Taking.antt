@@ -8,7 +8,7 @@ use native.Mathlib.Decide.{ℕ-discrete}
 use native.Mathlib.Omega.{arith}
 use lib.ListN.{length, getD, set, drop, length-set}
 use lib.Seq.{getD-set-same, getD-set-other, drop-set-lt}
-use Rattle.semantics.specs.Area.{sound, pageOf, topOf, conditionsOf}
+use Rattle.semantics.specs.Area.{pageOf, topOf, conditionsOf}
 use Rattle.page.proofs.Head.{head-of}
 use Rattle.bits.specs.Words.{has, Removed, AnyIn}
 use Rattle.index.specs.Parts.{MaybeUsers}
@@ -17,6 +17,7 @@ use Rattle.index.proofs.Readers.{reads-below}
 use Rattle.settle.specs.Waiting.{WaitSet, Woken}
 use Rattle.stages.specs.Steps.{ahead, TakenOver, TakeReady, AllTaken}
 use Rattle.settle.proofs.Members.{waiters, else-same, rest-in, fewer, any-real}
+use Rattle.page.specs.Solvable.{solvable}
 
 module _ (a users : List ℕ) (c : ℕ) (s lows look : List ℕ) where
   pub taken-short : length users ≡ 0 → WaitSet (conditionsOf a) lows → WaitSet (conditionsOf a) look → TakenOver a users c s (set s (2 * c) (ahead a s c)) lows lows look look
@@ -51,7 +52,7 @@ WokenBy a users s₀ moved code words =
     (length users ≡ 0) ⊎ ((d : ℕ) → d < conditionsOf a → has moved d ≡ false → getD s₀ (2 * d) 0 ≢ ahead a s₀ d → (h : ℕ) → linesRead (code d) (pageOf a .lines) h ≡ true → has words h ≡ true)
 
 pub record Taking (a users s₀ s moved lows₀ lows look₀ look : List ℕ) (c : ℕ) : Type 0 where
-  pub page-sound : sound a ≡ true
+  pub page-solvable : solvable a ≡ true
   pub users-in : MaybeUsers a users
   pub long : 4 * conditionsOf a ≤ length s
   pub grades : (d : ℕ) → d < conditionsOf a → getD s₀ (2 * conditionsOf a + (2 * d + 1)) 0 ≤ topOf a
@@ -73,7 +74,7 @@ pub record Taking (a users s₀ s moved lows₀ lows look₀ look : List ℕ) (c
 pub taking-first : {a users s moved lows look : List ℕ} {c : ℕ} → TakeReady a users s moved lows look → AnyIn moved c → Taking a users s s moved lows lows look look c
 taking-first h y =
     record {
-      page-sound = h .page-sound;
+      page-solvable = h .page-solvable;
       users-in = h .users-in;
       long = h .long;
       grades = h .within;
@@ -98,7 +99,7 @@ module _ {a users s₀ s moved lows₀ lows look₀ look : List ℕ} {c : ℕ} (
   n = conditionsOf a
 
   few : n ≤ 512
-  few = head-of a (v .page-sound) .few
+  few = head-of a (v .page-solvable) .few
 
   pub taking-last : 512 ≤ c → AllTaken a users s₀ s lows₀ lows look₀ look
   taking-last l =
@@ -145,13 +146,13 @@ module _ {a users s₀ s moved lows₀ lows look₀ look : List ℕ} {c : ℕ} (
         woken-next code words words′ (inr f) k (inr g) =
             inr (λ d l q z. elim (ℕ-discrete d c) [
               | yes y ↦ λ h e. g h (subst (λ (j : ℕ). linesRead (code j) (pageOf a .lines) h ≡ true) y e)
-              | no y ↦ λ h e. k h (omega (arith, few, reads-below a (v .page-sound) (code d) h e)) (f d l (sym (else-same moved moved₁ c x d (omega (arith, few)) y) ∙ q) z h e)
+              | no y ↦ λ h e. k h (omega (arith, few, reads-below a (v .page-solvable) (code d) h e)) (f d l (sym (else-same moved moved₁ c x d (omega (arith, few)) y) ∙ q) z h e)
             ])
 
         pub taking-next : {c′ : ℕ} → AnyIn moved₁ c′ → Taking a users s₀ s′ moved₁ lows₀ lows′ look₀ look′ c′
         taking-next y =
             record {
-              page-sound = v .page-sound;
+              page-solvable = v .page-solvable;
               users-in = v .users-in;
               long = omega (arith, ap length (r .stored), length-set s (2 * c) (ahead a s c), v .long);
               grades = v .grades;

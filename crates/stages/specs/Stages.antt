@@ -10,7 +10,7 @@ use Rattle.fixpoint.specs.KnowledgeOrder.{Alike}
 use Rattle.fixpoint.specs.ChaoticIteration.{DependencyClosed}
 use Rattle.fixpoint.specs.AlternatingFixpoint.{mix}
 use Rattle.fixpoint.specs.WellFounded.{stage}
-use Rattle.semantics.specs.Area.{sound, pageOf, topOf, conditionsOf}
+use Rattle.semantics.specs.Area.{pageOf, topOf, conditionsOf}
 use Rattle.semantics.specs.Body.{T, unknownByDefault}
 use Rattle.semantics.specs.Page.{names}
 use Rattle.semantics.specs.Table.{member}
@@ -20,6 +20,7 @@ use Rattle.settle.specs.Scratch.{held}
 use Rattle.settle.specs.Waiting.{WaitSet}
 use Rattle.rounds.specs.Round.{MarkedWait, LowsWait, closedAt}
 use Rattle.stages.specs.Steps.{Nobody, freeAt, Whole}
+use Rattle.page.specs.Solvable.{solvable}
 
 -- assignment k
 abbrev pub stageAt : List ℕ → ℕ → Assign
@@ -36,7 +37,7 @@ pub record SameFloor (n : ℕ) (free reached : ℕ → Bool) (I J : Assign) : Ty
 
 -- both tables hold grades, each negation tells the end that is held, and a condition that is not reached has the high end 0
 pub record Tables (a : List ℕ) (m : List Bool) (s : List ℕ) : Type 0 where
-  pub page-sound : sound a ≡ true
+  pub page-solvable : solvable a ≡ true
   pub long : 4 * conditionsOf a ≤ length s
   pub marked : conditionsOf a ≤ length m
   pub shut : DependencyClosed (conditionsOf a) (names (pageOf a)) (member m)

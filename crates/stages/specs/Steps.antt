@@ -9,7 +9,7 @@ use mathlib.Core.List.{List, [], _∷_}
 use Prim.Native.Nat.{ℕ, _+_, _*_, _-_, _≤_, _<_}
 use lib.ListN.{length, getD, set, take, drop}
 use Rattle.fixpoint.specs.Interval.{Interval, Assign}
-use Rattle.semantics.specs.Area.{sound, lineAt, pageOf, topOf, conditionsOf}
+use Rattle.semantics.specs.Area.{lineAt, pageOf, topOf, conditionsOf}
 use Rattle.semantics.specs.Body.{lineBody, T, unknownByDefault}
 use Rattle.semantics.specs.Table.{member}
 use Rattle.bits.specs.Words.{has, Inserted}
@@ -19,6 +19,7 @@ use Rattle.value.specs.Table.{Grades}
 use Rattle.settle.specs.Ends.{reads}
 use Rattle.settle.specs.Waiting.{WaitSet}
 use Rattle.rounds.specs.Round.{MarkedWait, past, Fresh, LinesHave}
+use Rattle.page.specs.Solvable.{solvable}
 
 -- nobody is in the set
 abbrev pub Nobody : List ℕ → Type 0
@@ -42,7 +43,7 @@ seen a s = past a (take (2 * conditionsOf a) s)
 
 -- what noting a line asks
 pub record Notable (a : List ℕ) (m : List Bool) (s moved : List ℕ) : Type 0 where
-  pub page-sound : sound a ≡ true
+  pub page-solvable : solvable a ≡ true
   pub long : 4 * conditionsOf a ≤ length s
   pub marked : conditionsOf a ≤ length m
   pub grades : Grades (topOf a) (conditionsOf a) (take (2 * conditionsOf a) s)
@@ -109,7 +110,7 @@ pub record TakenOver (a users : List ℕ) (c : ℕ) (s s′ lows lows′ look lo
 
 -- what taking over asks: whoever did not move holds its next low end already
 pub record TakeReady (a users s moved lows look : List ℕ) : Type 0 where
-  pub page-sound : sound a ≡ true
+  pub page-solvable : solvable a ≡ true
   pub users-in : MaybeUsers a users
   pub long : 4 * conditionsOf a ≤ length s
   pub within : (c : ℕ) → c < conditionsOf a → getD s (2 * conditionsOf a + (2 * c + 1)) 0 ≤ topOf a
@@ -159,7 +160,7 @@ LoweredTop a users m tops c s s′ look look′ lowered lowered′ fell =
 
 -- what lowering asks
 pub record LowerReady (a users : List ℕ) (m : List Bool) (tops s look lowered : List ℕ) : Type 0 where
-  pub page-sound : sound a ≡ true
+  pub page-solvable : solvable a ≡ true
   pub users-in : MaybeUsers a users
   pub long : 4 * conditionsOf a ≤ length s
   pub marked : conditionsOf a ≤ length m
@@ -236,7 +237,7 @@ pub record FreeLowered (a users : List ℕ) (m : List Bool) (tops s s′ look lo
 
 -- what taking over the next high ends asks
 pub record HighsReady (a users : List ℕ) (m : List Bool) (tops s look lows : List ℕ) : Type 0 where
-  pub page-sound : sound a ≡ true
+  pub page-solvable : solvable a ≡ true
   pub users-in : MaybeUsers a users
   pub long : 4 * conditionsOf a ≤ length s
   pub marked : conditionsOf a ≤ length m
@@ -282,7 +283,7 @@ pub record HighsTaken (a users : List ℕ) (m : List Bool) (tops s s′ lows′ 
 
 -- what the negations of the lowered conditions ask: all others have their numbers already
 pub record FollowReady (a users s lowered lows : List ℕ) : Type 0 where
-  pub page-sound : sound a ≡ true
+  pub page-solvable : solvable a ≡ true
   pub users-in : MaybeUsers a users
   pub long : 4 * conditionsOf a ≤ length s
   pub within : (c : ℕ) → c < conditionsOf a → getD s (2 * conditionsOf a + 2 * c) 0 ≤ topOf a

@@ -3,7 +3,7 @@ ghost use mathlib.Core.Path.{_≡_};
 ghost use mathlib.Core.Bool.{true, false};
 ghost use Prim.Native.Nat.{ℕ, _≤_, _<_, _+_, _*_};
 ghost use lib.ListN.{length, getD};
-ghost use Rattle.semantics.specs.Area.{sound, topOf, conditionsOf, countOf};
+ghost use Rattle.semantics.specs.Area.{topOf, conditionsOf, countOf};
 ghost use Rattle.semantics.specs.Table.{member, anyBelow};
 ghost use Rattle.page.specs.Places.{placeOf, LineIn};
 ghost use Rattle.bits.specs.Words.{AnyIn};
@@ -15,6 +15,7 @@ ghost use Rattle.stages.specs.Counted.{CountReady, Counted};
 ghost use Rattle.stages.specs.Steps.{Nobody, Notable, NotedAt, Noted, AllNoted, LowsRest, TakenOver, TakeReady, AllTaken, LoweredTop, LowerReady, Lowered, Whole, LookedAgain, FollowReady, Begun, firstTop, TopsCopied, FreeTold, LoweredFree, FreeLowered, HighsReady, HighsTaken};
 ghost use Rattle.stages.specs.Stages.{AtStage, AtSupport, Supported, Advanced};
 ghost use Rattle.unknowns.specs.NextHighs.{sought, Places, HighTable, NextHighs};
+ghost use Rattle.page.specs.Solvable.{solvable};
 use settle::settle;
 use settle::wake;
 use value::End;
@@ -34,7 +35,7 @@ fn next_in(words: &[u64], from: u16) -> u16
 
 // What c has in `tops` at first: top if it is free, else its high end.
 fn first_top(a: &[u16], scratch: &[u16], c: u16) -> u16
-    requires { ⌜ (sound (now a) ≡ true) × (4 * conditionsOf (now a) ≤ length (now scratch)) × (c < conditionsOf (now a)) ⌝ }
+    requires { ⌜ (solvable (now a) ≡ true) × (4 * conditionsOf (now a) ≤ length (now scratch)) × (c < conditionsOf (now a)) ⌝ }
     ensures { λ r. ⌜ r ≡ firstTop (now (a .entry)) (now (scratch .entry)) c ⌝ }
 {
     if page::unknown_by_default(a, c) {
@@ -45,7 +46,7 @@ fn first_top(a: &[u16], scratch: &[u16], c: u16) -> u16
 
 // The high ends of what is reached, which are those of the closed reading, and top where a condition is free.
 fn copy_tops(a: &[u16], marks: &[bool], scratch: &[u16], tops: &mut [u8])
-    requires { ⌜ (sound (now a) ≡ true) × (4 * conditionsOf (now a) ≤ length (now scratch)) × (conditionsOf (now a) ≤ length (now marks)) × (conditionsOf (now a) ≤ length (now tops)) × ((c : ℕ) → c < conditionsOf (now a) → member (now marks) c ≡ true → getD (now scratch) (2 * conditionsOf (now a) + 2 * c) 0 ≤ 200) ⌝ }
+    requires { ⌜ (solvable (now a) ≡ true) × (4 * conditionsOf (now a) ≤ length (now scratch)) × (conditionsOf (now a) ≤ length (now marks)) × (conditionsOf (now a) ≤ length (now tops)) × ((c : ℕ) → c < conditionsOf (now a) → member (now marks) c ≡ true → getD (now scratch) (2 * conditionsOf (now a) + 2 * c) 0 ≤ 200) ⌝ }
     ensures { λ r. ⌜ TopsCopied (now (a .entry)) (now (marks .entry)) (now (scratch .entry)) (now (tops .entry)) (now (tops .exit)) ⌝ }
 {
     let n = a[1];
@@ -61,7 +62,7 @@ fn copy_tops(a: &[u16], marks: &[bool], scratch: &[u16], tops: &mut [u8])
 
 // Assignment 0: [0;top] for what is reached.
 fn begin(a: &[u16], marks: &[bool], scratch: &mut [u16])
-    requires { ⌜ (sound (now a) ≡ true) × (4 * conditionsOf (now a) ≤ length (now scratch)) × (conditionsOf (now a) ≤ length (now marks)) ⌝ }
+    requires { ⌜ (solvable (now a) ≡ true) × (4 * conditionsOf (now a) ≤ length (now scratch)) × (conditionsOf (now a) ≤ length (now marks)) ⌝ }
     ensures { λ r. ⌜ Begun (now (a .entry)) (now (marks .entry)) (now (scratch .entry)) (now (scratch .exit)) ⌝ }
 {
     let top = a[0];
@@ -308,7 +309,7 @@ fn take_over(
     look: &mut [u64],
     c: u16,
 )
-    requires { ⌜ (sound (now a) ≡ true) × MaybeUsers (now a) (now users) × (4 * conditionsOf (now a) ≤ length (now scratch)) × (c < conditionsOf (now a)) × (getD (now scratch) (2 * conditionsOf (now a) + (2 * c + 1)) 0 ≤ topOf (now a)) × WaitSet (conditionsOf (now a)) (now lows) × WaitSet (conditionsOf (now a)) (now look) ⌝ }
+    requires { ⌜ (solvable (now a) ≡ true) × MaybeUsers (now a) (now users) × (4 * conditionsOf (now a) ≤ length (now scratch)) × (c < conditionsOf (now a)) × (getD (now scratch) (2 * conditionsOf (now a) + (2 * c + 1)) 0 ≤ topOf (now a)) × WaitSet (conditionsOf (now a)) (now lows) × WaitSet (conditionsOf (now a)) (now look) ⌝ }
     ensures { λ r. ⌜ TakenOver (now (a .entry)) (now (users .entry)) c (now (scratch .entry)) (now (scratch .exit)) (now (lows .entry)) (now (lows .exit)) (now (look .entry)) (now (look .exit)) ⌝ }
 {
     let at = 2 * c as usize;

@@ -23,6 +23,7 @@ use Rattle.semantics.specs.Worklist.{Worklist, start}
 use Rattle.semantics.proofs.Table.{length-from, getD-table}
 use Rattle.semantics.specs.Stalls.{Stall, first, second, runLength, sharedLength, beginning, partOf, withPart, openStall, evaluateStall}
 use Rattle.semantics.proofs.StallsParts.{fits}
+use Rattle.page.proofs.Solvable.{sound-solvable}
 use Rattle.page.proofs.Head.{head-of, conditions-is}
 use Rattle.index.proofs.Lent.{put-rest}
 use Rattle.run.specs.Answers.{Answered, Drives}
@@ -187,7 +188,7 @@ module _ (a : List ℕ) (s : Stall) (area : List ℕ) (long : sharedLength (page
 
   module _ (ok : sound a ≡ true) where
     pub lent-few : at ≤ 1536
-    lent-few = omega (arith, few-at s, head-of a ok, conditions-is a)
+    lent-few = omega (arith, few-at s, head-of a (sound-solvable a ok), conditions-is a)
       where
         few-at : (s : Stall) → beginning (pageOf a) s ≤ 3 * pageOf a .conditions
         few-at first = omega arith

@@ -11,7 +11,7 @@ use lib.Seq.{set-getD}
 use borrow.Author.Tests.{not-false}
 use Rattle.fixpoint.specs.Interval.{same, Interval}
 use Rattle.fixpoint.proofs.Evaluation.{same-true}
-use Rattle.semantics.specs.Area.{sound, pageOf, topOf, conditionsOf}
+use Rattle.semantics.specs.Area.{pageOf, topOf, conditionsOf}
 use Rattle.semantics.specs.Grade.{lower}
 use Rattle.semantics.specs.RunArea.{intervalAt, markAt, runSound}
 use Rattle.page.specs.Graded.{Graded, BodyValue}
@@ -27,6 +27,7 @@ use Rattle.worklist.proofs.Evaluation.{graded-of, long-of, stored-length, store
 use Rattle.worklist.proofs.Matching.{match-removed, still-then}
 use Rattle.body.specs.Body.{Body}
 use Rattle.step.specs.Beside.{Beside, Changed, EvaluatedBeside}
+use Rattle.page.specs.Solvable.{solvable}
 
 -- the mark alone stored, where the interval does not differ
 mark-alone : (run : List ℕ) (c low high mark : ℕ) → same (intervalAt run c) (record { low = low; high = high }) ≡ true → set run (3 * c + 2) mark ≡ stored c low high mark run
@@ -35,7 +36,7 @@ mark-alone run c low high mark e =
     let q = same-true (intervalAt run c) (record { low = low; high = high }) e in
     sym (rw (ap (λ (i : Interval). i .low) (sym q), ap (λ (i : Interval). i .high) (sym q)) (rw (set-getD run (3 * c) 0, set-getD run (3 * c + 1) 0)))
 
-module _ (a run : List ℕ) (ok : sound a ≡ true) (rs : runSound (pageOf a) run ≡ true) {words values : List ℕ} (s : Beside a run words values) where
+module _ (a run : List ℕ) (ok : solvable a ≡ true) (rs : runSound (pageOf a) run ≡ true) {words values : List ℕ} (s : Beside a run words values) where
   -- both ends of every literal are grades
   pub beside-grades : Mirrored (topOf a) (conditionsOf a) values
   beside-grades = both-grades (topOf a) (conditionsOf a) (intervalAt run) values (s .long) (graded-of a run ok rs .within) (s .table)

@@ -10,7 +10,7 @@ use lib.ListN.{length, getD, set, length-set, drop}
 use borrow.Author.Tests.{eq-eqb, ne-eqb}
 use Rattle.fixpoint.specs.ChaoticIteration.{put}
 use Rattle.fixpoint.specs.Interval.{Interval, Within, Assign}
-use Rattle.semantics.specs.Area.{sound, pageOf, topOf, conditionsOf}
+use Rattle.semantics.specs.Area.{pageOf, topOf, conditionsOf}
 use Rattle.semantics.specs.Body.{T}
 use Rattle.semantics.specs.Grade.{lower}
 use Rattle.semantics.specs.Holding.{firstWith, lineHolding}
@@ -19,7 +19,6 @@ use Rattle.semantics.specs.RunArea.{intervalAt, markAt, worklistOf, reachedOf, 
 use Rattle.semantics.specs.Table.{intervalOf, member}
 use Rattle.semantics.specs.Worklist.{Worklist, evaluated, holder}
 use Rattle.semantics.proofs.Areas.{Encodable, sound-encodable, state-back, held-at, waits-at}
-use Rattle.semantics.proofs.Soundness.{sound-proper}
 use Rattle.semantics.proofs.Steps.{puts-same, puts-other, encodable-evaluated}
 use Rattle.page.proofs.Head.{conditions-is}
 use Rattle.value.specs.Table.{endOf, EndTable}
@@ -30,6 +29,8 @@ use Rattle.worklist.specs.Evaluation.{Evaluated}
 use Rattle.worklist.proofs.Evaluation.{graded-of}
 use Rattle.body.specs.FirstLine.{FirstLine}
 use Rattle.step.specs.Before.{HeldBefore, ToldBefore}
+use Rattle.page.specs.Solvable.{solvable}
+use Rattle.page.proofs.Solvable.{solvable-proper}
 
 -- the table with the two numbers of c as they were
 module _ (a run values : List ℕ) (c low high : ℕ) (l : c < conditionsOf a) (w : 2 * conditionsOf a ≤ length values) (t : EndTable lower (topOf a) (conditionsOf a) (intervalAt run) values) where
@@ -44,7 +45,7 @@ module _ (a run values : List ℕ) (c low high : ℕ) (l : c < conditionsOf a) (
         (ap (endOf lower) (sym here)) (ap (λ (i : Interval). topOf a - i .high) (sym here))
 
     -- and its numbers are grades
-    module _ (ok : sound a ≡ true) (rs : runSound (pageOf a) run ≡ true) (low-in : low ≤ topOf a) (high-in : high ≤ topOf a) where
+    module _ (ok : solvable a ≡ true) (rs : runSound (pageOf a) run ≡ true) (low-in : low ≤ topOf a) (high-in : high ≤ topOf a) where
       grades : (d : ℕ) → d < conditionsOf a → Within (topOf a) (I d)
       grades d m =
           elim (ℕ-discrete d c) [
@@ -57,7 +58,7 @@ module _ (a run values : List ℕ) (c low high : ℕ) (l : c < conditionsOf a) (
           both-grades (topOf a) (conditionsOf a) I restored (omega (arith, length-set (set values (2 * c) low) (2 * c + 1) (topOf a - high), length-set values (2 * c) low)) grades table-before
 
   -- one such assignment is that of the run area with [low; high] at c
-  module _ (ok : sound a ≡ true) (rs : runSound (pageOf a) run ≡ true) (low-in : low ≤ topOf a) (high-in : high ≤ topOf a) where
+  module _ (ok : solvable a ≡ true) (rs : runSound (pageOf a) run ≡ true) (low-in : low ≤ topOf a) (high-in : high ≤ topOf a) where
     pub restored-grades : Mirrored (topOf a) (conditionsOf a) restored
     unfolding put
     restored-grades =
@@ -72,7 +73,7 @@ module _ (a run values : List ℕ) (c low high : ℕ) (l : c < conditionsOf a) (
       }
 
 -- after an evaluation of c: what was held before it, and so what it tells
-module _ (a run : List ℕ) (ok : sound a ≡ true) (rs : runSound (pageOf a) run ≡ true) (c : ℕ) (l₀ : c < conditionsOf a) (two : markAt run c ≡ 2) {run′ : List ℕ} {t : Bool} (v : Evaluated (pageOf a) c run run′ t) where
+module _ (a run : List ℕ) (ok : solvable a ≡ true) (rs : runSound (pageOf a) run ≡ true) (c : ℕ) (l₀ : c < conditionsOf a) (two : markAt run c ≡ 2) {run′ : List ℕ} {t : Bool} (v : Evaluated (pageOf a) c run run′ t) where
   abbrev page : Page
   page = pageOf a
 
@@ -89,7 +90,7 @@ module _ (a run : List ℕ) (ok : sound a ≡ true) (rs : runSound (pageOf a) ru
   waits = waits-at page run c l ∙ eq-eqb (markAt run c) 2 two
 
   fits : Encodable page m (evaluated page m b c)
-  fits = encodable-evaluated page (sound-proper a ok) m b (sound-encodable page run rs) c l waits
+  fits = encodable-evaluated page (solvable-proper a ok) m b (sound-encodable page run rs) c l waits
 
   -- the intervals after it
   after : (d : ℕ) → d < pageOf a .conditions → intervalAt run′ d ≡ intervalOf (evaluated page m b c .intervals) d
@@ -101,8 +102,8 @@ module _ (a run : List ℕ) (ok : sound a ≡ true) (rs : runSound (pageOf a) ru
   held-before =
       record {
         here = held-at page run c l;
-        others = λ d k n. let k′ : d < page .conditions = rw (conditions-is a) k in sym (after d k′ ∙ puts-other page (sound-proper a ok) m b (sound-encodable page run rs) c l waits d n);
-        new-low = ap (λ (i : Interval). i .low) (after c l ∙ puts-same page (sound-proper a ok) m b (sound-encodable page run rs) c l waits);
+        others = λ d k n. let k′ : d < page .conditions = rw (conditions-is a) k in sym (after d k′ ∙ puts-other page (solvable-proper a ok) m b (sound-encodable page run rs) c l waits d n);
+        new-low = ap (λ (i : Interval). i .low) (after c l ∙ puts-same page (solvable-proper a ok) m b (sound-encodable page run rs) c l waits);
       }
 
   pub told-holder : {r : ℕ} → ToldBefore a run′ c (getD run (3 * c) 0) (getD run (3 * c + 1) 0) r → r ≡ holder (pageOf a) (worklistOf (pageOf a) run) c

@@ -3,13 +3,14 @@ ghost use mathlib.Core.Path.{_≡_};
 ghost use mathlib.Core.Bool.{true};
 ghost use Prim.Native.Nat.{_≤_, _<_, _+_, _*_};
 ghost use lib.ListN.{length, getD};
-ghost use Rattle.semantics.specs.Area.{sound, pageOf, topOf, conditionsOf};
+ghost use Rattle.semantics.specs.Area.{pageOf, topOf, conditionsOf};
 ghost use Rattle.semantics.specs.Grade.{lower};
 ghost use Rattle.semantics.specs.RunArea.{markAt, intervalAt, runSound};
 ghost use Rattle.value.specs.Table.{EndTable};
 ghost use Rattle.index.specs.Parts.{MaybeLines, MaybeUsers};
 ghost use Rattle.step.specs.Beside.{Beside, Changed, EvaluatedBeside};
 ghost use Rattle.step.specs.Before.{ToldBefore};
+ghost use Rattle.page.specs.Solvable.{solvable};
 
 // The condition c holds [low; high] and waits no longer, and its dependants wait. The table and the set follow.
 fn change(
@@ -22,7 +23,7 @@ fn change(
     low: u16,
     high: u16,
 )
-    requires { ⌜ (sound (now a) ≡ true) × MaybeUsers (now a) (now users) × (c < conditionsOf (now a)) × (low ≤ topOf (now a)) × (high ≤ topOf (now a)) × (3 * conditionsOf (now a) ≤ length (now run)) × (2 * conditionsOf (now a) ≤ length (now values)) × (length (now words) ≡ 8) ⌝ }
+    requires { ⌜ (solvable (now a) ≡ true) × MaybeUsers (now a) (now users) × (c < conditionsOf (now a)) × (low ≤ topOf (now a)) × (high ≤ topOf (now a)) × (3 * conditionsOf (now a) ≤ length (now run)) × (2 * conditionsOf (now a) ≤ length (now values)) × (length (now words) ≡ 8) ⌝ }
     ensures { λ _. ⌜ Changed (now (a .entry)) c low high (now (run .entry)) (now (words .entry)) (now (values .entry)) (now (run .exit)) (now (words .exit)) (now (values .exit)) ⌝ }
 {
     let top = a[0];
@@ -41,7 +42,7 @@ pub fn step(
     values: &mut [u8],
     c: u16,
 ) -> bool
-    requires { ⌜ (sound (now a) ≡ true) × (runSound (pageOf (now a)) (now run) ≡ true) × (c < conditionsOf (now a)) × (markAt (now run) c ≡ 2) × MaybeLines (now a) (now lines) × MaybeUsers (now a) (now users) × Beside (now a) (now run) (now words) (now values) ⌝ }
+    requires { ⌜ (solvable (now a) ≡ true) × (runSound (pageOf (now a)) (now run) ≡ true) × (c < conditionsOf (now a)) × (markAt (now run) c ≡ 2) × MaybeLines (now a) (now lines) × MaybeUsers (now a) (now users) × Beside (now a) (now run) (now words) (now values) ⌝ }
     ensures { λ r. ⌜ EvaluatedBeside (now (a .entry)) c (now (run .entry)) (now (words .entry)) (now (run .exit)) (now (words .exit)) (now (values .exit)) r ⌝ }
 {
     let ends = body::body(a, lines, values, c);
@@ -79,7 +80,7 @@ pub fn held(run: &[u16], c: u16) -> Before
 
 // The line that holds the low end of a condition that was just evaluated, on the intervals held before: the table goes back to them.
 pub fn line_told(a: &[u16], run: &[u16], values: &mut [u8], before: Before) -> u16
-    requires { ⌜ (sound (now a) ≡ true) × (runSound (pageOf (now a)) (now run) ≡ true) × (2 * conditionsOf (now a) ≤ length (now values)) × EndTable lower (topOf (now a)) (conditionsOf (now a)) (intervalAt (now run)) (now values) × (before .condition < conditionsOf (now a)) × (before .low ≤ topOf (now a)) × (before .high ≤ topOf (now a)) ⌝ }
+    requires { ⌜ (solvable (now a) ≡ true) × (runSound (pageOf (now a)) (now run) ≡ true) × (2 * conditionsOf (now a) ≤ length (now values)) × EndTable lower (topOf (now a)) (conditionsOf (now a)) (intervalAt (now run)) (now values) × (before .condition < conditionsOf (now a)) × (before .low ≤ topOf (now a)) × (before .high ≤ topOf (now a)) ⌝ }
     ensures { λ r. ⌜ ToldBefore (now (a .entry)) (now (run .entry)) (before .condition) (before .low) (before .high) r ⌝ }
 {
     let c = before.condition;

@@ -9,7 +9,7 @@ use lib.ListN.{length, getD, take, drop, length-take, length-drop}
 use lib.Seq.{getD-take, getD-drop}
 use borrow.Author.Tests.{eq-eqb, ne-eqb}
 use Rattle.fixpoint.specs.Interval.{Interval, Assign}
-use Rattle.semantics.specs.Area.{sound, lineAt, pageOf, topOf, conditionsOf, countOf}
+use Rattle.semantics.specs.Area.{lineAt, pageOf, topOf, conditionsOf, countOf}
 use Rattle.semantics.specs.Body.{lineBody, bodyless, T}
 use Rattle.semantics.specs.Grade.{upper}
 use Rattle.page.specs.Places.{placeOf, LineOf}
@@ -20,6 +20,7 @@ use Rattle.value.proofs.Tables.{table-of, grades-of}
 use Rattle.settle.specs.Scratch.{held}
 use Rattle.unknowns.specs.NextHighs.{highFrom, Cleared, Above, Swept, Finished, HighTable, NextHighs}
 use Rattle.unknowns.proofs.Storing.{steady-on}
+use Rattle.page.specs.Solvable.{solvable}
 
 pub from-none : (d : ℕ) {x : ℕ} → x ≡ 0 → highFrom d x ≡ d
 from-none d {x} e = rw (eq-eqb x 0 e)
@@ -28,7 +29,7 @@ pub from-some : (d : ℕ) {x : ℕ} → 0 < x → highFrom d x ≡ x - 1
 from-some d {x} l = rw (ne-eqb x 0 (λ e. omega arith))
 
 -- an entry for all lines of c stands for the high end of its body value
-module _ (a : List ℕ) (ok : sound a ≡ true) (I : Assign) (c x : ℕ) (h : Above a I (LineOf a c) c x) where
+module _ (a : List ℕ) (ok : solvable a ≡ true) (I : Assign) (c x : ℕ) (h : Above a I (LineOf a c) c x) where
   abbrev line : ℕ → List Interval
   line j = lineBody (topOf a) I c (lineAt (drop (placeOf a j) a))
 
@@ -74,7 +75,7 @@ module _ (a s : List ℕ) (h : HighTable a s) (base : ℕ) (b : base ≡ 2 * con
   part-grades = grades-of upper (topOf a) (conditionsOf a) (held (conditionsOf a) s) part part-long (λ c l. h .within c l .high-in) part-table
 
   -- the three steps together
-  pub next-highs : {m : List Bool} {next₀ next₁ next₂ next₃ : List ℕ} → sound a ≡ true → Cleared a m next₀ next₁ → Swept a m part next₁ next₂ → Finished a m next₂ next₃ → NextHighs a m s next₀ next₃
+  pub next-highs : {m : List Bool} {next₀ next₁ next₂ next₃ : List ℕ} → solvable a ≡ true → Cleared a m next₀ next₁ → Swept a m part next₁ next₂ → Finished a m next₂ next₃ → NextHighs a m s next₀ next₃
   next-highs {m} {next₀} {next₁} {next₂} {next₃} ok u v w =
       record {
         steady = steady-on a m (steady-on a m (u .steady) (v .steady)) (w .steady);

@@ -26,7 +26,7 @@ module _ (a : List ℕ) (m : List Bool) where
       }
 
   pub places-on : {next next′ : List ℕ} → Places a m next → Steady a m next next′ → Places a m next′
-  places-on p v = record { page-sound = p .page-sound; marked = p .marked; long = omega (arith, p .long, v .same-length) }
+  places-on p v = record { page-solvable = p .page-solvable; marked = p .marked; long = omega (arith, p .long, v .same-length) }
 
 module _ (a : List ℕ) (m : List Bool) (f : ℕ → ℕ → ℕ) (next₀ : List ℕ) where
   pub record Storing (next : List ℕ) (c : ℕ) : Type 0 where

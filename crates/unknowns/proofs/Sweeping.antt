@@ -10,7 +10,7 @@ use native.Mathlib.Omega.{arith}
 use lib.ListN.{getD, set, drop}
 use lib.Seq.{getD-set-same, getD-set-other}
 use Rattle.fixpoint.specs.Interval.{Interval, Assign}
-use Rattle.semantics.specs.Area.{sound, firstLine, lineAt, topOf, conditionsOf, countOf}
+use Rattle.semantics.specs.Area.{firstLine, lineAt, topOf, conditionsOf, countOf}
 use Rattle.semantics.specs.Body.{lineBody}
 use Rattle.semantics.specs.Grade.{upper}
 use Rattle.page.specs.Lines.{stepAt, Next}
@@ -19,9 +19,10 @@ use Rattle.value.specs.Table.{EndTable}
 use Rattle.settle.proofs.Raising.{line-head}
 use Rattle.unknowns.specs.NextHighs.{sought, Places, Steady, TakenLine, PassedLine, Looked, Above, Swept}
 use Rattle.unknowns.proofs.Storing.{steady-same, steady-on, steady-set}
+use Rattle.page.specs.Solvable.{solvable}
 
 -- the head of an F or R line is a condition
-pub head-below : (a : List ℕ) → sound a ≡ true → {c at : ℕ} → LineOf a c at → getD a at 0 < conditionsOf a
+pub head-below : (a : List ℕ) → solvable a ≡ true → {c at : ℕ} → LineOf a c at → getD a at 0 < conditionsOf a
 head-below a ok o = line-head a ok (record { number = o .number; in-count = o .in-count; place = o .place })
 
 -- a line that changes nothing: a query, or one of a condition not sought
@@ -91,7 +92,7 @@ module _ (a : List ℕ) (m : List Bool) (values next₀ : List ℕ) where
     here = record { number = k; in-count = l; place = v .place }
 
     real : getD a at 0 < conditionsOf a
-    real = line-head a (v .places .page-sound) here
+    real = line-head a (v .places .page-solvable) here
 
     module _ {at′ k′ : ℕ} (g : Next a at k at′ k′) where
       place′ : at′ ≡ placeOf a k′

@@ -7,7 +7,7 @@ use Prim.Native.Nat.{ℕ, _+_, _*_, _-_, _≤_, _<_, max}
 use lib.Dec.{eqb}
 use lib.ListN.{length, getD, set, drop}
 use Rattle.fixpoint.specs.Interval.{Interval, Within, Assign}
-use Rattle.semantics.specs.Area.{sound, lineAt, pageOf, topOf, conditionsOf}
+use Rattle.semantics.specs.Area.{lineAt, pageOf, topOf, conditionsOf}
 use Rattle.semantics.specs.Body.{lineBody, bodyless, T, unknownByDefault}
 use Rattle.semantics.specs.Grade.{upper}
 use Rattle.semantics.specs.Table.{member}
@@ -15,6 +15,7 @@ use Rattle.page.specs.Places.{LineOf}
 use Rattle.value.specs.Table.{EndTable}
 use Rattle.value.specs.LineEnds.{LineEnd}
 use Rattle.settle.specs.Scratch.{held}
+use Rattle.page.specs.Solvable.{solvable}
 
 -- c is reached and unknown by default
 abbrev pub sought : List ℕ → List Bool → ℕ → Bool
@@ -22,7 +23,7 @@ sought a m c = member m c && unknownByDefault (pageOf a) c
 
 -- a sound page, with a mark and an entry for each condition
 pub record Places (a : List ℕ) (m : List Bool) (next : List ℕ) : Type 0 where
-  pub page-sound : sound a ≡ true
+  pub page-solvable : solvable a ≡ true
   pub marked : conditionsOf a ≤ length m
   pub long : conditionsOf a ≤ length next
 

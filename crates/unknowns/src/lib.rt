@@ -3,18 +3,19 @@ ghost use mathlib.Core.Path.{_≡_};
 ghost use mathlib.Core.Bool.{true};
 ghost use Prim.Native.Nat.{_≤_, _<_};
 ghost use lib.ListN.{length, getD};
-ghost use Rattle.semantics.specs.Area.{sound, pageOf, topOf, conditionsOf};
+ghost use Rattle.semantics.specs.Area.{pageOf, topOf, conditionsOf};
 ghost use Rattle.semantics.specs.Body.{bodyless};
 ghost use Rattle.semantics.specs.Grade.{upper, rounding};
 ghost use Rattle.semantics.specs.Table.{anyBelow};
 ghost use Rattle.page.specs.Places.{LineIn, LineOf};
 ghost use Rattle.value.specs.Table.{Grades};
 ghost use Rattle.unknowns.specs.NextHighs.{sought, highFrom, Places, Cleared, Taken, Looked, Swept, Finished, HighTable, NextHighs};
+ghost use Rattle.page.specs.Solvable.{solvable};
 use value::End;
 
 // Whether c is reached and unknown by default.
 pub fn is_sought(a: &[u16], marks: &[bool], c: u16) -> bool
-    requires { ⌜ (sound (now a) ≡ true) × (conditionsOf (now a) ≤ length (now marks)) × (c < conditionsOf (now a)) ⌝ }
+    requires { ⌜ (solvable (now a) ≡ true) × (conditionsOf (now a) ≤ length (now marks)) × (c < conditionsOf (now a)) ⌝ }
     ensures { λ r. ⌜ r ≡ sought (now (a .entry)) (now (marks .entry)) c ⌝ }
 {
     if !marks[c as usize] {
@@ -25,7 +26,7 @@ pub fn is_sought(a: &[u16], marks: &[bool], c: u16) -> bool
 
 // Whether a reached condition is unknown by default.
 pub fn any_free(a: &[u16], marks: &[bool]) -> bool
-    requires { ⌜ (sound (now a) ≡ true) × (conditionsOf (now a) ≤ length (now marks)) ⌝ }
+    requires { ⌜ (solvable (now a) ≡ true) × (conditionsOf (now a) ≤ length (now marks)) ⌝ }
     ensures { λ r. ⌜ r ≡ anyBelow (conditionsOf (now (a .entry))) (sought (now (a .entry)) (now (marks .entry))) ⌝ }
 {
     let n = a[1];
@@ -56,7 +57,7 @@ fn clear(a: &[u16], marks: &[bool], next: &mut [u8])
 
 // The entry of the head of the F or R line at `at` becomes 1 more than the high end of the line, if it is below that.
 fn take_line(a: &[u16], at: usize, values: &[u16], add: u16, next: &mut [u8])
-    requires { ⌜ (sound (now a) ≡ true) × Grades (topOf (now a)) (conditionsOf (now a)) (now values) × LineOf (now a) (getD (now a) at 0) at × (add ≡ rounding upper (topOf (now a))) × (conditionsOf (now a) ≤ length (now next)) ⌝ }
+    requires { ⌜ (solvable (now a) ≡ true) × Grades (topOf (now a)) (conditionsOf (now a)) (now values) × LineOf (now a) (getD (now a) at 0) at × (add ≡ rounding upper (topOf (now a))) × (conditionsOf (now a) ≤ length (now next)) ⌝ }
     ensures { λ _. ⌜ Taken (now (a .entry)) (now (values .entry)) at (now (next .entry)) (now (next .exit)) ⌝ }
 {
     let h = a[at] as usize;
@@ -93,7 +94,7 @@ fn sweep(a: &[u16], marks: &[bool], values: &[u16], next: &mut [u8])
 
 // What the entry x of c stands for: the high end 1 below it, or where it is 0 that of a condition without lines.
 fn high_from(a: &[u16], c: u16, x: u8) -> u8
-    requires { ⌜ (sound (now a) ≡ true) × (c < conditionsOf (now a)) ⌝ }
+    requires { ⌜ (solvable (now a) ≡ true) × (c < conditionsOf (now a)) ⌝ }
     ensures { λ r. ⌜ r ≡ highFrom (bodyless (pageOf (now (a .entry))) c .high) x ⌝ }
 {
     if x == 0 {

@@ -8,7 +8,7 @@ use native.Mathlib.Decide.{ℕ-discrete}
 use native.Mathlib.Omega.{arith}
 use lib.ListN.{drop}
 use Rattle.fixpoint.specs.Interval.{Interval, Assign}
-use Rattle.semantics.specs.Area.{lineAt, pageOf, sound, topOf, countOf}
+use Rattle.semantics.specs.Area.{lineAt, pageOf, topOf, countOf}
 use Rattle.semantics.specs.Body.{lineBody, bodies, bodyless, largestOf, T}
 use Rattle.semantics.specs.Grade.{End, lower, upper, foldFrom, largest}
 use Rattle.semantics.specs.Page.{Line}
@@ -16,6 +16,7 @@ use Rattle.page.specs.Places.{placeOf}
 use Rattle.page.proofs.Scanning.{linesLeft, lines-first, lines-none}
 use Rattle.page.proofs.LineNumbers.{lines-from, shape}
 use Rattle.value.specs.Table.{endOf}
+use Rattle.page.specs.Solvable.{solvable}
 
 end-largest : (e : End) (p q : Interval) → endOf e (largest p q) ≡ max (endOf e p) (endOf e q)
 end-largest lower p q = refl
@@ -24,7 +25,7 @@ end-largest upper p q = refl
 nil-not-one : {p : Interval} → _≡_ {A = List Interval} [] (p ∷ []) → ⊥
 nil-not-one d = let z : _≡_ {A = ℕ} 0 1 = cc in omega arith
 
-module _ (e : End) (a : List ℕ) (ok : sound a ≡ true) (I : Assign) (c : ℕ) where
+module _ (e : End) (a : List ℕ) (ok : solvable a ≡ true) (I : Assign) (c : ℕ) where
   abbrev line : ℕ → Line
   line k = lineAt (drop (placeOf a k) a)
 
@@ -138,7 +139,7 @@ module _ (e : End) (a : List ℕ) (ok : sound a ≡ true) (I : Assign) (c : ℕ)
   body-some b h j l p d = body-most b h (λ g. absurd (nil-not-one (sym (g j l) ∙ d)))
 
 -- a condition without F and R lines has `bodyless`
-module _ (a : List ℕ) (ok : sound a ≡ true) (I : Assign) (c : ℕ) (none : (j : ℕ) → j < countOf a → lineBody (topOf a) I c (lineAt (drop (placeOf a j) a)) ≡ []) where
+module _ (a : List ℕ) (ok : solvable a ≡ true) (I : Assign) (c : ℕ) (none : (j : ℕ) → j < countOf a → lineBody (topOf a) I c (lineAt (drop (placeOf a j) a)) ≡ []) where
   none-from : (m k : ℕ) → countOf a - k ≡ m → bodies (topOf a) I c (linesLeft a (placeOf a k) k) ≡ []
   unfolding bodies
   none-from zero k d = rw (lines-none a (placeOf a k) k (omega arith))

@@ -6,7 +6,7 @@ use Prim.Native.Nat.{ℕ, _+_, _-_, _≤_}
 use lib.ListN.{getD, take, drop}
 use borrow.Author.Tests.{eq-eqb}
 use Rattle.fixpoint.specs.Interval.{Interval}
-use Rattle.semantics.specs.Area.{literalOf, sound, topOf, conditionsOf, usedOf}
+use Rattle.semantics.specs.Area.{literalOf, topOf, conditionsOf, usedOf}
 use Rattle.semantics.specs.Body.{ruleValue}
 use Rattle.semantics.specs.Grade.{End, lower, upper}
 use Rattle.page.specs.Places.{LineOf}
@@ -15,8 +15,9 @@ use Rattle.page.proofs.Entries.{fact-in}
 use Rattle.page.proofs.LineNumbers.{entry-at}
 use Rattle.value.specs.Table.{endOf}
 use Rattle.value.specs.LineEnds.{RuleEnd, LineEnd}
+use Rattle.page.specs.Solvable.{solvable}
 
-module _ (a : List ℕ) (ok : sound a ≡ true) {at : ℕ} (s : LineOf a (getD a at 0) at) (values : List ℕ) where
+module _ (a : List ℕ) (ok : solvable a ≡ true) {at : ℕ} (s : LineOf a (getD a at 0) at) (values : List ℕ) where
   abbrev held : Interval
   held = record { low = getD a (at + 2) 0; high = getD a (at + 3) 0 }
 

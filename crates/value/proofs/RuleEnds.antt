@@ -10,7 +10,7 @@ use lib.ListN.{length, getD, take, drop, length-take, length-drop}
 use lib.Seq.{getD-take, getD-drop}
 use borrow.Author.Tests.{ltb-true}
 use Rattle.fixpoint.specs.Interval.{Interval, Assign}
-use Rattle.semantics.specs.Area.{kind, ruleKind, allUnder, literalOf, sound, topOf, conditionsOf}
+use Rattle.semantics.specs.Area.{kind, ruleKind, allUnder, literalOf, topOf, conditionsOf}
 use Rattle.semantics.specs.Body.{literalValue}
 use Rattle.semantics.specs.Grade.{End, lower, upper, Op, combine, divided, endwise, foldFrom, foldAll, weighted}
 use Rattle.semantics.proofs.Ops.{divided-bounded}
@@ -22,6 +22,7 @@ use Rattle.page.proofs.Head.{head-of}
 use Rattle.value.specs.Table.{endOf, Grades, EndTable}
 use Rattle.value.specs.LineEnds.{behindFirst, numbersOf, Foldable, Folded, RuleEnd}
 use Rattle.value.proofs.Folds.{folded-in}
+use Rattle.page.specs.Solvable.{solvable}
 
 -- the end of a fold is the fold of the ends, and so for the weight
 end-fold : (e : End) (f : End → ℕ → ℕ → ℕ) (p : Interval) (ps : List Interval) → endOf e (foldFrom (endwise f) p ps) ≡ foldl (f e) (endOf e p) (map (endOf e) ps)
@@ -81,7 +82,7 @@ module _ (a values : List ℕ) (at : ℕ) (r : RuleAt (topOf a) (conditionsOf a)
       rw q (code-in (topOf a) (conditionsOf a) a at r (j + 1) (omega arith))
 
   -- what the fold over its literals requires
-  pub foldable : sound a ≡ true → Grades (topOf a) (conditionsOf a) values → Foldable (topOf a) rest values (getD values code 0)
+  pub foldable : solvable a ≡ true → Grades (topOf a) (conditionsOf a) values → Foldable (topOf a) rest values (getD values code 0)
   foldable ok g =
       let h = head-of a ok in
       record {
@@ -101,7 +102,7 @@ module _ (a values : List ℕ) (at : ℕ) (r : RuleAt (topOf a) (conditionsOf a)
       (end-fold e f (literalValue (topOf a) I (literalOf code)) (map (literalValue (topOf a) I) (map literalOf rest))
       ∙ ap₂ (λ (x : ℕ) (xs : List ℕ). foldl (f e) x xs) (sym (t code code-under)) (sym (table-numbers e (topOf a) (conditionsOf a) I values rest t rest-under)))
 
-  module _ (e : End) (ok : sound a ≡ true) (g : Grades (topOf a) (conditionsOf a) values) (l : 1 ≤ getD a (at + 1) 0) (u : getD a (at + 1) 0 ≤ 5)
+  module _ (e : End) (ok : solvable a ≡ true) (g : Grades (topOf a) (conditionsOf a) values) (l : 1 ≤ getD a (at + 1) 0) (u : getD a (at + 1) 0 ≤ 5)
       {x : ℕ} (h : (op : Op) → kind (getD a (at + 1) 0) ≡ ruleKind op → Folded (combine (topOf a) op e) rest values (getD values code 0) x) where
     pub fold-in : x ≤ topOf a
     fold-in =

@@ -3,13 +3,14 @@ ghost use mathlib.Core.Path.{_≡_};
 ghost use mathlib.Core.Bool.{true};
 ghost use Prim.Native.Nat.{_≤_, _<_, _+_, _*_, _/_, min, max};
 ghost use lib.ListN.{length, getD};
-ghost use Rattle.semantics.specs.Area.{sound, pageOf, topOf, conditionsOf, kind, ruleKind};
+ghost use Rattle.semantics.specs.Area.{pageOf, topOf, conditionsOf, kind, ruleKind};
 ghost use Rattle.semantics.specs.Body.{bodyless};
 ghost use Rattle.semantics.specs.Grade.{Op, combine, divided, rounding};
 ghost use Rattle.page.specs.Graded.{RuleAt};
 ghost use Rattle.page.specs.Places.{LineOf};
 ghost use Rattle.value.specs.Table.{side, Grades};
 ghost use Rattle.value.specs.LineEnds.{slice, behindFirst, Listed, Foldable, Folded, excess, bounded, product, Adds, EndAdding, RuleEnd, LineEnd};
+ghost use Rattle.page.specs.Solvable.{solvable};
 
 // An end of an interval.
 pub enum End {
@@ -25,7 +26,7 @@ pub struct Ends {
 
 // What a condition without F and R lines has.
 pub fn bodyless(a: &[u16], c: u16) -> Ends
-    requires { ⌜ (sound (now a) ≡ true) × (c < conditionsOf (now a)) ⌝ }
+    requires { ⌜ (solvable (now a) ≡ true) × (c < conditionsOf (now a)) ⌝ }
     ensures { λ r. ⌜ record { low = r .low; high = r .high } ≡ bodyless (pageOf (now (a .entry))) c ⌝ }
 {
     let mut high: u16 = 0;
@@ -195,7 +196,7 @@ fn fold_literals(a: &[u16], at: usize, values: &[u16], first: u16, top: u16, add
 
 // One end of the value of the rule at `at`: its op over its literals' numbers from left to right, then its weight.
 fn rule_end(a: &[u16], at: usize, values: &[u16], add: u16) -> u16
-    requires { ⌜ (sound (now a) ≡ true) × Grades (topOf (now a)) (conditionsOf (now a)) (now values) × RuleAt (topOf (now a)) (conditionsOf (now a)) (now a) at × (1 ≤ getD (now a) (at + 1) 0) × (getD (now a) (at + 1) 0 ≤ 5) × Adds (topOf (now a)) add ⌝ }
+    requires { ⌜ (solvable (now a) ≡ true) × Grades (topOf (now a)) (conditionsOf (now a)) (now values) × RuleAt (topOf (now a)) (conditionsOf (now a)) (now a) at × (1 ≤ getD (now a) (at + 1) 0) × (getD (now a) (at + 1) 0 ≤ 5) × Adds (topOf (now a)) add ⌝ }
     ensures { λ r. ⌜ EndAdding (topOf (now (a .entry))) add (λ e. RuleEnd e (now (a .entry)) (now (values .entry)) at r) ⌝ }
 {
     let top = a[0];
@@ -206,7 +207,7 @@ fn rule_end(a: &[u16], at: usize, values: &[u16], add: u16) -> u16
 
 // One end of the value of the F or R line at `at`; `add` is what the end adds before a division.
 pub fn line_end(a: &[u16], at: usize, values: &[u16], end: End, add: u16) -> u16
-    requires { ⌜ (sound (now a) ≡ true) × Grades (topOf (now a)) (conditionsOf (now a)) (now values) × LineOf (now a) (getD (now a) at 0) at × (add ≡ rounding (side end) (topOf (now a))) ⌝ }
+    requires { ⌜ (solvable (now a) ≡ true) × Grades (topOf (now a)) (conditionsOf (now a)) (now values) × LineOf (now a) (getD (now a) at 0) at × (add ≡ rounding (side end) (topOf (now a))) ⌝ }
     ensures { λ r. ⌜ LineEnd (side end) (now (a .entry)) (now (values .entry)) at r ⌝ }
 {
     let k = a[at + 1];

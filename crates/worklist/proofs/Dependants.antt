@@ -9,11 +9,11 @@ use native.Mathlib.Omega.{arith}
 use lib.Dec.{eqb, leb}
 use lib.ListN.{length, getD}
 use borrow.Author.Tests.{eq-eqb, ne-eqb, eqb-true, leb-true, le-leb}
-use Rattle.semantics.specs.Area.{sound, pageOf, conditionsOf, codeOf}
+use Rattle.semantics.specs.Area.{pageOf, conditionsOf, codeOf}
 use Rattle.semantics.specs.Page.{Literal, positive, negative, conditionOf, mentions, Line, fact, rule, query, default, linesName, names}
 use Rattle.semantics.proofs.Proper.{AllInRange}
 use Rattle.semantics.specs.RunArea.{markAt}
-use Rattle.semantics.proofs.Soundness.{both-true, sound-proper}
+use Rattle.semantics.proofs.Soundness.{both-true}
 use Rattle.semantics.proofs.Table.{or-cases}
 use Rattle.worklist.specs.Cells.{DependantsMarked}
 use Rattle.page.proofs.Head.{head-of, conditions-is}
@@ -24,6 +24,8 @@ use Rattle.index.specs.Readers.{among, linesRead}
 use Rattle.worklist.specs.Waiting.{WordsMatch}
 use Rattle.worklist.proofs.Matching.{lt-or-le}
 use Rattle.worklist.specs.Woken.{Among, HeadsBelow, HeadsIn, HeadsWoken, SetKept}
+use Rattle.page.specs.Solvable.{solvable}
+use Rattle.page.proofs.Solvable.{solvable-proper}
 
 -- a rule names c if it has the plain or the negated literal of c
 regroup : (x y p q : Bool) → ((x || y) || (p || q)) ≡ ((x || p) || (y || q))
@@ -76,7 +78,7 @@ module _ {heads run run′ : List ℕ} {from to : ℕ} (s : HeadsWoken heads fro
       go true false e only every = ⊎-elim (λ q. q) (λ q. absurd (true≢false (sym (only (q .2))))) (s .others h)
       go false t e only every = ⊎-elim (λ q. q) (λ q. absurd (true≢false (sym (le-leb 1 (markAt run h) (q .1)) ∙ e))) (s .others h)
 
-module _ (a start heads : List ℕ) (e : sound a ≡ true) (g : HeadsByLiteral a start heads) where
+module _ (a start heads : List ℕ) (e : solvable a ≡ true) (g : HeadsByLiteral a start heads) where
   abbrev n : ℕ
   n = conditionsOf a
 

@@ -12,7 +12,7 @@ use lib.Seq.{getD-set-same, getD-set-other, drop-set-lt}
 use borrow.Author.Tests.{eq-eqb, ne-eqb, le-leb, leb-true}
 use Rattle.fixpoint.specs.Interval.{same}
 use Rattle.fixpoint.proofs.KnowledgeOrder.{pair-eq}
-use Rattle.semantics.specs.Area.{sound, pageOf, topOf, conditionsOf}
+use Rattle.semantics.specs.Area.{pageOf, topOf, conditionsOf}
 use Rattle.semantics.specs.Body.{T}
 use Rattle.semantics.specs.Page.{Page, names}
 use Rattle.semantics.proofs.Proper.{Proper}
@@ -21,12 +21,13 @@ use Rattle.semantics.specs.Table.{intervalOf, member}
 use Rattle.semantics.specs.Worklist.{Worklist, changes, evaluated}
 use Rattle.semantics.proofs.Areas.{from-cells, mark-back, run-long, cell-sound, held-at, waits-at, reached-at, sound-encodable, area-sound}
 use Rattle.semantics.proofs.Readings.{page-system}
-use Rattle.semantics.proofs.Soundness.{sound-proper}
 use Rattle.semantics.proofs.Steps.{puts-same, puts-other, waits-after, encodable-evaluated}
 use Rattle.page.specs.Graded.{Graded, BodyValue}
 use Rattle.worklist.specs.Cells.{DependantsMarked}
 use Rattle.worklist.specs.Evaluation.{stored, Evaluated}
 use Rattle.page.proofs.Head.{head-of, conditions-is}
+use Rattle.page.specs.Solvable.{solvable}
+use Rattle.page.proofs.Solvable.{solvable-proper}
 
 -- a cell stored
 module _ (run : List ℕ) (c low high mark : ℕ) where
@@ -87,7 +88,7 @@ unfolding pageOf
 marks-of a run rs c l = leb-true (markAt run c) 2 (cell-sound (pageOf a) run rs c l .1 .1 .0)
 
 -- what the body value reads of a sound run area are grades
-pub graded-of : (a run : List ℕ) → sound a ≡ true → runSound (pageOf a) run ≡ true → Graded (topOf a) (conditionsOf a) run
+pub graded-of : (a run : List ℕ) → solvable a ≡ true → runSound (pageOf a) run ≡ true → Graded (topOf a) (conditionsOf a) run
 unfolding pageOf
 graded-of a run ok rs =
     let h = head-of a ok in
@@ -104,12 +105,12 @@ woken-mark : (x : Bool) (mark : ℕ) → mark ≤ 2 → cond x 2 mark ≡ markOf
 woken-mark true mark l = rw or-true
 woken-mark false mark l = rw or-false (sym (mark-back mark (le-leb mark 2 l)))
 
-module _ (a run : List ℕ) (ok : sound a ≡ true) (rs : runSound (pageOf a) run ≡ true) (c : ℕ) (l₀ : c < conditionsOf a) (two : markAt run c ≡ 2) {low high : ℕ} (v : BodyValue a run c low high) where
+module _ (a run : List ℕ) (ok : solvable a ≡ true) (rs : runSound (pageOf a) run ≡ true) (c : ℕ) (l₀ : c < conditionsOf a) (two : markAt run c ≡ 2) {low high : ℕ} (v : BodyValue a run c low high) where
   abbrev page : Page
   page = pageOf a
 
   abbrev w : Proper (pageOf a)
-  w = sound-proper a ok
+  w = solvable-proper a ok
 
   abbrev m : List Bool
   m = reachedOf (pageOf a) run

@@ -6,7 +6,7 @@ use Prim.Native.Nat.{ℕ, _+_, _*_, _≤_, _<_}
 use native.Mathlib.Omega.{arith}
 use lib.Dec.{eqb, leb}
 use lib.ListN.{length, getD, drop}
-use Rattle.semantics.specs.Area.{sound, pageOf, lineAt, topOf, conditionsOf, countOf, firstLine}
+use Rattle.semantics.specs.Area.{pageOf, lineAt, topOf, conditionsOf, countOf, firstLine}
 use Rattle.semantics.specs.Page.{Line, names, linesName}
 use Rattle.semantics.specs.RunArea.{intervalAt, markAt}
 use Rattle.page.specs.Lines.{Next, lineNames}
@@ -17,6 +17,7 @@ use Rattle.worklist.specs.Cells.{DependantsMarked}
 use Rattle.worklist.specs.Marks.{marked}
 use Rattle.page.proofs.Head.{conditions-is}
 use Rattle.worklist.proofs.Stores.{marked-length, marked-apart, marked-beyond, marked-mark}
+use Rattle.page.specs.Solvable.{solvable}
 
 -- the mark of a condition that is a dependant if a test holds
 abbrev pub dependant : Bool → ℕ → ℕ
@@ -51,7 +52,7 @@ module _ (a : List ℕ) (c : ℕ) (run₀ : List ℕ) where
     pub marks : (h : ℕ) → dependant (names (pageOf a) h c) (markAt run₀ h) ≡ dependant (linesName (linesLeft a at k) h c) (markAt run h)
     pub beyond : drop (3 * conditionsOf a) run ≡ drop (3 * conditionsOf a) run₀
 
-  pub marking-first : sound a ≡ true → 3 * conditionsOf a ≤ length run₀ → {at k : ℕ} → (at ≡ firstLine a) × (k ≡ 0) → Marking run₀ at k
+  pub marking-first : solvable a ≡ true → 3 * conditionsOf a ≤ length run₀ → {at k : ℕ} → (at ≡ firstLine a) × (k ≡ 0) → Marking run₀ at k
   marking-first e l q =
       rw (q .0, q .1)
       (record {

@@ -4,7 +4,7 @@ ghost use mathlib.Core.Bool.{true, cond, not};
 ghost use Prim.Native.Nat.{ℕ, _≤_, _+_, _<_, _*_};
 ghost use lib.ListN.{length, getD, drop};
 ghost use Rattle.fixpoint.specs.Interval.{same, Interval};
-ghost use Rattle.semantics.specs.Area.{sound, pageOf, conditionsOf, every, lineAt};
+ghost use Rattle.semantics.specs.Area.{pageOf, conditionsOf, every, lineAt};
 ghost use Rattle.semantics.specs.RunArea.{intervalAt, markAt, cellTests, runSound};
 ghost use Rattle.page.specs.Lines.{EntryIn, lineNames};
 ghost use Rattle.index.specs.Groups.{Cleared};
@@ -14,6 +14,7 @@ ghost use Rattle.worklist.specs.Waiting.{WordsMatch, StillMatches, Digit
 ghost use Rattle.worklist.specs.Woken.{HeadsIn, HeadsWoken, SetKept};
 ghost use Rattle.worklist.specs.Marks.{marked};
 ghost use Rattle.worklist.specs.Evaluation.{stored};
+ghost use Rattle.page.specs.Solvable.{solvable};
 
 // Whether the cell of c (low, high, mark) is sound.
 fn cell_ok(run: &[u16], c: u16, top: u16) -> bool
@@ -44,7 +45,7 @@ fn cell_ok(run: &[u16], c: u16, top: u16) -> bool
 
 // Whether a run area is long enough and sound.
 pub fn run_sound(a: &[u16], run: &[u16]) -> bool
-    requires { ⌜ sound (now a) ≡ true ⌝ }
+    requires { ⌜ solvable (now a) ≡ true ⌝ }
     ensures { λ r. ⌜ r ≡ runSound (pageOf (now (a .entry))) (now (run .entry)) ⌝ }
 {
     let top = a[0];
@@ -136,7 +137,7 @@ fn wake_head(a: &[u16], at: usize, run: &mut [u16], words: &mut [u64], c: u16)
 
 // Every reached condition with a rule that names c waits, and the set follows: by a scan of the page.
 fn wake_by_scan(a: &[u16], run: &mut [u16], words: &mut [u64], c: u16)
-    requires { ⌜ (sound (now a) ≡ true) × (3 * conditionsOf (now a) ≤ length (now run)) × (length (now words) ≡ 8) ⌝ }
+    requires { ⌜ (solvable (now a) ≡ true) × (3 * conditionsOf (now a) ≤ length (now run)) × (length (now words) ≡ 8) ⌝ }
     ensures { λ r. ⌜ DependantsMarked (pageOf (now (a .entry))) c (now (run .entry)) (now (run .exit)) × StillMatches (conditionsOf (now (a .entry))) (now (run .entry)) (now (words .entry)) (now (run .exit)) (now (words .exit)) ⌝ }
 {
     let count = a[2];
@@ -170,7 +171,7 @@ fn wake_group(run: &mut [u16], words: &mut [u64], heads: &[u16], from: usize, to
 
 // Every reached condition with a rule that names c waits, and the set follows: by the dependants of the index, or by a scan where there is none.
 pub fn wake_dependants(a: &[u16], users: &[u16], run: &mut [u16], words: &mut [u64], c: u16)
-    requires { ⌜ (sound (now a) ≡ true) × MaybeUsers (now a) (now users) × (3 * conditionsOf (now a) ≤ length (now run)) × (length (now words) ≡ 8) × (c < conditionsOf (now a)) ⌝ }
+    requires { ⌜ (solvable (now a) ≡ true) × MaybeUsers (now a) (now users) × (3 * conditionsOf (now a) ≤ length (now run)) × (length (now words) ≡ 8) × (c < conditionsOf (now a)) ⌝ }
     ensures { λ r. ⌜ DependantsMarked (pageOf (now (a .entry))) c (now (run .entry)) (now (run .exit)) × StillMatches (conditionsOf (now (a .entry))) (now (run .entry)) (now (words .entry)) (now (run .exit)) (now (words .exit)) ⌝ }
 {
     if users.len() == 0 {

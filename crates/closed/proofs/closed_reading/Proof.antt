@@ -48,10 +48,10 @@ solve-requires : tie.Need-solve-requires
 solve-requires c κs = (solve-ready _ _ _ _ (none-holds (c .before .before .before)), inl refl)
 
 shared-slice-read-clear : tie.Need-shared-slice-read-clear
-shared-slice-read-clear c = omega (arith, head-of _ (solve-ready _ _ _ _ (none-holds (c .before .before .before .before .before .before .before .before .before .before)) .page-sound))
+shared-slice-read-clear c = omega (arith, head-of _ (solve-ready _ _ _ _ (none-holds (c .before .before .before .before .before .before .before .before .before .before)) .page-solvable))
 
 clear-requires : tie.Need-clear-requires
-clear-requires c κs = (omega (arith, solve-ready _ _ _ _ (none-holds (c .before .before .before .before .before .before .before .before .before .before)) .long, c .before .before .before .before .before .before .solve .ensures .same-length), head-of _ (solve-ready _ _ _ _ (none-holds (c .before .before .before .before .before .before .before .before .before .before)) .page-sound) .few)
+clear-requires c κs = (omega (arith, solve-ready _ _ _ _ (none-holds (c .before .before .before .before .before .before .before .before .before .before)) .long, c .before .before .before .before .before .before .solve .ensures .same-length), head-of _ (solve-ready _ _ _ _ (none-holds (c .before .before .before .before .before .before .before .before .before .before)) .page-solvable) .few)
 
 same-length-3 : tie.Need-same-length-3
 same-length-3 c = search needs

@@ -11,6 +11,7 @@ use Rattle.page.proofs.Head.{head-of}
 use Rattle.closed.proofs.Answering.{causes-10, causes-11, causes-12, causes-18, causes-19, causes-none}
 use Rattle.closed.proofs.refusal.Statement.{statement}
 use Rattle.closed.proofs.refusal.Tie as tie
+use Rattle.page.proofs.Solvable.{sound-solvable}
 
 -- what the tests that passed say
 abbrev start : tie.Else1 → tie.Start
@@ -38,7 +39,7 @@ returns-2 : tie.Need-returns-2
 returns-2 c = causes-11 _ _ _ _ (is-sound (c .before .before)) (sym (c .before .count-ok .ensures) ∙ not-true _ (c .if2 .taken))
 
 shared-slice-read-n : tie.Need-shared-slice-read-n
-shared-slice-read-n c = omega (arith, head-of (c .before .before .before .before .before .before .before .before .before .args .page .now) (is-sound (c .before .before .before)))
+shared-slice-read-n c = omega (arith, head-of (c .before .before .before .before .before .before .before .before .before .args .page .now) (sound-solvable (c .before .before .before .before .before .before .before .before .before .args .page .now) (is-sound (c .before .before .before))))
 
 all-below-requires : tie.Need-all-below-requires
 all-below-requires c κs = search needs
@@ -47,10 +48,10 @@ returns-3 : tie.Need-returns-3
 returns-3 c = causes-12 _ _ _ _ (is-sound (c .before .before .before .before .before)) (is-few (c .before .before .before)) (sym (c .before .all-below .ensures) ∙ not-true _ (c .if3 .taken))
 
 cast-if4 : tie.Need-cast-if4
-cast-if4 c = omega (arith, head-of (c .before .before .before .before .before .before .before .before .before .before .before .args .page .now) (is-sound (c .before .before .before .before .before)))
+cast-if4 c = omega (arith, head-of (c .before .before .before .before .before .before .before .before .before .before .before .args .page .now) (sound-solvable (c .before .before .before .before .before .before .before .before .before .before .before .args .page .now) (is-sound (c .before .before .before .before .before))))
 
 mul-if4 : tie.Need-mul-if4
-mul-if4 c = omega (arith, head-of (c .before .before .before .before .before .before .before .before .before .before .before .args .page .now) (is-sound (c .before .before .before .before .before)))
+mul-if4 c = omega (arith, head-of (c .before .before .before .before .before .before .before .before .before .before .before .args .page .now) (sound-solvable (c .before .before .before .before .before .before .before .before .before .before .before .args .page .now) (is-sound (c .before .before .before .before .before))))
 
 returns-4 : tie.Need-returns-4
 returns-4 c = causes-18 _ _ _ _ (is-sound (c .before .before .before .before .before .before)) (is-few (c .before .before .before .before)) (is-under (c .before)) (c .if4 .taken)

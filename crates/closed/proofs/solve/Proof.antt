@@ -10,25 +10,25 @@ use Rattle.closed.proofs.solve.Statement.{statement}
 use Rattle.closed.proofs.solve.Tie as tie
 
 shared-slice-read-n : tie.Need-shared-slice-read-n
-shared-slice-read-n c = let s = c .before .before .before .before .before .before .before in omega (arith, head-of (s .args .a .now) (s .pre .0 .page-sound))
+shared-slice-read-n c = let s = c .before .before .before .before .before .before .before in omega (arith, head-of (s .args .a .now) (s .pre .0 .page-solvable))
 
 slice-aggregate-mark-closure : tie.Need-slice-aggregate-mark-closure
 slice-aggregate-mark-closure c = search needs
 
 mark-closure-requires : tie.Need-mark-closure-requires
-mark-closure-requires c κs = let s = c .before .before .before .before .before .before .before .before in (s .pre .0 .page-sound, s .pre .0 .under, unmarked)
+mark-closure-requires c κs = let s = c .before .before .before .before .before .before .before .before in (s .pre .0 .page-solvable, s .pre .0 .under, unmarked)
 
 shared-slice-read-begin : tie.Need-shared-slice-read-begin
-shared-slice-read-begin c = let s = c .before .before .before .before .before .before .before .before .before .before .before .before in omega (arith, head-of (s .args .a .now) (s .pre .0 .page-sound))
+shared-slice-read-begin c = let s = c .before .before .before .before .before .before .before .before .before .before .before .before in omega (arith, head-of (s .args .a .now) (s .pre .0 .page-solvable))
 
 begin-requires : tie.Need-begin-requires
-begin-requires c κs = let s = c .before .before .before .before .before .before .before .before .before .before .before .before in (s .pre .0 .long, head-of (s .args .a .now) (s .pre .0 .page-sound) .few)
+begin-requires c κs = let s = c .before .before .before .before .before .before .before .before .before .before .before .before in (s .pre .0 .long, head-of (s .args .a .now) (s .pre .0 .page-solvable) .few)
 
 slice-aggregate-any-free : tie.Need-slice-aggregate-any-free
 slice-aggregate-any-free c = search needs
 
 any-free-requires : tie.Need-any-free-requires
-any-free-requires c κs = let s = c .before .before .before .before .before .before .before .before .before .before .before .before .before .before .before .before in (s .pre .0 .page-sound, omega (arith, c .before .before .before .before .before .before .before .mark-closure .ensures .size, head-of (s .args .a .now) (s .pre .0 .page-sound)))
+any-free-requires c κs = let s = c .before .before .before .before .before .before .before .before .before .before .before .before .before .before .before .before in (s .pre .0 .page-solvable, omega (arith, c .before .before .before .before .before .before .before .mark-closure .ensures .size, head-of (s .args .a .now) (s .pre .0 .page-solvable)))
 
 slice-aggregate-alternate : tie.Need-slice-aggregate-alternate
 slice-aggregate-alternate c = search needs
@@ -37,10 +37,10 @@ slice-aggregate-alternate-2 : tie.Need-slice-aggregate-alternate-2
 slice-aggregate-alternate-2 c = search needs
 
 alternate-requires : tie.Need-alternate-requires
-alternate-requires c κs = let s = c .before .before .before .before .before .before .before .before .before .before .before .before .before .before .before .before .before .before .before .before in (rounds-begin _ _ _ _ (s .pre .0) (c .before .before .before .before .before .before .before .before .before .before .before .mark-closure .ensures) (c .before .before .before .before .before .before .before .begin .ensures), s .pre .1, head-of (s .args .a .now) (s .pre .0 .page-sound) .few, c .before .before .before .any-free .ensures)
+alternate-requires c κs = let s = c .before .before .before .before .before .before .before .before .before .before .before .before .before .before .before .before .before .before .before .before in (rounds-begin _ _ _ _ (s .pre .0) (c .before .before .before .before .before .before .before .before .before .before .before .mark-closure .ensures) (c .before .before .before .before .before .before .before .begin .ensures), s .pre .1, head-of (s .args .a .now) (s .pre .0 .page-solvable) .few, c .before .before .before .any-free .ensures)
 
 write-answers-requires : tie.Need-write-answers-requires
-write-answers-requires c κs = let s = c .before .before .before .before .before .before .before .before .before .before .before .before .before .before .before .before .before .before .before .before .before .before .before .before .before .before in (under-at _ _ (s .pre .0 .under), omega (arith, s .pre .0 .long, c .before .before .before .before .before .before .before .before .before .before .before .before .before .begin .ensures .same-length, c .before .before .before .before .before .alternate .ensures .0 .same-length), head-of (s .args .a .now) (s .pre .0 .page-sound) .few, s .pre .0 .room)
+write-answers-requires c κs = let s = c .before .before .before .before .before .before .before .before .before .before .before .before .before .before .before .before .before .before .before .before .before .before .before .before .before .before in (under-at _ _ (s .pre .0 .under), omega (arith, s .pre .0 .long, c .before .before .before .before .before .before .before .before .before .before .before .before .before .begin .ensures .same-length, c .before .before .before .before .before .alternate .ensures .0 .same-length), head-of (s .args .a .now) (s .pre .0 .page-solvable) .few, s .pre .0 .room)
 
 same-length : tie.Need-same-length
 same-length c = search needs
@@ -58,7 +58,7 @@ slice-aggregate-count-rounds-2 : tie.Need-slice-aggregate-count-rounds-2
 slice-aggregate-count-rounds-2 c = search needs
 
 count-rounds-requires : tie.Need-count-rounds-requires
-count-rounds-requires c κs = let s = c .before .before .before .before .before .before .before .before .before .before .before .before .before .before .before .before .before .before .before .before .before .before .before .before .before .before .before .before .before .before .before .before .before in (count-ready _ _ _ _ (s .pre .0) (c .before .before .before .before .before .before .before .before .before .before .before .before .before .before .before .before .before .before .before .before .before .before .before .before .mark-closure .ensures) (c .before .before .before .before .before .before .before .before .before .before .before .before .before .before .before .before .before .before .before .before .begin .ensures) (c .before .before .before .before .before .before .before .before .before .before .before .before .alternate .ensures .0), s .pre .1, omega (arith, c .before .before .before .before .before .before .before .before .before .before .before .before .alternate .ensures .1, head-of (s .args .a .now) (s .pre .0 .page-sound)), c .before .before .before .before .before .before .before .before .before .before .before .before .before .before .before .before .any-free .ensures)
+count-rounds-requires c κs = let s = c .before .before .before .before .before .before .before .before .before .before .before .before .before .before .before .before .before .before .before .before .before .before .before .before .before .before .before .before .before .before .before .before .before in (count-ready _ _ _ _ (s .pre .0) (c .before .before .before .before .before .before .before .before .before .before .before .before .before .before .before .before .before .before .before .before .before .before .before .before .mark-closure .ensures) (c .before .before .before .before .before .before .before .before .before .before .before .before .before .before .before .before .before .before .before .before .begin .ensures) (c .before .before .before .before .before .before .before .before .before .before .before .before .alternate .ensures .0), s .pre .1, omega (arith, c .before .before .before .before .before .before .before .before .before .before .before .before .alternate .ensures .1, head-of (s .args .a .now) (s .pre .0 .page-solvable)), c .before .before .before .before .before .before .before .before .before .before .before .before .before .before .before .before .any-free .ensures)
 
 same-length-3 : tie.Need-same-length-3
 same-length-3 c = search needs

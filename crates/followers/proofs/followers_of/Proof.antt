@@ -4,7 +4,6 @@ use Prim.Native.Nat.{_-_}
 use native.Mathlib.Omega.{arith}
 use Rattle.fixpoint.specs.Sum.{count}
 use Rattle.semantics.specs.Area.{pageOf}
-use Rattle.semantics.proofs.Soundness.{sound-proper}
 use Rattle.page.proofs.Head.{head-of}
 use Rattle.bits.specs.Words.{has}
 use Rattle.reach.proofs.Inserting.{size-most}
@@ -12,6 +11,7 @@ use Rattle.followers.specs.Rows.{Covers, Seeks}
 use Rattle.followers.proofs.Settled.{covers-first, seeks-first, settled-row}
 use Rattle.followers.proofs.followers_of.Statement.{statement}
 use Rattle.followers.proofs.followers_of.Tie as tie
+use Rattle.page.proofs.Solvable.{solvable-proper}
 
 abbrev Inv-loop : tie.InvT-loop
 Inv-loop a c row₀ seen₀ row seen = Covers seen row × Seeks (pageOf a) c seen row
@@ -23,7 +23,7 @@ insert-requires : tie.Need-insert-requires Inv-loop μ-loop
 insert-requires c κs = let z = c .before .before in (refl, omega (arith, head-of (z .args .a .now) (z .pre .0) .few))
 
 loop-holds : tie.Need-loop-holds Inv-loop μ-loop
-loop-holds c = let z = c .before .before .before .before in let h = c .before .insert .ensures in (covers-first (z .args .c) h, seeks-first (pageOf (z .args .a .now)) (sound-proper (z .args .a .now) (z .pre .0)) (z .args .c) h)
+loop-holds c = let z = c .before .before .before .before in let h = c .before .insert .ensures in (covers-first (z .args .c) h, seeks-first (pageOf (z .args .a .now)) (solvable-proper (z .args .a .now) (z .pre .0)) (z .args .c) h)
 
 slice-aggregate-pass : tie.Need-slice-aggregate-pass Inv-loop μ-loop
 slice-aggregate-pass c = sym (c .before .loop .inv .0 .seen-size)
@@ -36,7 +36,7 @@ pass-requires c κs = (c .before .before .before .before .before .before .before
 
 returns : tie.Need-returns Inv-loop μ-loop
 unfolding pageOf
-returns c = let z = c .before .before .before .before .before .before .before .before .before .before .before in settled-row (pageOf (z .args .a .now)) (sound-proper (z .args .a .now) (z .pre .0)) (z .args .c) (z .pre .1) (c .before .before .before .before .before .before .loop .inv .1) (c .before .before .before .pass .ensures) (c .if1 .taken)
+returns c = let z = c .before .before .before .before .before .before .before .before .before .before .before in settled-row (pageOf (z .args .a .now)) (solvable-proper (z .args .a .now) (z .pre .0)) (z .args .c) (z .pre .1) (c .before .before .before .before .before .before .loop .inv .1) (c .before .before .before .pass .ensures) (c .if1 .taken)
 
 loop-less : tie.Need-loop-less Inv-loop μ-loop
 loop-less c = omega (arith, c .before .before .before .pass .ensures .counted, size-most 512 (has (c .before .before .before .pass .last .1 .1 .0)))

@@ -3,13 +3,13 @@ use mathlib.Core.Path.{_≡_, sym, _∙_}
 use mathlib.Core.Logic.{⊎-elim}
 use Prim.Native.Nat.{ℕ, _-_, _<_}
 use Rattle.semantics.specs.Area.{pageOf, conditionsOf}
-use Rattle.semantics.proofs.Soundness.{sound-proper}
 use Rattle.page.proofs.Head.{head-of}
 use Rattle.layers.specs.Levels.{levelIn, Open}
 use Rattle.layers.proofs.Paths.{open-begun, next-done, loop-found}
 use native.Mathlib.Omega.{arith}
 use Rattle.layers.proofs.lowest_loop.Statement.{statement}
 use Rattle.layers.proofs.lowest_loop.Tie as tie
+use Rattle.page.proofs.Solvable.{solvable-proper}
 
 abbrev Inv-loop : tie.InvT-loop
 Inv-loop a levels₀ lowest₀ c₀ levels lowest c = Open (pageOf a) levels 0 lowest × ((i : ℕ) → i < c → levelIn levels i ≡ 513)
@@ -25,7 +25,7 @@ shared-slice-read-lowest c = let z = c .before .before .before .before .before .
 
 loop-holds : tie.Need-loop-holds Inv-loop μ-loop
 unfolding pageOf
-loop-holds c = let z = c .before .before .before .before .before .before .before in (open-begun (pageOf (z .args .a .now)) (sound-proper (z .args .a .now) (z .pre .0)) (c .before .before .before .begin .ensures), λ i l. absurd (omega arith))
+loop-holds c = let z = c .before .before .before .before .before .before .before in (open-begun (pageOf (z .args .a .now)) (solvable-proper (z .args .a .now) (z .pre .0)) (c .before .before .before .begin .ensures), λ i l. absurd (omega arith))
 
 cast-if1 : tie.Need-cast-if1 Inv-loop μ-loop
 unfolding pageOf
@@ -56,8 +56,8 @@ unfolding pageOf
 loop-again c =
     let z = c .before .before .before .before .before .before .before .before .before .before .before in
     let l = c .before .before .before .loop in
-    ⊎-elim (λ w. rw (w .5, w .6) (w .2 .ensures .state, next-done (pageOf (z .args .a .now)) (sound-proper (z .args .a .now) (z .pre .0)) (l .levels) _ (w .2 .ensures .state) (l .inv .1) (w .2 .ensures .stays-met) (w .2 .ensures .root-met)))
-    (λ w. rw (w .1, w .2) (l .inv .0, next-done (pageOf (z .args .a .now)) (sound-proper (z .args .a .now) (z .pre .0)) (l .levels) (l .levels) (l .inv .0) (l .inv .1) (λ i m. m) (omega (arith, w .0 .left))))
+    ⊎-elim (λ w. rw (w .5, w .6) (w .2 .ensures .state, next-done (pageOf (z .args .a .now)) (solvable-proper (z .args .a .now) (z .pre .0)) (l .levels) _ (w .2 .ensures .state) (l .inv .1) (w .2 .ensures .stays-met) (w .2 .ensures .root-met)))
+    (λ w. rw (w .1, w .2) (l .inv .0, next-done (pageOf (z .args .a .now)) (solvable-proper (z .args .a .now) (z .pre .0)) (l .levels) (l .levels) (l .inv .0) (l .inv .1) (λ i m. m) (omega (arith, w .0 .left))))
     (c .if1 .came)
 
 same-length : tie.Need-same-length Inv-loop μ-loop
@@ -66,7 +66,7 @@ same-length c = let z = c .before .before .before .before .before .before .befor
 
 returns : tie.Need-returns Inv-loop μ-loop
 unfolding pageOf
-returns c = let z = c .before .before .before .before .before .before .before .before .before in let h = c .before .loop .inv in loop-found (pageOf (z .args .a .now)) (sound-proper (z .args .a .now) (z .pre .0)) (h .0) (h .1) (omega arith)
+returns c = let z = c .before .before .before .before .before .before .before .before .before in let h = c .before .loop .inv in loop-found (pageOf (z .args .a .now)) (solvable-proper (z .args .a .now) (z .pre .0)) (h .0) (h .1) (omega arith)
 
 pub lowest-loop-spec : {M : Type 1} → statement M
 lowest-loop-spec =

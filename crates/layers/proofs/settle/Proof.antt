@@ -2,16 +2,17 @@
 use mathlib.Core.Path.{_≡_, sym, _∙_}
 use mathlib.Core.Bool.{true}
 use Prim.Native.Nat.{_-_}
-use Rattle.semantics.specs.Area.{sound, pageOf}
-use Rattle.semantics.proofs.Soundness.{sound-proper}
+use Rattle.semantics.specs.Area.{pageOf}
 use Rattle.page.proofs.Head.{head-of}
 use Rattle.layers.proofs.Settling.{Settling, settling-first, settled-still, settled-high, settling-next, settled-late}
 use native.Mathlib.Omega.{arith}
 use Rattle.layers.proofs.settle.Statement.{statement}
 use Rattle.layers.proofs.settle.Tie as tie
+use Rattle.page.specs.Solvable.{solvable}
+use Rattle.page.proofs.Solvable.{solvable-proper}
 
 abbrev Inv-loop : tie.InvT-loop
-Inv-loop a layers₀ n k₀ layers k = (ok : sound a ≡ true) × Settling (pageOf a) (sound-proper a ok) layers k
+Inv-loop a layers₀ n k₀ layers k = (ok : solvable a ≡ true) × Settling (pageOf a) (solvable-proper a ok) layers k
 
 abbrev μ-loop : tie.MeasureT-loop
 μ-loop a layers₀ n k₀ layers k = n - k
@@ -21,7 +22,7 @@ shared-slice-read-n c = let z = c .before .before .before in omega (arith, head-
 
 loop-holds : tie.Need-loop-holds Inv-loop μ-loop
 unfolding pageOf
-loop-holds c = let z = c .before .before .before in (z .pre .0, settling-first (pageOf (z .args .a .now)) (sound-proper (z .args .a .now) (z .pre .0)) (z .pre .1) (z .pre .2))
+loop-holds c = let z = c .before .before .before in (z .pre .0, settling-first (pageOf (z .args .a .now)) (solvable-proper (z .args .a .now) (z .pre .0)) (z .pre .1) (z .pre .2))
 
 raise-pass-requires : tie.Need-raise-pass-requires Inv-loop μ-loop
 unfolding pageOf

@@ -15,9 +15,9 @@ use Rattle.page.proofs.page_sound.Tie as tie
 
 -- the tests of the head hold
 head-holds : (z : List ℕ) → 4 ≤ length z → 4 + getD z 1 0 ≤ getD z 3 0 → getD z 3 0 ≤ length z → 1 ≤ getD z 0 0 → getD z 0 0 ≤ 200 → 1 ≤ getD z 1 0 → getD z 1 0 ≤ 512 → getD z 2 0 ≤ 1024
-    → every (headTests z) ≡ true
+    → every (headTests 1024 z) ≡ true
 head-holds z a b c d e f g h =
-    every-of (headTests z) (
+    every-of (headTests 1024 z) (
       le-leb 4 (length z) a,
       (
         le-leb (4 + getD z 1 0) (getD z 3 0) b,

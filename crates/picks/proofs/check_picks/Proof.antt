@@ -2,6 +2,7 @@
 use mathlib.Core.Path.{sym, _∙_}
 use native.Mathlib.Omega.{arith}
 use borrow.Author.Tests.{not-true, not-false}
+use Rattle.page.proofs.Solvable.{sound-solvable}
 use Rattle.page.proofs.Head.{head-of}
 use Rattle.picks.proofs.Judging.{check-10, check-11, check-12, check-none, check-judged}
 use Rattle.picks.proofs.check_picks.Statement.{statement}
@@ -14,7 +15,7 @@ returns-2 : tie.Need-returns-2
 returns-2 c = check-11 _ _ _ _ (sym (c .before .before .before .page-sound .ensures) ∙ not-false _ (c .before .before .if1 .left)) (sym (c .before .count-ok .ensures) ∙ not-true _ (c .if2 .taken))
 
 shared-slice-read-all-below : tie.Need-shared-slice-read-all-below
-shared-slice-read-all-below c = omega (arith, head-of (c .before .before .before .before .before .before .before .before .before .args .page .now) (sym (c .before .before .before .before .page-sound .ensures) ∙ not-false _ (c .before .before .before .if1 .left)))
+shared-slice-read-all-below c = omega (arith, head-of (c .before .before .before .before .before .before .before .before .before .args .page .now) (sound-solvable (c .before .before .before .before .before .before .before .before .before .args .page .now) (sym (c .before .before .before .before .page-sound .ensures) ∙ not-false _ (c .before .before .before .if1 .left))))
 
 returns-3 : tie.Need-returns-3
 returns-3 c =

@@ -5,9 +5,8 @@ use native.Mathlib.Omega.{arith}
 use lib.ListN.{length}
 use borrow.Author.Tests.{not-true, not-false}
 use Rattle.semantics.specs.Area.{pageOf}
-use Rattle.semantics.proofs.Picks.{picks-sound}
 use Rattle.page.proofs.Head.{head-of}
-use Rattle.picks.proofs.Judging.{Judging, queries-few, queries-inside, judging-first, judging-some, judging-small, judged-not-waiting, pick-inside, judging-next, judged-not-at-rest, judged-wrong, judged-accepted, judging-grades}
+use Rattle.picks.proofs.Judging.{picks-solvable, Judging, queries-few, queries-inside, judging-first, judging-some, judging-small, judged-not-waiting, pick-inside, judging-next, judged-not-at-rest, judged-wrong, judged-accepted, judging-grades}
 use Rattle.picks.proofs.judge.Statement.{statement}
 use Rattle.picks.proofs.judge.Tie as tie
 
@@ -18,10 +17,10 @@ abbrev μ-loop : tie.MeasureT-loop
 μ-loop page queries picks figures n reached waiting₀ values₀ i₀ waiting values i = length picks - i
 
 shared-slice-read-n : tie.Need-shared-slice-read-n Inv-loop μ-loop
-shared-slice-read-n c = let z = c .before .before .before .before .before in omega (arith, head-of (z .args .page .now) (picks-sound (z .args .page .now) (z .args .queries .now) (z .pre)))
+shared-slice-read-n c = let z = c .before .before .before .before .before in omega (arith, head-of (z .args .page .now) (picks-solvable (z .args .page .now) (z .args .queries .now) (z .pre)))
 
 spread-requires : tie.Need-spread-requires Inv-loop μ-loop
-spread-requires c κs = let z = c .before .before .before .before .before in (picks-sound (z .args .page .now) (z .args .queries .now) (z .pre), queries-inside (z .args .page .now) (z .args .queries .now) (z .pre))
+spread-requires c κs = let z = c .before .before .before .before .before in (picks-solvable (z .args .page .now) (z .args .queries .now) (z .pre), queries-inside (z .args .page .now) (z .args .queries .now) (z .pre))
 
 loop-holds : tie.Need-loop-holds Inv-loop μ-loop
 loop-holds c = let z = c .before .before .before .before .before .before in judging-first _ _ (z .pre) (z .args .picks .now) (c .spread .ensures)
@@ -36,7 +35,7 @@ slice-aggregate-waits : tie.Need-slice-aggregate-waits Inv-loop μ-loop
 slice-aggregate-waits c = sym (c .before .before .before .loop .inv .holds .waiting-set .size)
 
 waits-requires : tie.Need-waits-requires Inv-loop μ-loop
-waits-requires c κs = let z = c .before .before .before .before .before .before .before .before .before .before in (c .before .before .before .loop .inv .holds .waiting-set .size, head-of (z .args .page .now) (picks-sound (z .args .page .now) (z .args .queries .now) (z .pre)) .few)
+waits-requires c κs = let z = c .before .before .before .before .before .before .before .before .before .before in (c .before .before .before .loop .inv .holds .waiting-set .size, head-of (z .args .page .now) (picks-solvable (z .args .page .now) (z .args .queries .now) (z .pre)) .few)
 
 cast-t21 : tie.Need-cast-t21 Inv-loop μ-loop
 cast-t21 c = let z = c .before .before .before .before .before .before .before .before .before .before .before .before in omega (arith, judging-small _ _ (z .pre) _ (c .before .before .before .before .before .loop .inv))
@@ -60,7 +59,7 @@ evaluate-requires : tie.Need-evaluate-requires Inv-loop μ-loop
 evaluate-requires c κs =
     let z = c .before .before .before .before .before .before .before .before .before .before .before .before .before .before .before in
     let s = c .before .before .before .before .before .before .before .before .loop .inv in
-    (picks-sound (z .args .page .now) (z .args .queries .now) (z .pre), pick-inside _ _ (z .pre) _ s (omega arith) (c .before .before .before .before .waits .ensures) (not-false _ (c .before .before .before .if1 .left)), judging-some _ _ (z .pre) _ s)
+    (picks-solvable (z .args .page .now) (z .args .queries .now) (z .pre), pick-inside _ _ (z .pre) _ s (omega arith) (c .before .before .before .before .waits .ensures) (not-false _ (c .before .before .before .if1 .left)), judging-some _ _ (z .pre) _ s)
 
 add-i : tie.Need-add-i Inv-loop μ-loop
 add-i c = omega arith
@@ -84,7 +83,7 @@ slice-aggregate-figures-held : tie.Need-slice-aggregate-figures-held Inv-loop μ
 slice-aggregate-figures-held c = sym (c .before .before .before .before .before .loop .inv .size)
 
 figures-held-requires : tie.Need-figures-held-requires Inv-loop μ-loop
-figures-held-requires c κs = let z = c .before .before .before .before .before .before .before .before .before .before .before .before in (picks-sound (z .args .page .now) (z .args .queries .now) (z .pre), queries-inside (z .args .page .now) (z .args .queries .now) (z .pre), queries-few (z .args .page .now) (z .args .queries .now) (z .pre), judging-grades _ _ (z .pre) _ (c .before .before .before .before .before .loop .inv))
+figures-held-requires c κs = let z = c .before .before .before .before .before .before .before .before .before .before .before .before in (picks-solvable (z .args .page .now) (z .args .queries .now) (z .pre), queries-inside (z .args .page .now) (z .args .queries .now) (z .pre), queries-few (z .args .page .now) (z .args .queries .now) (z .pre), judging-grades _ _ (z .pre) _ (c .before .before .before .before .before .loop .inv))
 
 returns-3 : tie.Need-returns-3 Inv-loop μ-loop
 returns-3 c = let z = c .before .before .before .before .before .before .before .before .before .before .before .before .before .before in judged-wrong _ _ (z .pre) _ (c .before .before .before .before .before .before .before .loop .inv) (omega arith) (c .before .before .before .before .lowest-in .ensures) (c .before .before .before .if2 .left) (c .before .figures-held .ensures) (not-true _ (c .if3 .taken))

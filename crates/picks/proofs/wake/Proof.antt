@@ -2,13 +2,13 @@
 use mathlib.Core.Path.{sym, _∙_}
 use Prim.Native.Nat.{_-_}
 use native.Mathlib.Omega.{arith}
-use Rattle.semantics.proofs.Soundness.{sound-proper}
 use Rattle.page.proofs.Head.{head-of}
 use Rattle.page.proofs.Scanning.{entry-here}
 use Rattle.reach.proofs.Visiting.{scanned-head}
 use Rattle.picks.proofs.Waking.{Waking, waking-first, waking-next, waking-last}
 use Rattle.picks.proofs.wake.Statement.{statement}
 use Rattle.picks.proofs.wake.Tie as tie
+use Rattle.page.proofs.Solvable.{solvable-proper}
 
 abbrev Inv-loop : tie.InvT-loop
 Inv-loop a reached waiting₀ c count line₀ waiting line = Waking a c reached waiting₀ waiting (line .at) (line .passed)
@@ -29,7 +29,7 @@ wake-head-requires : tie.Need-wake-head-requires Inv-loop μ-loop
 wake-head-requires c κs =
     let z = c .before .before .before .before .before .before .before .before .before .before in
     let h = c .before .before .before .before .loop .inv in
-    (entry-here _ (h .scan) (omega arith), omega (arith, scanned-head _ (h .scan) (omega arith), sound-proper (z .args .a .now) (z .pre .0) .conditions-most), z .pre .1, h .joining .size)
+    (entry-here _ (h .scan) (omega arith), omega (arith, scanned-head _ (h .scan) (omega arith), solvable-proper (z .args .a .now) (z .pre .0) .conditions-most), z .pre .1, h .joining .size)
 
 loop-less : tie.Need-loop-less Inv-loop μ-loop
 loop-less c = omega (arith, c .before .before .before .before .next .ensures .count)

@@ -5,12 +5,12 @@ use native.Mathlib.Omega.{arith}
 use Rattle.fixpoint.specs.Sum.{count}
 use Rattle.semantics.specs.Area.{pageOf}
 use Rattle.semantics.specs.Table.{member}
-use Rattle.semantics.proofs.Soundness.{sound-proper}
 use Rattle.reach.proofs.Closing.{Spreading, spreading-first, spreading-next, spreading-last}
 use Rattle.reach.proofs.Inserting.{size-most}
 use Rattle.reach.proofs.Naming.{queries-few}
 use Rattle.reach.proofs.mark_closure.Statement.{statement}
 use Rattle.reach.proofs.mark_closure.Tie as tie
+use Rattle.page.proofs.Solvable.{solvable-proper}
 
 abbrev Inv-loop : tie.InvT-loop
 Inv-loop a queries marks₀ marks = Spreading (pageOf a) queries marks
@@ -23,7 +23,7 @@ mark-queries-requires c κs = let z = c .before .before .before .before in (quer
 
 loop-holds : tie.Need-loop-holds Inv-loop μ-loop
 unfolding pageOf
-loop-holds c = let z = c .before .before .before .before .before .before .before in spreading-first (pageOf (z .args .a .now)) (z .args .queries .now) (sound-proper (z .args .a .now) (z .pre .0)) (z .pre .1) (z .pre .2) (c .before .before .mark-queries .ensures)
+loop-holds c = let z = c .before .before .before .before .before .before .before in spreading-first (pageOf (z .args .a .now)) (z .args .queries .now) (solvable-proper (z .args .a .now) (z .pre .0)) (z .pre .1) (z .pre .2) (c .before .before .mark-queries .ensures)
 
 sweep-requires : tie.Need-sweep-requires Inv-loop μ-loop
 sweep-requires c κs = (c .before .before .before .before .before .before .before .before .before .pre .0, c .before .loop .inv .size)
@@ -33,14 +33,14 @@ loop-less c = omega (arith, c .before .before .before .sweep .ensures .counted, 
 
 loop-again : tie.Need-loop-again Inv-loop μ-loop
 unfolding pageOf
-loop-again c = let z = c .before .before .before .before .before .before .before .before .before .before .before .before .before in spreading-next (pageOf (z .args .a .now)) (z .args .queries .now) (sound-proper (z .args .a .now) (z .pre .0)) (z .pre .1) (c .before .before .before .before .before .loop .inv) (c .before .before .before .sweep .ensures)
+loop-again c = let z = c .before .before .before .before .before .before .before .before .before .before .before .before .before in spreading-next (pageOf (z .args .a .now)) (z .args .queries .now) (solvable-proper (z .args .a .now) (z .pre .0)) (z .pre .1) (c .before .before .before .before .before .loop .inv) (c .before .before .before .sweep .ensures)
 
 same-length : tie.Need-same-length Inv-loop μ-loop
 same-length c = c .before .before .before .sweep .ensures .size ∙ sym (c .before .before .before .before .before .before .before .before .before .before .before .before .before .pre .2 .0)
 
 returns : tie.Need-returns Inv-loop μ-loop
 unfolding pageOf
-returns c = let z = c .before .before .before .before .before .before .before .before .before .before .before .before .before in spreading-last (pageOf (z .args .a .now)) (z .args .queries .now) (sound-proper (z .args .a .now) (z .pre .0)) (z .pre .1) (c .before .before .before .before .before .loop .inv) (c .before .before .before .sweep .ensures) (omega arith)
+returns c = let z = c .before .before .before .before .before .before .before .before .before .before .before .before .before in spreading-last (pageOf (z .args .a .now)) (z .args .queries .now) (solvable-proper (z .args .a .now) (z .pre .0)) (z .pre .1) (c .before .before .before .before .before .loop .inv) (c .before .before .before .sweep .ensures) (omega arith)
 
 pub mark-closure-spec : {M : Type 1} → statement M
 mark-closure-spec =

@@ -3,7 +3,7 @@ use native.Mathlib.Omega.{arith}
 use borrow.Author.Needs.{needs}
 use Rattle.semantics.specs.Area.{pageOf}
 use Rattle.page.proofs.Head.{head-of}
-use Rattle.page.proofs.Scan.{sound-head}
+use Rattle.page.proofs.Scan.{solvable-head}
 use Rattle.reach.proofs.Counting.{counted-few}
 use Rattle.reach.proofs.Marking.{unmarked, closure-marks}
 use Rattle.reach.proofs.Writing.{accepted-answer, accepted-run}
@@ -11,10 +11,10 @@ use Rattle.reach.proofs.open_accepted.Statement.{statement}
 use Rattle.reach.proofs.open_accepted.Tie as tie
 
 shared-slice-read-top : tie.Need-shared-slice-read-top
-shared-slice-read-top c = let z = c .before .before .before .before in omega (arith, sound-head (z .args .page .now) (z .pre .0))
+shared-slice-read-top c = let z = c .before .before .before .before in omega (arith, solvable-head (z .args .page .now) (z .pre .0))
 
 shared-slice-read-n : tie.Need-shared-slice-read-n
-shared-slice-read-n c = let z = c .before .before .before .before .before in omega (arith, sound-head (z .args .page .now) (z .pre .0))
+shared-slice-read-n c = let z = c .before .before .before .before .before in omega (arith, solvable-head (z .args .page .now) (z .pre .0))
 
 find-requires : tie.Need-find-requires
 find-requires c κs = search needs

@@ -8,7 +8,8 @@ use borrow.Author.Needs.{needs}
 use borrow.Author.Tests.{not-true, not-false}
 use Rattle.semantics.specs.Area.{allUnder, conditionsOf}
 use Rattle.page.proofs.Head.{head-of}
-use Rattle.page.proofs.Scan.{sound-head}
+use Rattle.page.proofs.Solvable.{sound-solvable}
+use Rattle.page.proofs.Scan.{solvable-head}
 use Rattle.reach.proofs.Refusals.{open-11, open-12, open-13, open-none}
 use Rattle.reach.proofs.open_sound.Statement.{statement}
 use Rattle.reach.proofs.open_sound.Tie as tie
@@ -35,7 +36,7 @@ returns c =
     open-11 (z .args .page .now) (z .args .queries .now) (z .args .run .now) (z .pre) (sym (c .before .count-ok .ensures) ∙ not-true (c .before .count-ok .result) (c .if1 .taken))
 
 shared-slice-read-all-below : tie.Need-shared-slice-read-all-below
-shared-slice-read-all-below c = let z = at-1 (c .before) in omega (arith, sound-head (z .args .page .now) (z .pre))
+shared-slice-read-all-below c = let z = at-1 (c .before) in omega (arith, solvable-head (z .args .page .now) (sound-solvable (z .args .page .now) (z .pre)))
 
 all-below-requires : tie.Need-all-below-requires
 all-below-requires c κs = search needs
@@ -47,13 +48,13 @@ returns-2 c =
     open-12 (z .args .page .now) (z .args .queries .now) (z .args .run .now) (z .pre) (no-11 e) (sym (c .before .all-below .ensures) ∙ not-true (c .before .all-below .result) (c .if2 .taken))
 
 shared-slice-read-if3 : tie.Need-shared-slice-read-if3
-shared-slice-read-if3 c = let z = at-1 (c .before .before .before .before) in omega (arith, sound-head (z .args .page .now) (z .pre))
+shared-slice-read-if3 c = let z = at-1 (c .before .before .before .before) in omega (arith, solvable-head (z .args .page .now) (sound-solvable (z .args .page .now) (z .pre)))
 
 cast-if3 : tie.Need-cast-if3
-cast-if3 c = let z = at-1 (c .before .before .before .before) in omega (arith, head-of (z .args .page .now) (z .pre) .few)
+cast-if3 c = let z = at-1 (c .before .before .before .before) in omega (arith, head-of (z .args .page .now) (sound-solvable (z .args .page .now) (z .pre)) .few)
 
 mul-if3 : tie.Need-mul-if3
-mul-if3 c = let z = at-1 (c .before .before .before .before) in omega (arith, head-of (z .args .page .now) (z .pre) .few)
+mul-if3 c = let z = at-1 (c .before .before .before .before) in omega (arith, head-of (z .args .page .now) (sound-solvable (z .args .page .now) (z .pre)) .few)
 
 returns-3 : tie.Need-returns-3
 returns-3 c =
@@ -62,7 +63,7 @@ returns-3 c =
     open-13 (z .args .page .now) (z .args .queries .now) (z .args .run .now) (z .pre) (no-11 (e .before .before .before)) (no-12 e) (c .if3 .taken)
 
 open-accepted-requires : tie.Need-open-accepted-requires
-open-accepted-requires c κs = let e = c .before .before .before in (at-2 e .pre, no-12 e, c .before .if3 .left)
+open-accepted-requires c κs = let e = c .before .before .before in (sound-solvable (at-2 e .args .page .now) (at-2 e .pre), no-12 e, c .before .if3 .left)
 
 same-length : tie.Need-same-length
 same-length c = search needs

@@ -4,7 +4,6 @@ use mathlib.Core.Logic.{⊎-elim}
 use Prim.Native.Nat.{_+_}
 use native.Mathlib.Omega.{arith}
 use Rattle.semantics.specs.Area.{countOf}
-use Rattle.semantics.proofs.Soundness.{sound-proper}
 use Rattle.page.proofs.Head.{head-of}
 use Rattle.page.proofs.Scanning.{entry-here, entry-sound}
 use Rattle.reach.proofs.Inserting.{inserts-few}
@@ -12,6 +11,7 @@ use Rattle.reach.proofs.Sweeping.{Sweeping, sweeping-first, sweeping-ne
 use Rattle.reach.proofs.Visiting.{scanned-head}
 use Rattle.reach.proofs.sweep.Statement.{statement}
 use Rattle.reach.proofs.sweep.Tie as tie
+use Rattle.page.proofs.Solvable.{solvable-proper}
 
 abbrev Inv-loop : tie.InvT-loop
 Inv-loop a marks₀ left₀ line₀ new₀ marks left line new = (line .passed + left ≡ countOf a) × Sweeping a marks₀ marks (line .at) (line .passed) new
@@ -32,10 +32,10 @@ shared-slice-read-if1 : tie.Need-shared-slice-read-if1 Inv-loop μ-loop
 shared-slice-read-if1 c = let z = c .before .before .before .before .before .before .before in let h = c .before .before .loop .inv in let e = entry-here (z .args .a .now) (h .1 .scan) (omega (arith, h .0)) in omega arith
 
 cast-if1 : tie.Need-cast-if1 Inv-loop μ-loop
-cast-if1 c = let z = c .before .before .before .before .before .before .before in let h = c .before .before .loop .inv in omega (arith, scanned-head (z .args .a .now) (h .1 .scan) (omega (arith, h .0)), sound-proper (z .args .a .now) (z .pre .0) .conditions-most)
+cast-if1 c = let z = c .before .before .before .before .before .before .before in let h = c .before .before .loop .inv in omega (arith, scanned-head (z .args .a .now) (h .1 .scan) (omega (arith, h .0)), solvable-proper (z .args .a .now) (z .pre .0) .conditions-most)
 
 slice-read-if1 : tie.Need-slice-read-if1 Inv-loop μ-loop
-slice-read-if1 c = let z = c .before .before .before .before .before .before .before .before in let h = c .before .before .before .loop .inv in omega (arith, h .1 .size, scanned-head (z .args .a .now) (h .1 .scan) (omega (arith, h .0)), sound-proper (z .args .a .now) (z .pre .0) .conditions-most)
+slice-read-if1 c = let z = c .before .before .before .before .before .before .before .before in let h = c .before .before .before .loop .inv in omega (arith, h .1 .size, scanned-head (z .args .a .now) (h .1 .scan) (omega (arith, h .0)), solvable-proper (z .args .a .now) (z .pre .0) .conditions-most)
 
 mark-line-requires : tie.Need-mark-line-requires Inv-loop μ-loop
 mark-line-requires c κs =

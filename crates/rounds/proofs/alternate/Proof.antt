@@ -18,13 +18,13 @@ abbrev μ-loop : tie.MeasureT-loop
 μ-loop a lines users marks scratch₀ next₀ free tops₀ lows₀ scratch next tops lows = toLearn a scratch
 
 shared-slice-read-wait-all : tie.Need-shared-slice-read-wait-all Inv-loop μ-loop
-shared-slice-read-wait-all c = let s = c .before .before .before .before .before .before .before in omega (arith, head-of (s .args .a .now) (s .pre .0 .page-sound))
+shared-slice-read-wait-all c = let s = c .before .before .before .before .before .before .before in omega (arith, head-of (s .args .a .now) (s .pre .0 .page-solvable))
 
 slice-aggregate-wait-all : tie.Need-slice-aggregate-wait-all Inv-loop μ-loop
 slice-aggregate-wait-all c = refl
 
 wait-all-requires : tie.Need-wait-all-requires Inv-loop μ-loop
-wait-all-requires c κs = let s = c .before .before .before .before .before .before .before .before in (s .pre .0 .marked, head-of (s .args .a .now) (s .pre .0 .page-sound) .few, nobody-waits _)
+wait-all-requires c κs = let s = c .before .before .before .before .before .before .before .before in (s .pre .0 .marked, head-of (s .args .a .now) (s .pre .0 .page-solvable) .few, nobody-waits _)
 
 loop-holds : tie.Need-loop-holds Inv-loop μ-loop
 loop-holds c = (alternating-first _ _ _ (c .before .before .before .before .before .before .before .before .before .before .pre .0), nobody-waits _, all-lows _ _ _ _ _ (c .before .wait-all .ensures .0) (c .before .wait-all .ensures .1), refl)

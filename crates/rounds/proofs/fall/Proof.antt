@@ -15,16 +15,16 @@ abbrev μ-loop : tie.MeasureT-loop
 μ-loop a users marks scratch₀ words₀ next n fell₀ c₀ scratch words fell c = n - c
 
 shared-slice-read-n : tie.Need-shared-slice-read-n Inv-loop μ-loop
-shared-slice-read-n c = let s = c .before .before .before .before .before .before .before in omega (arith, head-of (s .args .a .now) (s .pre .page-sound))
+shared-slice-read-n c = let s = c .before .before .before .before .before .before .before in omega (arith, head-of (s .args .a .now) (s .pre .page-solvable))
 
 loop-holds : tie.Need-loop-holds Inv-loop μ-loop
 loop-holds c = falling-first _ _ _ _ _ _ (c .before .before .before .before .before .before .before .pre)
 
 lower-free-requires : tie.Need-lower-free-requires Inv-loop μ-loop
-lower-free-requires c κs = let l = c .before .before .before .loop in let r = l .inv .ready in (r .page-sound, r .users-in, falling-long _ _ _ _ _ _ (l .inv) (omega arith), r .marked, r .room-for, omega arith, high-in _ _ _ _ _ _ (l .inv) (omega arith), l .inv .set-in)
+lower-free-requires c κs = let l = c .before .before .before .loop in let r = l .inv .ready in (r .page-solvable, r .users-in, falling-long _ _ _ _ _ _ (l .inv) (omega arith), r .marked, r .room-for, omega arith, high-in _ _ _ _ _ _ (l .inv) (omega arith), l .inv .set-in)
 
 add-c : tie.Need-add-c Inv-loop μ-loop
-add-c c = let l = c .before .before .before .before .before .before .before .before .before .loop in omega (arith, head-of _ (l .inv .ready .page-sound) .few)
+add-c c = let l = c .before .before .before .before .before .before .before .before .before .loop in omega (arith, head-of _ (l .inv .ready .page-solvable) .few)
 
 loop-less : tie.Need-loop-less Inv-loop μ-loop
 loop-less c = omega arith

@@ -12,7 +12,7 @@ returns : tie.Need-returns
 returns c = even-none _ _ _ (omega arith)
 
 shared-slice-read-base : tie.Need-shared-slice-read-base
-shared-slice-read-base c = let s = c .before .before in omega (arith, head-of (s .args .a .now) (s .pre .0 .page-sound))
+shared-slice-read-base c = let s = c .before .before in omega (arith, head-of (s .args .a .now) (s .pre .0 .page-solvable))
 
 cast-base : tie.Need-cast-base
 cast-base c = search needs
@@ -30,7 +30,7 @@ shared-slice-read-result : tie.Need-shared-slice-read-result
 shared-slice-read-result c = search needs
 
 shared-slice-read-result-2 : tie.Need-shared-slice-read-result-2
-shared-slice-read-result-2 c = let s = c .before .before .before .before in omega (arith, head-of (s .args .a .now) (s .pre .0 .page-sound))
+shared-slice-read-result-2 c = let s = c .before .before .before .before in omega (arith, head-of (s .args .a .now) (s .pre .0 .page-solvable))
 
 sub-result : tie.Need-sub-result
 sub-result c = search needs

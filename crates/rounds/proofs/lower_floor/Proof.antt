@@ -10,7 +10,7 @@ refresh-requires : tie.Need-refresh-requires
 refresh-requires c κs = half-comparable _ _ (c .before .before .before .before .before .before .before .before .pre .0)
 
 next-highs-requires : tie.Need-next-highs-requires
-next-highs-requires c κs = let p = c .before .before .before .before .before .before .before .before .before .before .before .before .before .pre in (record { page-sound = p .0 .half .page-sound; marked = p .0 .half .marked; long = p .4 }, table₁ _ _ (p .0) (c .before .before .before .before .refresh .ensures))
+next-highs-requires c κs = let p = c .before .before .before .before .before .before .before .before .before .before .before .before .before .pre in (record { page-solvable = p .0 .half .page-solvable; marked = p .0 .half .marked; long = p .4 }, table₁ _ _ (p .0) (c .before .before .before .before .refresh .ensures))
 
 fall-requires : tie.Need-fall-requires
 fall-requires c κs = half-fallible _ _ (half₁ _ _ (c .before .before .before .before .before .before .before .before .before .before .before .before .before .before .before .before .before .before .before .pre .0) (c .before .before .before .before .before .before .before .before .before .before .refresh .ensures)) (index-users (c .before .before .before .before .before .before .before .before .before .before .before .before .before .before .before .before .before .before .before .pre .2)) (omega (arith, c .before .before .before .before .before .next-highs .ensures .steady .same-length, c .before .before .before .before .before .before .before .before .before .before .before .before .before .before .before .before .before .before .before .pre .4)) (c .before .before .before .before .before .before .before .before .before .before .before .before .before .before .before .before .before .before .before .pre .3)

@@ -14,10 +14,10 @@ abbrev μ-loop : tie.MeasureT-loop
 μ-loop a scratch count line₀ line = count - line .passed
 
 shared-slice-read-count : tie.Need-shared-slice-read-count Inv-loop μ-loop
-shared-slice-read-count c = let s = c .before .before .before in omega (arith, head-of (s .args .a .now) (s .pre .page-sound))
+shared-slice-read-count c = let s = c .before .before .before in omega (arith, head-of (s .args .a .now) (s .pre .page-solvable))
 
 first-requires : tie.Need-first-requires Inv-loop μ-loop
-first-requires c κs = let s = c .before .before .before in head-of (s .args .a .now) (s .pre .page-sound) .four
+first-requires c κs = let s = c .before .before .before in head-of (s .args .a .now) (s .pre .page-solvable) .four
 
 loop-holds : tie.Need-loop-holds Inv-loop μ-loop
 loop-holds c = searching-first (c .before .before .before .before .pre) (c .first .ensures)
@@ -29,7 +29,7 @@ returns : tie.Need-returns Inv-loop μ-loop
 returns c = searched-found _ _ (c .before .line-stale .ensures) (c .if2 .taken)
 
 next-requires : tie.Need-next-requires Inv-loop μ-loop
-next-requires c κs = let s = c .before .before .before .before .before .before .before .before .before in (line-entry _ (s .pre .page-sound) (search-line (c .before .before .before .before .loop .inv) (omega arith)), omega (arith, head-of (s .args .a .now) (s .pre .page-sound)))
+next-requires c κs = let s = c .before .before .before .before .before .before .before .before .before in (line-entry _ (s .pre .page-solvable) (search-line (c .before .before .before .before .loop .inv) (omega arith)), omega (arith, head-of (s .args .a .now) (s .pre .page-solvable)))
 
 loop-less : tie.Need-loop-less Inv-loop μ-loop
 loop-less c = omega (arith, c .next .ensures .count)

@@ -15,16 +15,16 @@ start-highs-requires : tie.Need-start-highs-requires
 start-highs-requires c κs = comparable _ _ _ (c .before .before .before .before .before .before .before .before .before .pre .0)
 
 shared-slice-read-wait-all : tie.Need-shared-slice-read-wait-all
-shared-slice-read-wait-all c = let s = c .before .before .before .before .before .before .before .before .before .before .before .before .before in omega (arith, head-of (s .args .a .now) (s .pre .0 .page-sound))
+shared-slice-read-wait-all c = let s = c .before .before .before .before .before .before .before .before .before .before .before .before .before in omega (arith, head-of (s .args .a .now) (s .pre .0 .page-solvable))
 
 wait-all-requires : tie.Need-wait-all-requires
-wait-all-requires c κs = let s = c .before .before .before .before .before .before .before .before .before .before .before .before .before .before in (s .pre .0 .marked, head-of _ (s .pre .0 .page-sound) .few, s .pre .2)
+wait-all-requires c κs = let s = c .before .before .before .before .before .before .before .before .before .before .before .before .before .before in (s .pre .0 .marked, head-of _ (s .pre .0 .page-solvable) .few, s .pre .2)
 
 settle-requires : tie.Need-settle-requires
 settle-requires c κs = (highs-half _ _ _ (c .before .before .before .before .before .before .before .before .before .before .before .before .before .before .before .before .before .before .before .pre .0) (c .before .before .before .before .before .before .before .before .before .start-highs .ensures), all-indexed _ _ _ _ _ _ _ (c .before .before .before .before .before .before .before .before .before .before .before .before .before .before .before .before .before .before .before .pre .1) (c .before .before .before .before .wait-all .ensures .1), c .before .before .before .before .wait-all .ensures .0)
 
 start-lows-requires : tie.Need-start-lows-requires
-start-lows-requires c κs = let h = c .before .before .before .before .before .before .settle .ensures .0 .half in ((h .page-sound, h .long, λ d l. h .within d l .high-in), index-users (c .before .before .before .before .before .before .before .before .before .before .before .before .before .before .before .before .before .before .before .before .before .before .before .before .before .before .pre .1), c .before .before .before .before .before .before .before .before .before .before .before .before .before .before .before .before .before .before .before .before .before .before .before .before .before .before .pre .3 .set-in)
+start-lows-requires c κs = let h = c .before .before .before .before .before .before .settle .ensures .0 .half in ((h .page-solvable, h .long, λ d l. h .within d l .high-in), index-users (c .before .before .before .before .before .before .before .before .before .before .before .before .before .before .before .before .before .before .before .before .before .before .before .before .before .before .pre .1), c .before .before .before .before .before .before .before .before .before .before .before .before .before .before .before .before .before .before .before .before .before .before .before .before .before .before .pre .3 .set-in)
 
 settle-floor-requires : tie.Need-settle-floor-requires
 settle-floor-requires c κs = (lows-half _ _ _ (c .before .before .before .before .before .before .before .before .before .before .before .before .before .before .before .before .before .before .before .before .before .before .before .before .before .before .before .before .before .before .before .before .before .before .before .pre .0) (c .before .before .before .before .before .before .before .before .before .before .before .before .before .before .before .before .before .before .before .before .before .before .before .before .before .start-highs .ensures) (c .before .before .before .before .before .before .before .before .before .before .before .before .before .before .before .settle .ensures .0) (c .before .before .before .before .before .before .before .before .start-lows .ensures .0), lows-indexed _ _ _ (c .before .before .before .before .before .before .before .before .before .before .before .before .before .before .before .before .before .before .before .before .before .before .before .before .before .before .before .before .before .before .before .before .before .before .before .pre .0) (c .before .before .before .before .before .before .before .before .before .before .before .before .before .before .before .before .before .before .before .before .before .before .before .before .before .start-highs .ensures) (c .before .before .before .before .before .before .before .before .before .before .before .before .before .before .before .settle .ensures .0) (c .before .before .before .before .before .before .before .before .start-lows .ensures .0) (c .before .before .before .before .before .before .before .before .before .before .before .before .before .before .before .before .before .before .before .before .before .before .before .before .before .before .before .before .before .before .before .before .before .before .before .pre .3) (c .before .before .before .before .before .before .before .before .start-lows .ensures .1) (c .before .before .before .before .before .before .before .before .before .before .before .before .before .before .before .before .before .before .before .before .before .before .before .before .before .before .before .before .before .before .before .before .before .before .before .pre .1), c .before .before .before .before .before .before .before .before .start-lows .ensures .1 .set-in, c .before .before .before .before .before .before .before .before .before .before .before .before .before .before .before .before .before .before .before .before .before .before .before .before .before .before .before .before .before .before .before .before .before .before .before .pre .4)

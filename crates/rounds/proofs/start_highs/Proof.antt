@@ -16,61 +16,61 @@ abbrev μ-loop : tie.MeasureT-loop
 μ-loop a scratch₀ top n base c₀ scratch c = n - c
 
 shared-slice-read-top : tie.Need-shared-slice-read-top Inv-loop μ-loop
-shared-slice-read-top c = let s = c .before .before .before in omega (arith, head-of (s .args .a .now) (s .pre .page-sound))
+shared-slice-read-top c = let s = c .before .before .before in omega (arith, head-of (s .args .a .now) (s .pre .page-solvable))
 
 shared-slice-read-n : tie.Need-shared-slice-read-n Inv-loop μ-loop
-shared-slice-read-n c = let s = c .before .before .before .before in omega (arith, head-of (s .args .a .now) (s .pre .page-sound))
+shared-slice-read-n c = let s = c .before .before .before .before in omega (arith, head-of (s .args .a .now) (s .pre .page-solvable))
 
 cast-base : tie.Need-cast-base Inv-loop μ-loop
-cast-base c = let s = c .before .before .before .before in omega (arith, head-of (s .args .a .now) (s .pre .page-sound))
+cast-base c = let s = c .before .before .before .before in omega (arith, head-of (s .args .a .now) (s .pre .page-solvable))
 
 mul-base : tie.Need-mul-base Inv-loop μ-loop
-mul-base c = let s = c .before .before .before .before in omega (arith, head-of (s .args .a .now) (s .pre .page-sound))
+mul-base c = let s = c .before .before .before .before in omega (arith, head-of (s .args .a .now) (s .pre .page-solvable))
 
 loop-holds : tie.Need-loop-holds Inv-loop μ-loop
 loop-holds c = highs-first _ _ _ (c .before .before .before .before .pre)
 
 cast-at : tie.Need-cast-at Inv-loop μ-loop
-cast-at c = let i = c .before .loop .inv in omega (arith, head-of _ (i .ready .page-sound) .few, i .ready .long, i .same-length)
+cast-at c = let i = c .before .loop .inv in omega (arith, head-of _ (i .ready .page-solvable) .few, i .ready .long, i .same-length)
 
 mul-at : tie.Need-mul-at Inv-loop μ-loop
-mul-at c = let i = c .before .loop .inv in omega (arith, head-of _ (i .ready .page-sound) .few, i .ready .long, i .same-length)
+mul-at c = let i = c .before .loop .inv in omega (arith, head-of _ (i .ready .page-solvable) .few, i .ready .long, i .same-length)
 
 unknown-by-default-requires : tie.Need-unknown-by-default-requires Inv-loop μ-loop
-unknown-by-default-requires c κs = (c .before .loop .inv .ready .page-sound, omega arith)
+unknown-by-default-requires c κs = (c .before .loop .inv .ready .page-solvable, omega arith)
 
 add-scratch : tie.Need-add-scratch Inv-loop μ-loop
-add-scratch c = let i = c .before .before .before .loop .inv in omega (arith, head-of _ (i .ready .page-sound) .few, i .ready .long, i .same-length)
+add-scratch c = let i = c .before .before .before .loop .inv in omega (arith, head-of _ (i .ready .page-solvable) .few, i .ready .long, i .same-length)
 
 mul-scratch : tie.Need-mul-scratch Inv-loop μ-loop
-mul-scratch c = let i = c .before .before .before .loop .inv in omega (arith, head-of _ (i .ready .page-sound) .few, i .ready .long, i .same-length)
+mul-scratch c = let i = c .before .before .before .loop .inv in omega (arith, head-of _ (i .ready .page-solvable) .few, i .ready .long, i .same-length)
 
 slice-write-scratch : tie.Need-slice-write-scratch Inv-loop μ-loop
-slice-write-scratch c = let i = c .before .before .before .loop .inv in omega (arith, head-of _ (i .ready .page-sound) .few, i .ready .long, i .same-length)
+slice-write-scratch c = let i = c .before .before .before .loop .inv in omega (arith, head-of _ (i .ready .page-solvable) .few, i .ready .long, i .same-length)
 
 mul-scratch-2 : tie.Need-mul-scratch-2 Inv-loop μ-loop
-mul-scratch-2 c = let i = c .before .before .before .loop .inv in omega (arith, head-of _ (i .ready .page-sound) .few, i .ready .long, i .same-length)
+mul-scratch-2 c = let i = c .before .before .before .loop .inv in omega (arith, head-of _ (i .ready .page-solvable) .few, i .ready .long, i .same-length)
 
 slice-read-scratch : tie.Need-slice-read-scratch Inv-loop μ-loop
-slice-read-scratch c = let i = c .before .before .before .before .loop .inv in omega (arith, head-of _ (i .ready .page-sound) .few, placed-long _ _ _ i (omega arith) (⊎-elim (λ w. placed-anew (c .before .before .before .before .loop .inv) (omega arith) (sym (c .before .before .unknown-by-default .ensures) ∙ not-true _ (w .0 .taken)) (w .1)) (λ w. placed-kept (c .before .before .before .before .loop .inv) (omega arith) (sym (c .before .before .unknown-by-default .ensures) ∙ not-false _ (w .0 .left)) (w .1)) (c .before .if1 .came)))
+slice-read-scratch c = let i = c .before .before .before .before .loop .inv in omega (arith, head-of _ (i .ready .page-solvable) .few, placed-long _ _ _ i (omega arith) (⊎-elim (λ w. placed-anew (c .before .before .before .before .loop .inv) (omega arith) (sym (c .before .before .unknown-by-default .ensures) ∙ not-true _ (w .0 .taken)) (w .1)) (λ w. placed-kept (c .before .before .before .before .loop .inv) (omega arith) (sym (c .before .before .unknown-by-default .ensures) ∙ not-false _ (w .0 .left)) (w .1)) (c .before .if1 .came)))
 
 sub-scratch : tie.Need-sub-scratch Inv-loop μ-loop
 sub-scratch c = low-in _ _ _ (c .before .before .before .before .loop .inv) (omega arith) (⊎-elim (λ w. placed-anew (c .before .before .before .before .loop .inv) (omega arith) (sym (c .before .before .unknown-by-default .ensures) ∙ not-true _ (w .0 .taken)) (w .1)) (λ w. placed-kept (c .before .before .before .before .loop .inv) (omega arith) (sym (c .before .before .unknown-by-default .ensures) ∙ not-false _ (w .0 .left)) (w .1)) (c .before .if1 .came))
 
 add-scratch-2 : tie.Need-add-scratch-2 Inv-loop μ-loop
-add-scratch-2 c = let i = c .before .before .before .before .loop .inv in omega (arith, head-of _ (i .ready .page-sound) .few, i .ready .long, i .same-length)
+add-scratch-2 c = let i = c .before .before .before .before .loop .inv in omega (arith, head-of _ (i .ready .page-solvable) .few, i .ready .long, i .same-length)
 
 add-scratch-3 : tie.Need-add-scratch-3 Inv-loop μ-loop
-add-scratch-3 c = let i = c .before .before .before .before .loop .inv in omega (arith, head-of _ (i .ready .page-sound) .few, i .ready .long, i .same-length)
+add-scratch-3 c = let i = c .before .before .before .before .loop .inv in omega (arith, head-of _ (i .ready .page-solvable) .few, i .ready .long, i .same-length)
 
 mul-scratch-3 : tie.Need-mul-scratch-3 Inv-loop μ-loop
-mul-scratch-3 c = let i = c .before .before .before .before .loop .inv in omega (arith, head-of _ (i .ready .page-sound) .few, i .ready .long, i .same-length)
+mul-scratch-3 c = let i = c .before .before .before .before .loop .inv in omega (arith, head-of _ (i .ready .page-solvable) .few, i .ready .long, i .same-length)
 
 slice-write-scratch-2 : tie.Need-slice-write-scratch-2 Inv-loop μ-loop
-slice-write-scratch-2 c = let i = c .before .before .before .before .loop .inv in omega (arith, head-of _ (i .ready .page-sound) .few, placed-long _ _ _ i (omega arith) (⊎-elim (λ w. placed-anew (c .before .before .before .before .loop .inv) (omega arith) (sym (c .before .before .unknown-by-default .ensures) ∙ not-true _ (w .0 .taken)) (w .1)) (λ w. placed-kept (c .before .before .before .before .loop .inv) (omega arith) (sym (c .before .before .unknown-by-default .ensures) ∙ not-false _ (w .0 .left)) (w .1)) (c .before .if1 .came)))
+slice-write-scratch-2 c = let i = c .before .before .before .before .loop .inv in omega (arith, head-of _ (i .ready .page-solvable) .few, placed-long _ _ _ i (omega arith) (⊎-elim (λ w. placed-anew (c .before .before .before .before .loop .inv) (omega arith) (sym (c .before .before .unknown-by-default .ensures) ∙ not-true _ (w .0 .taken)) (w .1)) (λ w. placed-kept (c .before .before .before .before .loop .inv) (omega arith) (sym (c .before .before .unknown-by-default .ensures) ∙ not-false _ (w .0 .left)) (w .1)) (c .before .if1 .came)))
 
 add-c : tie.Need-add-c Inv-loop μ-loop
-add-c c = let i = c .before .before .before .before .loop .inv in omega (arith, head-of _ (i .ready .page-sound) .few, i .ready .long, i .same-length)
+add-c c = let i = c .before .before .before .before .loop .inv in omega (arith, head-of _ (i .ready .page-solvable) .few, i .ready .long, i .same-length)
 
 loop-less : tie.Need-loop-less Inv-loop μ-loop
 loop-less c = omega arith

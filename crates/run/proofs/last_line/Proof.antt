@@ -10,7 +10,7 @@ returns c = search needs
 line-told-requires : tie.Need-line-told-requires
 line-told-requires c κs =
     let z = c .before .before .before .before .before .pre in
-    (z .page-sound, z .run-sound, z .long, z .table, z .inside (omega (arith, c .before .if1 .left)), z .low-in (omega (arith, c .before .if1 .left)), z .high-in (omega (arith, c .before .if1 .left)))
+    (z .page-solvable, z .run-sound, z .long, z .table, z .inside (omega (arith, c .before .if1 .left)), z .low-in (omega (arith, c .before .if1 .left)), z .high-in (omega (arith, c .before .if1 .left)))
 
 same-length : tie.Need-same-length
 same-length c = search needs

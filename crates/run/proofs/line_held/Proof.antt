@@ -9,6 +9,7 @@ use Rattle.semantics.specs.RunArea.{runSound}
 use Rattle.worklist.proofs.Evaluation.{long-of}
 use Rattle.page.proofs.Head.{head-of}
 use Rattle.run.proofs.Answering.{refused-10, refused-14, line-15, line-17, line-answers}
+use Rattle.page.proofs.Solvable.{sound-solvable}
 use borrow.Author.Needs.{needs}
 use Rattle.run.proofs.line_held.Statement.{statement}
 use Rattle.run.proofs.line_held.Tie as tie
@@ -28,7 +29,7 @@ returns c =
     refused-10 (z .page .now) (z .run .now) (sym (c .before .page-sound .ensures) ∙ not-true (c .before .page-sound .result) (c .if1 .taken)) (lineHeld (z .condition)) .answer-is
 
 run-sound-requires : tie.Need-run-sound-requires
-run-sound-requires c κs = page-ok c
+run-sound-requires c κs = sound-solvable (c .before .before .before .before .args .page .now) (page-ok c)
 
 returns-2 : tie.Need-returns-2
 returns-2 c =
@@ -36,10 +37,10 @@ returns-2 c =
     refused-14 (z .page .now) (z .run .now) (page-ok (c .before .before)) (sym (c .before .run-sound .ensures) ∙ not-true (c .before .run-sound .result) (c .if2 .taken)) (lineHeld (z .condition)) .answer-is
 
 shared-slice-read-n : tie.Need-shared-slice-read-n
-shared-slice-read-n c = omega (arith, head-of (c .before .before .before .before .before .before .before .args .page .now) (page-ok (c .before .before .before)))
+shared-slice-read-n c = omega (arith, head-of (c .before .before .before .before .before .before .before .args .page .now) (sound-solvable (c .before .before .before .before .before .before .before .args .page .now) (page-ok (c .before .before .before))))
 
 cast-if3 : tie.Need-cast-if3
-cast-if3 c = omega (arith, head-of (c .before .before .before .before .before .before .before .args .page .now) (page-ok (c .before .before .before)))
+cast-if3 c = omega (arith, head-of (c .before .before .before .before .before .before .before .args .page .now) (sound-solvable (c .before .before .before .before .before .before .before .args .page .now) (page-ok (c .before .before .before))))
 
 returns-3 : tie.Need-returns-3
 returns-3 c =
@@ -47,7 +48,7 @@ returns-3 c =
     line-15 (z .page .now) (z .run .now) (page-ok (c .before .before .before .before)) (run-ok (c .before .before)) (z .condition) (c .if3 .taken)
 
 cast-c : tie.Need-cast-c
-cast-c c = omega (arith, head-of (c .before .before .before .before .before .before .before .before .args .page .now) (page-ok (c .before .before .before .before)))
+cast-c c = omega (arith, head-of (c .before .before .before .before .before .before .before .before .args .page .now) (sound-solvable (c .before .before .before .before .before .before .before .before .args .page .now) (page-ok (c .before .before .before .before))))
 
 cast-if4 : tie.Need-cast-if4
 cast-if4 c = search needs
@@ -70,7 +71,7 @@ returns-4 c =
     line-17 (z .page .now) (z .run .now) (page-ok (c .before .before .before .before .before .before)) (run-ok (c .before .before .before .before)) (z .condition) (omega arith) (omega arith)
 
 line-now-requires : tie.Need-line-now-requires
-line-now-requires c κs = (page-ok (c .before .before .before .before .before .before), run-ok (c .before .before .before .before), omega arith)
+line-now-requires c κs = (sound-solvable (c .before .before .before .before .before .before .before .before .before .before .args .page .now) (page-ok (c .before .before .before .before .before .before)), run-ok (c .before .before .before .before), omega arith)
 
 returns-5 : tie.Need-returns-5
 returns-5 c =

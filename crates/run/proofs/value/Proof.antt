@@ -3,6 +3,7 @@ use mathlib.Core.Path.{_≡_, refl, sym, _∙_}
 use mathlib.Core.Bool.{true}
 use native.Mathlib.Omega.{arith}
 use lib.ListN.{getD}
+use Rattle.page.proofs.Solvable.{sound-solvable}
 use borrow.Author.Needs.{needs}
 use borrow.Author.Tests.{not-true, not-false}
 use Rattle.semantics.specs.Area.{sound, pageOf}
@@ -26,7 +27,7 @@ returns c =
     refused-10 (z .page .now) (z .run .now) (sym (c .before .page-sound .ensures) ∙ not-true (c .before .page-sound .result) (c .if1 .taken)) (value (z .condition)) .answer-is
 
 run-sound-requires : tie.Need-run-sound-requires
-run-sound-requires c κs = page-ok c
+run-sound-requires c κs = sound-solvable (c .before .before .before .before .args .page .now) (page-ok c)
 
 returns-2 : tie.Need-returns-2
 returns-2 c =
@@ -34,10 +35,10 @@ returns-2 c =
     refused-14 (z .page .now) (z .run .now) (page-ok (c .before .before)) (sym (c .before .run-sound .ensures) ∙ not-true (c .before .run-sound .result) (c .if2 .taken)) (value (z .condition)) .answer-is
 
 shared-slice-read-n : tie.Need-shared-slice-read-n
-shared-slice-read-n c = omega (arith, head-of (c .before .before .before .before .before .before .before .args .page .now) (page-ok (c .before .before .before)))
+shared-slice-read-n c = omega (arith, head-of (c .before .before .before .before .before .before .before .args .page .now) (sound-solvable (c .before .before .before .before .before .before .before .args .page .now) (page-ok (c .before .before .before))))
 
 cast-if3 : tie.Need-cast-if3
-cast-if3 c = omega (arith, head-of (c .before .before .before .before .before .before .before .args .page .now) (page-ok (c .before .before .before)))
+cast-if3 c = omega (arith, head-of (c .before .before .before .before .before .before .before .args .page .now) (sound-solvable (c .before .before .before .before .before .before .before .args .page .now) (page-ok (c .before .before .before))))
 
 returns-3 : tie.Need-returns-3
 returns-3 c =

@@ -19,13 +19,13 @@ abbrev μ-loop : tie.MeasureT-loop
 μ-loop a lines users marks scratch₀ words₀ end n k first places base figures changed₀ c₀ scratch words changed c = left (side end) a scratch words
 
 shared-slice-read-n : tie.Need-shared-slice-read-n Inv-loop μ-loop
-shared-slice-read-n c = let s = c .before .before .before .before .before .before .before in omega (arith, head-of (s .args .a .now) (s .pre .0 .page-sound))
+shared-slice-read-n c = let s = c .before .before .before .before .before .before .before in omega (arith, head-of (s .args .a .now) (s .pre .0 .page-solvable))
 
 cast-n : tie.Need-cast-n Inv-loop μ-loop
 cast-n c = omega (arith, c .shared-slice-known5 .given 1)
 
 add-k : tie.Need-add-k Inv-loop μ-loop
-add-k c = let s = c .before .before .before .before .before .before .before in omega (arith, head-of (s .args .a .now) (s .pre .0 .page-sound))
+add-k c = let s = c .before .before .before .before .before .before .before in omega (arith, head-of (s .args .a .now) (s .pre .0 .page-solvable))
 
 sub-first : tie.Need-sub-first Inv-loop μ-loop
 sub-first c = search needs
@@ -49,10 +49,10 @@ part-places-end : tie.Need-part-places-end Inv-loop μ-loop
 part-places-end c = search needs
 
 mul-base : tie.Need-mul-base Inv-loop μ-loop
-mul-base c = let s = c .before .before .before .before .before .before .before .before .before in omega (arith, head-of (s .args .a .now) (s .pre .0 .page-sound))
+mul-base c = let s = c .before .before .before .before .before .before .before .before .before in omega (arith, head-of (s .args .a .now) (s .pre .0 .page-solvable))
 
 add-base : tie.Need-add-base Inv-loop μ-loop
-add-base c = let s = c .before .before .before .before .before .before .before .before .before in omega (arith, head-of (s .args .a .now) (s .pre .0 .page-sound))
+add-base c = let s = c .before .before .before .before .before .before .before .before .before in omega (arith, head-of (s .args .a .now) (s .pre .0 .page-solvable))
 
 figures-of-requires : tie.Need-figures-of-requires Inv-loop μ-loop
 figures-of-requires c κs = search needs
@@ -61,7 +61,7 @@ any-in-requires : tie.Need-any-in-requires Inv-loop μ-loop
 any-in-requires c κs = (c .before .before .before .before .before .before .before .before .before .before .before .pre .3 .set .size, omega arith)
 
 loop-holds : tie.Need-loop-holds Inv-loop μ-loop
-loop-holds c = let p = c .before .before .before .before .before .before .before .before .before .before .before .before .pre in record { users-in = p .2; size = refl; draining = draining-first _ _ _ _ _ _ (line-groups _ (p .0 .page-sound) _ (p .1)) (p .0) (p .3); any = c .any-in .ensures }
+loop-holds c = let p = c .before .before .before .before .before .before .before .before .before .before .before .before .pre in record { users-in = p .2; size = refl; draining = draining-first _ _ _ _ _ _ (line-groups _ (p .0 .page-solvable) _ (p .1)) (p .0) (p .3); any = c .any-in .ensures }
 
 remove-requires : tie.Need-remove-requires Inv-loop μ-loop
 remove-requires c κs = (c .before .before .loop .inv .draining .waiting .set .size, omega arith)
@@ -97,7 +97,7 @@ mul-wake-group : tie.Need-mul-wake-group Inv-loop μ-loop
 mul-wake-group c = let l = c .before .before .before .before .before .before .before .before .before .before .before .before .before .loop in omega (arith, drains-few (l .inv) (omega arith), drains-real (l .inv) (omega arith))
 
 wake-group-requires : tie.Need-wake-group-requires Inv-loop μ-loop
-wake-group-requires c κs = let l = c .before .before .before .before .before .before .before .before .before .before .before .before .before .loop in (l .inv .draining .settling .half .page-sound, l .inv .users-in, omega (arith, drains-real (l .inv) (omega arith)), drains-set (l .inv) (omega arith) _ (c .before .before .before .before .before .before .before .before .before .before .remove .ensures), refl)
+wake-group-requires c κs = let l = c .before .before .before .before .before .before .before .before .before .before .before .before .before .loop in (l .inv .draining .settling .half .page-solvable, l .inv .users-in, omega (arith, drains-real (l .inv) (omega arith)), drains-set (l .inv) (omega arith) _ (c .before .before .before .before .before .before .before .before .before .before .remove .ensures), refl)
 
 any-in-requires-2 : tie.Need-any-in-requires-2 Inv-loop μ-loop
 any-in-requires-2 c κs = (⊎-elim (λ w. ap length (w .5) ∙ w .2 .ensures .set .size) (λ w. ap length (w .1) ∙ c .before .before .before .before .before .before .before .before .before .before .remove .ensures .0) (c .before .if1 .came), omega arith)

@@ -40,7 +40,7 @@ part-values-end : tie.Need-part-values-end
 part-values-end c = let s = c .before .before .before .before .before .before .before in let f = facts _ _ _ _ _ (s .pre .0) (s .pre .2) in omega (arith, s .pre .1 .0, base-small _ _ _ _ _ (s .pre .0) (s .pre .2) _ (s .pre .1 .0) _ (s .pre .1 .1))
 
 line-end-requires : tie.Need-line-end-requires
-line-end-requires c κs = let s = c .before .before .before .before .before .before .before .before in (s .pre .0 .page-sound, part-grades _ _ _ _ _ (s .pre .0) (s .pre .2) _ (s .pre .1 .0) _ (s .pre .1 .1), line-here _ _ _ _ _ (s .pre .0) (s .pre .2) (omega arith), s .pre .1 .2)
+line-end-requires c κs = let s = c .before .before .before .before .before .before .before .before in (s .pre .0 .page-solvable, part-grades _ _ _ _ _ (s .pre .0) (s .pre .2) _ (s .pre .1 .0) _ (s .pre .1 .1), line-here _ _ _ _ _ (s .pre .0) (s .pre .2) (omega arith), s .pre .1 .2)
 
 mul-place : tie.Need-mul-place
 mul-place c = let s = c .before .before .before .before .before .before .before .before .before in let f = facts _ _ _ _ _ (s .pre .0) (s .pre .2) in omega (arith, s .pre .1 .0, base-small _ _ _ _ _ (s .pre .0) (s .pre .2) _ (s .pre .1 .0) _ (s .pre .1 .1))

@@ -15,34 +15,34 @@ abbrev μ-loop : tie.MeasureT-loop
 μ-loop a marks scratch₀ figures end used at₀ rose₀ scratch at rose = used - at
 
 shared-slice-read-used : tie.Need-shared-slice-read-used Inv-loop μ-loop
-shared-slice-read-used c = let s = c .before .before .before .before in omega (arith, head-of (s .args .a .now) (s .pre .0 .page-sound))
+shared-slice-read-used c = let s = c .before .before .before .before in omega (arith, head-of (s .args .a .now) (s .pre .0 .page-solvable))
 
 cast-used : tie.Need-cast-used Inv-loop μ-loop
 cast-used c = omega (arith, c .shared-slice-known3 .given 3)
 
 first-requires : tie.Need-first-requires Inv-loop μ-loop
-first-requires c κs = let s = c .before .before .before .before in head-of (s .args .a .now) (s .pre .0 .page-sound) .four
+first-requires c κs = let s = c .before .before .before .before in head-of (s .args .a .now) (s .pre .0 .page-solvable) .four
 
 loop-holds : tie.Need-loop-holds Inv-loop μ-loop
 loop-holds c = sweeping-first (c .before .before .before .before .before .pre .0) (c .before .before .before .before .before .pre .1 .0) (c .first .ensures)
 
 add-span-of : tie.Need-add-span-of Inv-loop μ-loop
-add-span-of c = let s = c .before .before .before .before .before .before .before in let f = line-entry _ (s .pre .0 .page-sound) (sweep-line (c .before .loop .inv) (omega arith)) in omega (arith, s .good)
+add-span-of c = let s = c .before .before .before .before .before .before .before in let f = line-entry _ (s .pre .0 .page-solvable) (sweep-line (c .before .loop .inv) (omega arith)) in omega (arith, s .good)
 
 mul-span-of : tie.Need-mul-span-of Inv-loop μ-loop
-mul-span-of c = let s = c .before .before .before .before .before .before .before in let f = line-entry _ (s .pre .0 .page-sound) (sweep-line (c .before .loop .inv) (omega arith)) in omega (arith, s .good)
+mul-span-of c = let s = c .before .before .before .before .before .before .before in let f = line-entry _ (s .pre .0 .page-solvable) (sweep-line (c .before .loop .inv) (omega arith)) in omega (arith, s .good)
 
 shared-slice-read-span-of : tie.Need-shared-slice-read-span-of Inv-loop μ-loop
-shared-slice-read-span-of c = let s = c .before .before .before .before .before .before .before .before in let f = line-entry _ (s .pre .0 .page-sound) (sweep-line (c .before .before .loop .inv) (omega arith)) in omega (arith, s .good)
+shared-slice-read-span-of c = let s = c .before .before .before .before .before .before .before .before in let f = line-entry _ (s .pre .0 .page-solvable) (sweep-line (c .before .before .loop .inv) (omega arith)) in omega (arith, s .good)
 
 add-span-of-2 : tie.Need-add-span-of-2 Inv-loop μ-loop
-add-span-of-2 c = let s = c .before .before .before .before .before .before .before .before in let f = line-entry _ (s .pre .0 .page-sound) (sweep-line (c .before .before .loop .inv) (omega arith)) in omega (arith, s .good)
+add-span-of-2 c = let s = c .before .before .before .before .before .before .before .before in let f = line-entry _ (s .pre .0 .page-solvable) (sweep-line (c .before .before .loop .inv) (omega arith)) in omega (arith, s .good)
 
 mul-span-of-2 : tie.Need-mul-span-of-2 Inv-loop μ-loop
-mul-span-of-2 c = let s = c .before .before .before .before .before .before .before .before in let f = line-entry _ (s .pre .0 .page-sound) (sweep-line (c .before .before .loop .inv) (omega arith)) in omega (arith, s .good)
+mul-span-of-2 c = let s = c .before .before .before .before .before .before .before .before in let f = line-entry _ (s .pre .0 .page-solvable) (sweep-line (c .before .before .loop .inv) (omega arith)) in omega (arith, s .good)
 
 shared-slice-read-span-of-2 : tie.Need-shared-slice-read-span-of-2 Inv-loop μ-loop
-shared-slice-read-span-of-2 c = let s = c .before .before .before .before .before .before .before .before .before in let f = line-entry _ (s .pre .0 .page-sound) (sweep-line (c .before .before .before .loop .inv) (omega arith)) in omega (arith, s .good)
+shared-slice-read-span-of-2 c = let s = c .before .before .before .before .before .before .before .before .before in let f = line-entry _ (s .pre .0 .page-solvable) (sweep-line (c .before .before .before .loop .inv) (omega arith)) in omega (arith, s .good)
 
 span-of-requires : tie.Need-span-of-requires Inv-loop μ-loop
 span-of-requires c κs = tt

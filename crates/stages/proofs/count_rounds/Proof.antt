@@ -17,28 +17,28 @@ abbrev μ-loop : tie.MeasureT-loop
 μ-loop a lines users marks scratch₀ tops₀ free look₀ lows₀ k₀ scratch tops look lows k = 102400 - k
 
 copy-tops-requires : tie.Need-copy-tops-requires Inv-loop μ-loop
-copy-tops-requires c κs = let p = c .before .before .before .before .before .before .before .before .pre .0 in (p .page-sound, p .long, p .marked, c .before .before .before .before .before .before .before .before .pre .2, tops-small p)
+copy-tops-requires c κs = let p = c .before .before .before .before .before .before .before .before .pre .0 in (p .page-solvable, p .long, p .marked, c .before .before .before .before .before .before .before .before .pre .2, tops-small p)
 
 begin-requires : tie.Need-begin-requires Inv-loop μ-loop
-begin-requires c κs = let p = c .before .before .before .before .before .before .before .before .before .before .before .before .pre .0 in (p .page-sound, p .long, p .marked)
+begin-requires c κs = let p = c .before .before .before .before .before .before .before .before .before .before .before .before .pre .0 in (p .page-solvable, p .long, p .marked)
 
 shared-slice-read-wait-marked : tie.Need-shared-slice-read-wait-marked Inv-loop μ-loop
-shared-slice-read-wait-marked c = omega (arith, head-of (c .before .before .before .before .before .before .before .before .before .before .before .before .before .before .before .before .args .a .now) (c .before .before .before .before .before .before .before .before .before .before .before .before .before .before .before .before .pre .0 .page-sound))
+shared-slice-read-wait-marked c = omega (arith, head-of (c .before .before .before .before .before .before .before .before .before .before .before .before .before .before .before .before .args .a .now) (c .before .before .before .before .before .before .before .before .before .before .before .before .before .before .before .before .pre .0 .page-solvable))
 
 slice-aggregate-wait-marked : tie.Need-slice-aggregate-wait-marked Inv-loop μ-loop
 slice-aggregate-wait-marked c = search needs
 
 wait-marked-requires : tie.Need-wait-marked-requires Inv-loop μ-loop
-wait-marked-requires c κs = let p = c .before .before .before .before .before .before .before .before .before .before .before .before .before .before .before .before .before .pre .0 in (p .marked, head-of (c .before .before .before .before .before .before .before .before .before .before .before .before .before .before .before .before .before .args .a .now) (p .page-sound) .few, nobody-waits _)
+wait-marked-requires c κs = let p = c .before .before .before .before .before .before .before .before .before .before .before .before .before .before .before .before .before .pre .0 in (p .marked, head-of (c .before .before .before .before .before .before .before .before .before .before .before .before .before .before .before .before .before .args .a .now) (p .page-solvable) .few, nobody-waits _)
 
 shared-slice-read-wait-marked-2 : tie.Need-shared-slice-read-wait-marked-2 Inv-loop μ-loop
-shared-slice-read-wait-marked-2 c = omega (arith, head-of (c .before .before .before .before .before .before .before .before .before .before .before .before .before .before .before .before .before .before .before .before .args .a .now) (c .before .before .before .before .before .before .before .before .before .before .before .before .before .before .before .before .before .before .before .before .pre .0 .page-sound))
+shared-slice-read-wait-marked-2 c = omega (arith, head-of (c .before .before .before .before .before .before .before .before .before .before .before .before .before .before .before .before .before .before .before .before .args .a .now) (c .before .before .before .before .before .before .before .before .before .before .before .before .before .before .before .before .before .before .before .before .pre .0 .page-solvable))
 
 slice-aggregate-wait-marked-2 : tie.Need-slice-aggregate-wait-marked-2 Inv-loop μ-loop
 slice-aggregate-wait-marked-2 c = search needs
 
 wait-marked-requires-2 : tie.Need-wait-marked-requires-2 Inv-loop μ-loop
-wait-marked-requires-2 c κs = let p = c .before .before .before .before .before .before .before .before .before .before .before .before .before .before .before .before .before .before .before .before .before .pre .0 in (p .marked, head-of (c .before .before .before .before .before .before .before .before .before .before .before .before .before .before .before .before .before .before .before .before .before .args .a .now) (p .page-sound) .few, nobody-waits _)
+wait-marked-requires-2 c κs = let p = c .before .before .before .before .before .before .before .before .before .before .before .before .before .before .before .before .before .before .before .before .before .pre .0 in (p .marked, head-of (c .before .before .before .before .before .before .before .before .before .before .before .before .before .before .before .before .before .before .before .before .before .args .a .now) (p .page-solvable) .few, nobody-waits _)
 
 loop-holds : tie.Need-loop-holds Inv-loop μ-loop
 loop-holds c = let p = c .before .before .before .before .before .before .before .before .before .before .before .before .before .before .before .before .before .before .before .before .before .before .before .pre .0 in rounding-first (stage-begins p (c .before .before .before .before .before .before .before .before .before .before .begin .ensures) _ (tops-are p (c .before .before .before .before .before .before .before .before .before .before .before .before .before .before .copy-tops .ensures)) (c .before .before .before .before .before .wait-marked .ensures) (c .before .wait-marked2 .ensures))

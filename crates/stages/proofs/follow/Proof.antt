@@ -22,7 +22,7 @@ remove-requires : tie.Need-remove-requires Inv-loop μ-loop
 remove-requires c κs = (c .before .before .loop .inv .lowered-in .size, omega arith)
 
 negate-requires : tie.Need-negate-requires Inv-loop μ-loop
-negate-requires c κs = let i = c .before .before .before .before .before .before .before .loop .inv in (i .page-sound, i .users-in, i .long, following-real i (omega arith), following-grade i (omega arith), i .lows-in)
+negate-requires c κs = let i = c .before .before .before .before .before .before .before .loop .inv in (i .page-solvable, i .users-in, i .long, following-real i (omega arith), following-grade i (omega arith), i .lows-in)
 
 next-in-requires : tie.Need-next-in-requires Inv-loop μ-loop
 next-in-requires c κs = (c .before .before .before .before .before .before .before .before .before .before .remove .ensures .0, omega arith)

@@ -15,10 +15,10 @@ returns : tie.Need-returns
 returns c = inr (refl, not-true _ (c .before .before .if1 .taken), c .before .negation-stale .ensures .all (not-true _ (c .if2 .taken)))
 
 shared-slice-read-wait-marked : tie.Need-shared-slice-read-wait-marked
-shared-slice-read-wait-marked c = omega (arith, head-of (c .before .before .before .before .before .before .args .a .now) (c .before .before .before .before .before .before .pre .0 .page-sound))
+shared-slice-read-wait-marked c = omega (arith, head-of (c .before .before .before .before .before .before .args .a .now) (c .before .before .before .before .before .before .pre .0 .page-solvable))
 
 wait-marked-requires : tie.Need-wait-marked-requires
-wait-marked-requires c κs = (c .before .before .before .before .before .before .before .pre .1, head-of (c .before .before .before .before .before .before .before .args .a .now) (c .before .before .before .before .before .before .before .pre .0 .page-sound) .few, c .before .before .before .before .before .before .before .pre .2)
+wait-marked-requires c κs = (c .before .before .before .before .before .before .before .pre .1, head-of (c .before .before .before .before .before .before .before .args .a .now) (c .before .before .before .before .before .before .before .pre .0 .page-solvable) .few, c .before .before .before .before .before .before .before .pre .2)
 
 same-length : tie.Need-same-length
 same-length c = search needs

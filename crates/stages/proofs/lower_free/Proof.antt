@@ -15,7 +15,7 @@ abbrev μ-loop : tie.MeasureT-loop
 μ-loop a users marks scratch₀ tops look₀ lowered₀ n any₀ c₀ scratch look lowered any c = n - c
 
 shared-slice-read-n : tie.Need-shared-slice-read-n Inv-loop μ-loop
-shared-slice-read-n c = omega (arith, head-of (c .before .before .before .before .before .before .before .before .args .a .now) (c .before .before .before .before .before .before .before .before .pre .0 .page-sound))
+shared-slice-read-n c = omega (arith, head-of (c .before .before .before .before .before .before .before .before .args .a .now) (c .before .before .before .before .before .before .before .before .pre .0 .page-solvable))
 
 loop-holds : tie.Need-loop-holds Inv-loop μ-loop
 loop-holds c = freeing-first (c .before .before .before .before .before .before .before .before .pre .0) (c .before .before .before .before .before .before .before .before .pre .1)
@@ -24,7 +24,7 @@ lower-free-top-requires : tie.Need-lower-free-top-requires Inv-loop μ-loop
 lower-free-top-requires c κs = (c .before .before .before .before .loop .inv .ready, omega arith)
 
 add-c : tie.Need-add-c Inv-loop μ-loop
-add-c c = omega (arith, c .before .before .before .before .before .before .before .before .before .before .before .before .loop .inv .within, head-of (c .before .before .before .before .before .before .before .before .before .before .before .before .before .before .before .before .before .before .before .before .before .args .a .now) (c .before .before .before .before .before .before .before .before .before .before .before .before .before .before .before .before .before .before .before .before .before .pre .0 .page-sound))
+add-c c = omega (arith, c .before .before .before .before .before .before .before .before .before .before .before .before .loop .inv .within, head-of (c .before .before .before .before .before .before .before .before .before .before .before .before .before .before .before .before .before .before .before .before .before .args .a .now) (c .before .before .before .before .before .before .before .before .before .before .before .before .before .before .before .before .before .before .before .before .before .pre .0 .page-solvable))
 
 loop-less : tie.Need-loop-less Inv-loop μ-loop
 loop-less c = omega arith

@@ -15,7 +15,7 @@ returns : tie.Need-returns
 returns c = kept-apart (not-true _ (c .if1 .taken))
 
 shared-slice-read-place : tie.Need-shared-slice-read-place
-shared-slice-read-place c = omega (arith, head-of (c .before .before .before .before .before .before .before .before .before .before .args .a .now) (c .before .before .before .before .before .before .before .before .before .before .pre .0 .page-sound))
+shared-slice-read-place c = omega (arith, head-of (c .before .before .before .before .before .before .before .before .before .before .args .a .now) (c .before .before .before .before .before .before .before .before .before .before .pre .0 .page-solvable))
 
 cast-place : tie.Need-cast-place
 cast-place c = search needs
@@ -51,7 +51,7 @@ slice-write-scratch : tie.Need-slice-write-scratch
 slice-write-scratch c = search needs
 
 insert-requires : tie.Need-insert-requires
-insert-requires c κs = (c .before .before .before .before .before .before .before .before .before .before .before .before .before .before .pre .0 .lowered-in .size, omega (arith, head-of (c .before .before .before .before .before .before .before .before .before .before .before .before .before .before .args .a .now) (c .before .before .before .before .before .before .before .before .before .before .before .before .before .before .pre .0 .page-sound)))
+insert-requires c κs = (c .before .before .before .before .before .before .before .before .before .before .before .before .before .before .pre .0 .lowered-in .size, omega (arith, head-of (c .before .before .before .before .before .before .before .before .before .before .before .before .before .before .args .a .now) (c .before .before .before .before .before .before .before .before .before .before .before .before .before .before .pre .0 .page-solvable)))
 
 same-length : tie.Need-same-length
 same-length c = search needs
@@ -63,10 +63,10 @@ returns-3 : tie.Need-returns-3
 returns-3 c = fell-short (not-false _ (c .before .before .before .before .before .before .before .before .before .if1 .left)) (omega arith) _ (c .before .before .before .insert .ensures) (c .if3 .taken) (c .before .before .before .before .before .before .before .before .before .before .before .before .before .before .before .before .before .before .pre .0 .look-in)
 
 mul-wake : tie.Need-mul-wake
-mul-wake c = omega (arith, head-of (c .before .before .before .before .before .before .before .before .before .before .before .before .before .before .before .before .before .before .before .args .a .now) (c .before .before .before .before .before .before .before .before .before .before .before .before .before .before .before .before .before .before .before .pre .0 .page-sound))
+mul-wake c = omega (arith, head-of (c .before .before .before .before .before .before .before .before .before .before .before .before .before .before .before .before .before .before .before .args .a .now) (c .before .before .before .before .before .before .before .before .before .before .before .before .before .before .before .before .before .before .before .pre .0 .page-solvable))
 
 wake-requires : tie.Need-wake-requires
-wake-requires c κs = (c .before .before .before .before .before .before .before .before .before .before .before .before .before .before .before .before .before .before .before .pre .0 .page-sound, users-there (c .before .before .before .before .before .before .before .before .before .before .before .before .before .before .before .before .before .before .before .pre .0 .users-in) (c .before .if3 .left), omega arith, c .before .before .before .before .before .before .before .before .before .before .before .before .before .before .before .before .before .before .before .pre .0 .look-in)
+wake-requires c κs = (c .before .before .before .before .before .before .before .before .before .before .before .before .before .before .before .before .before .before .before .pre .0 .page-solvable, users-there (c .before .before .before .before .before .before .before .before .before .before .before .before .before .before .before .before .before .before .before .pre .0 .users-in) (c .before .if3 .left), omega arith, c .before .before .before .before .before .before .before .before .before .before .before .before .before .before .before .before .before .before .before .pre .0 .look-in)
 
 same-length-3 : tie.Need-same-length-3
 same-length-3 c = search needs

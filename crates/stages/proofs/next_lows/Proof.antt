@@ -15,7 +15,7 @@ same-length-2 : tie.Need-same-length-2
 same-length-2 c = search needs
 
 returns : tie.Need-returns
-returns c = (page-noted (c .before .before .before .before .before .before .before .before .before .before .before .before .before .before .before .pre .0 .page-sound) (c .before .before .before .before .note-all .ensures), c .before .before .before .before .before .before .before .before .before .before .before .before .before .before .before .pre .2)
+returns c = (page-noted (c .before .before .before .before .before .before .before .before .before .before .before .before .before .before .before .pre .0 .page-solvable) (c .before .before .before .before .note-all .ensures), c .before .before .before .before .before .before .before .before .before .before .before .before .before .before .before .pre .2)
 
 note-waiting-requires : tie.Need-note-waiting-requires
 note-waiting-requires c κs = (c .before .before .before .before .before .before .before .before .before .before .before .pre .0, ⊎-elim (λ z. absurd (c .before .before .before .if1 .left z)) (λ i. i .0) (c .before .before .before .before .before .before .before .before .before .before .before .pre .1), c .before .before .before .before .before .before .before .before .before .before .before .pre .2, c .before .before .before .before .before .before .before .before .before .before .before .pre .3 (c .before .before .before .if1 .left))

@@ -15,16 +15,16 @@ abbrev μ-loop : tie.MeasureT-loop
 μ-loop a marks scratch₀ moved₀ count n line₀ scratch moved line = count - line .passed
 
 shared-slice-read-count : tie.Need-shared-slice-read-count Inv-loop μ-loop
-shared-slice-read-count c = omega (arith, head-of (c .before .before .before .before .before .args .a .now) (c .before .before .before .before .before .pre .page-sound))
+shared-slice-read-count c = omega (arith, head-of (c .before .before .before .before .before .args .a .now) (c .before .before .before .before .before .pre .page-solvable))
 
 shared-slice-read-n : tie.Need-shared-slice-read-n Inv-loop μ-loop
-shared-slice-read-n c = omega (arith, head-of (c .before .before .before .before .before .before .args .a .now) (c .before .before .before .before .before .before .pre .page-sound))
+shared-slice-read-n c = omega (arith, head-of (c .before .before .before .before .before .before .args .a .now) (c .before .before .before .before .before .before .pre .page-solvable))
 
 cast-n : tie.Need-cast-n Inv-loop μ-loop
 cast-n c = omega (arith, c .shared-slice-known4 .given 1)
 
 first-requires : tie.Need-first-requires Inv-loop μ-loop
-first-requires c κs = let s = c .before .before .before .before .before .before in head-of (s .args .a .now) (s .pre .page-sound) .four
+first-requires c κs = let s = c .before .before .before .before .before .before in head-of (s .args .a .now) (s .pre .page-solvable) .four
 
 loop-holds : tie.Need-loop-holds Inv-loop μ-loop
 loop-holds c = page-first (c .before .before .before .before .before .before .before .pre) (c .first .ensures)
@@ -33,7 +33,7 @@ note-requires : tie.Need-note-requires Inv-loop μ-loop
 note-requires c κs = (c .before .before .before .before .loop .inv .notable, refl, page-line (c .before .before .before .before .loop .inv) (omega arith))
 
 next-requires : tie.Need-next-requires Inv-loop μ-loop
-next-requires c κs = (line-entry _ (c .before .before .before .before .before .before .before .before .before .before .before .before .before .before .before .before .before .pre .page-sound) (page-line (c .before .before .before .before .before .before .before .before .before .loop .inv) (omega arith)), omega (arith, head-of (c .before .before .before .before .before .before .before .before .before .before .before .before .before .before .before .before .before .args .a .now) (c .before .before .before .before .before .before .before .before .before .before .before .before .before .before .before .before .before .pre .page-sound)))
+next-requires c κs = (line-entry _ (c .before .before .before .before .before .before .before .before .before .before .before .before .before .before .before .before .before .pre .page-solvable) (page-line (c .before .before .before .before .before .before .before .before .before .loop .inv) (omega arith)), omega (arith, head-of (c .before .before .before .before .before .before .before .before .before .before .before .before .before .before .before .before .before .args .a .now) (c .before .before .before .before .before .before .before .before .before .before .before .before .before .before .before .before .before .pre .page-solvable)))
 
 loop-less : tie.Need-loop-less Inv-loop μ-loop
 loop-less c = omega (arith, c .next .ensures .count)

@@ -36,7 +36,7 @@ part-values-end : tie.Need-part-values-end
 part-values-end c = search needs
 
 line-end-requires : tie.Need-line-end-requires
-line-end-requires c κs = (c .before .before .before .before .before .before .before .before .before .pre .0 .page-sound, part-grades _ _ _ _ _ (c .before .before .before .before .before .before .before .before .before .pre .0) (c .before .before .before .before .before .before .before .before .before .pre .2) _ (c .before .before .before .before .before .before .before .before .before .pre .1), line-here _ _ _ _ _ (c .before .before .before .before .before .before .before .before .before .pre .0) (c .before .before .before .before .before .before .before .before .before .pre .2) (omega arith), unfold rounding in refl)
+line-end-requires c κs = (c .before .before .before .before .before .before .before .before .before .pre .0 .page-solvable, part-grades _ _ _ _ _ (c .before .before .before .before .before .before .before .before .before .pre .0) (c .before .before .before .before .before .before .before .before .before .pre .2) _ (c .before .before .before .before .before .before .before .before .before .pre .1), line-here _ _ _ _ _ (c .before .before .before .before .before .before .before .before .before .pre .0) (c .before .before .before .before .before .before .before .before .before .pre .2) (omega arith), unfold rounding in refl)
 
 shared-slice-read-v : tie.Need-shared-slice-read-v
 shared-slice-read-v c = let f = facts _ _ _ _ _ (c .before .before .before .before .before .before .before .before .before .before .before .pre .0) (c .before .before .before .before .before .before .before .before .before .before .before .pre .2) in omega (arith, c .before .before .before .before .before .before .before .before .before .before .before .pre .1)

@@ -17,13 +17,13 @@ abbrev μ-loop : tie.MeasureT-loop
 μ-loop a lines marks scratch₀ lows₀ moved₀ n k first places c₀ scratch lows moved c = waiters lows
 
 shared-slice-read-n : tie.Need-shared-slice-read-n Inv-loop μ-loop
-shared-slice-read-n c = omega (arith, head-of (c .before .before .before .before .before .before .before .args .a .now) (c .before .before .before .before .before .before .before .pre .0 .page-sound))
+shared-slice-read-n c = omega (arith, head-of (c .before .before .before .before .before .before .before .args .a .now) (c .before .before .before .before .before .before .before .pre .0 .page-solvable))
 
 cast-n : tie.Need-cast-n Inv-loop μ-loop
 cast-n c = omega (arith, c .shared-slice-known4 .given 1)
 
 add-k : tie.Need-add-k Inv-loop μ-loop
-add-k c = omega (arith, head-of (c .before .before .before .before .before .before .before .args .a .now) (c .before .before .before .before .before .before .before .pre .0 .page-sound))
+add-k c = omega (arith, head-of (c .before .before .before .before .before .before .before .args .a .now) (c .before .before .before .before .before .before .before .pre .0 .page-solvable))
 
 sub-first : tie.Need-sub-first Inv-loop μ-loop
 sub-first c = search needs
@@ -50,7 +50,7 @@ any-in-requires : tie.Need-any-in-requires Inv-loop μ-loop
 any-in-requires c κs = (c .before .before .before .before .before .before .before .before .before .before .pre .2 .size, omega arith)
 
 loop-holds : tie.Need-loop-holds Inv-loop μ-loop
-loop-holds c = waiting-first (line-groups _ (c .before .before .before .before .before .before .before .before .before .before .before .pre .0 .page-sound) _ (c .before .before .before .before .before .before .before .before .before .before .before .pre .1)) (c .before .before .before .before .before .before .before .before .before .before .before .pre .0) (c .before .before .before .before .before .before .before .before .before .before .before .pre .2) (c .before .before .before .before .before .before .before .before .before .before .before .pre .3) (c .any-in .ensures)
+loop-holds c = waiting-first (line-groups _ (c .before .before .before .before .before .before .before .before .before .before .before .pre .0 .page-solvable) _ (c .before .before .before .before .before .before .before .before .before .before .before .pre .1)) (c .before .before .before .before .before .before .before .before .before .before .before .pre .0) (c .before .before .before .before .before .before .before .before .before .before .before .pre .2) (c .before .before .before .before .before .before .before .before .before .before .before .pre .3) (c .any-in .ensures)
 
 remove-requires : tie.Need-remove-requires Inv-loop μ-loop
 remove-requires c κs = (c .before .before .loop .inv .lows-in .size, omega arith)

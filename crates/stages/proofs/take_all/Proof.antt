@@ -19,7 +19,7 @@ remove-requires : tie.Need-remove-requires Inv-loop μ-loop
 remove-requires c κs = (c .before .before .loop .inv .moved-in .size, omega arith)
 
 take-over-requires : tie.Need-take-over-requires Inv-loop μ-loop
-take-over-requires c κs = let i = c .before .before .before .before .before .before .before .before .loop .inv in (i .page-sound, i .users-in, i .long, taking-real i (omega arith), taking-grade i (omega arith), i .lows-in, i .look-in)
+take-over-requires c κs = let i = c .before .before .before .before .before .before .before .before .loop .inv in (i .page-solvable, i .users-in, i .long, taking-real i (omega arith), taking-grade i (omega arith), i .lows-in, i .look-in)
 
 next-in-requires : tie.Need-next-in-requires Inv-loop μ-loop
 next-in-requires c κs = (c .before .before .before .before .before .before .before .before .before .before .before .before .before .remove .ensures .0, omega arith)

@@ -3,6 +3,7 @@ use mathlib.Core.Path.{sym, ap}
 use native.Mathlib.Omega.{arith}
 use Rattle.semantics.specs.Area.{pageOf}
 use Rattle.semantics.specs.Stalls.{beginning}
+use Rattle.page.proofs.Solvable.{sound-solvable}
 use Rattle.page.proofs.Head.{head-of}
 use Rattle.stalls.specs.Answers.{stallOf}
 use Rattle.stalls.specs.declared.Stall.{Stall}
@@ -11,13 +12,13 @@ use Rattle.stalls.proofs.beginning.Statement.{statement}
 use Rattle.stalls.proofs.beginning.Tie as tie
 
 shared-slice-read-result : tie.Need-shared-slice-read-result
-shared-slice-read-result c = let z = c .before .before .before in omega (arith, head-of (z .args .page .now) (z .pre))
+shared-slice-read-result c = let z = c .before .before .before in omega (arith, head-of (z .args .page .now) (sound-solvable (z .args .page .now) (z .pre)))
 
 cast-result : tie.Need-cast-result
-cast-result c = let z = c .before .before .before in omega (arith, head-of (z .args .page .now) (z .pre))
+cast-result c = let z = c .before .before .before in omega (arith, head-of (z .args .page .now) (sound-solvable (z .args .page .now) (z .pre)))
 
 mul-result : tie.Need-mul-result
-mul-result c = let z = c .before .before .before in omega (arith, head-of (z .args .page .now) (z .pre))
+mul-result c = let z = c .before .before .before in omega (arith, head-of (z .args .page .now) (sound-solvable (z .args .page .now) (z .pre)))
 
 returns : tie.Need-returns
 returns c = ap (λ (x : Stall). beginning (pageOf (c .before .before .args .page .now)) (stallOf x)) (sym (c .enum-told .given .1))

@@ -8,6 +8,7 @@ use borrow.Author.Needs.{needs}
 use borrow.Author.Tests.{not-true, not-false}
 use Rattle.semantics.specs.Area.{sound, pageOf}
 use Rattle.semantics.specs.Stalls.{sharedLength}
+use Rattle.page.proofs.Solvable.{sound-solvable}
 use Rattle.page.proofs.Head.{head-of, conditions-is}
 use Rattle.stalls.specs.Answers.{stallOf}
 use Rattle.stalls.proofs.Refusals.{evaluate-10, evaluate-60}
@@ -34,13 +35,13 @@ returns c =
     evaluate-10 (z .page .now) (z .area .now) (sym (c .before .page-sound .ensures) ∙ not-true (c .before .page-sound .result) (c .if1 .taken)) (stallOf (z .stall)) (z .condition)
 
 shared-slice-read-if2 : tie.Need-shared-slice-read-if2
-shared-slice-read-if2 c = omega (arith, head-of (at-1 (c .before) .args .page .now) (no-10 (c .before)))
+shared-slice-read-if2 c = omega (arith, head-of (at-1 (c .before) .args .page .now) (sound-solvable (at-1 (c .before) .args .page .now) (no-10 (c .before))))
 
 cast-if2 : tie.Need-cast-if2
-cast-if2 c = omega (arith, head-of (at-1 (c .before) .args .page .now) (no-10 (c .before)))
+cast-if2 c = omega (arith, head-of (at-1 (c .before) .args .page .now) (sound-solvable (at-1 (c .before) .args .page .now) (no-10 (c .before))))
 
 mul-if2 : tie.Need-mul-if2
-mul-if2 c = omega (arith, head-of (at-1 (c .before) .args .page .now) (no-10 (c .before)))
+mul-if2 c = omega (arith, head-of (at-1 (c .before) .args .page .now) (sound-solvable (at-1 (c .before) .args .page .now) (no-10 (c .before))))
 
 returns-2 : tie.Need-returns-2
 returns-2 c =

@@ -18,31 +18,31 @@ abbrev μ-loop : tie.MeasureT-loop
 μ-loop a marks next₀ n c₀ next c = n - c
 
 shared-slice-read-n : tie.Need-shared-slice-read-n Inv-loop μ-loop
-shared-slice-read-n c = let s = c .before .before .before .before in omega (arith, head-of (s .args .a .now) (s .pre .page-sound))
+shared-slice-read-n c = let s = c .before .before .before .before in omega (arith, head-of (s .args .a .now) (s .pre .page-solvable))
 
 loop-holds : tie.Need-loop-holds Inv-loop μ-loop
 loop-holds c = storing-first _ _ _ _ (c .before .before .before .before .pre)
 
 is-sought-requires : tie.Need-is-sought-requires Inv-loop μ-loop
-is-sought-requires c κs = let p = c .before .loop .inv .places in (p .page-sound, p .marked, omega arith)
+is-sought-requires c κs = let p = c .before .loop .inv .places in (p .page-solvable, p .marked, omega arith)
 
 cast-high-from : tie.Need-cast-high-from Inv-loop μ-loop
-cast-high-from c = let i = c .before .before .before .loop .inv in omega (arith, head-of _ (i .places .page-sound) .few)
+cast-high-from c = let i = c .before .before .before .loop .inv in omega (arith, head-of _ (i .places .page-solvable) .few)
 
 slice-read-high-from : tie.Need-slice-read-high-from Inv-loop μ-loop
 slice-read-high-from c = let i = c .before .before .before .before .loop .inv in omega (arith, i .places .long, i .steady .same-length)
 
 high-from-requires : tie.Need-high-from-requires Inv-loop μ-loop
-high-from-requires c κs = (c .before .before .before .before .loop .inv .places .page-sound, omega arith)
+high-from-requires c κs = (c .before .before .before .before .loop .inv .places .page-solvable, omega arith)
 
 cast-next : tie.Need-cast-next Inv-loop μ-loop
-cast-next c = let i = c .before .before .before .before .before .loop .inv in omega (arith, head-of _ (i .places .page-sound) .few)
+cast-next c = let i = c .before .before .before .before .before .loop .inv in omega (arith, head-of _ (i .places .page-solvable) .few)
 
 slice-write-next : tie.Need-slice-write-next Inv-loop μ-loop
 slice-write-next c = let i = c .before .before .before .before .before .loop .inv in omega (arith, i .places .long, i .steady .same-length)
 
 add-c : tie.Need-add-c Inv-loop μ-loop
-add-c c = let i = c .before .before .before .loop .inv in omega (arith, head-of _ (i .places .page-sound) .few)
+add-c c = let i = c .before .before .before .loop .inv in omega (arith, head-of _ (i .places .page-solvable) .few)
 
 loop-less : tie.Need-loop-less Inv-loop μ-loop
 loop-less c = omega arith

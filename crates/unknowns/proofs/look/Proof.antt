@@ -9,25 +9,25 @@ use Rattle.unknowns.proofs.look.Statement.{statement}
 use Rattle.unknowns.proofs.look.Tie as tie
 
 add-if1 : tie.Need-add-if1
-add-if1 c = let s = c .before .before .before .before in let e = line-entry _ (s .pre .0 .page-sound) (s .pre .2) in omega (arith, s .good)
+add-if1 c = let s = c .before .before .before .before in let e = line-entry _ (s .pre .0 .page-solvable) (s .pre .2) in omega (arith, s .good)
 
 mul-if1 : tie.Need-mul-if1
-mul-if1 c = let s = c .before .before .before .before in let e = line-entry _ (s .pre .0 .page-sound) (s .pre .2) in omega (arith, s .good)
+mul-if1 c = let s = c .before .before .before .before in let e = line-entry _ (s .pre .0 .page-solvable) (s .pre .2) in omega (arith, s .good)
 
 shared-slice-read-if1 : tie.Need-shared-slice-read-if1
-shared-slice-read-if1 c = let s = c .before .before .before .before .before in let e = line-entry _ (s .pre .0 .page-sound) (s .pre .2) in omega (arith, s .good)
+shared-slice-read-if1 c = let s = c .before .before .before .before .before in let e = line-entry _ (s .pre .0 .page-solvable) (s .pre .2) in omega (arith, s .good)
 
 returns : tie.Need-returns
 returns c = inl (passed-query _ _ _ (omega arith))
 
 mul-is-sought : tie.Need-mul-is-sought
-mul-is-sought c = let s = c .before .before .before .before .before .before in let e = line-entry _ (s .pre .0 .page-sound) (s .pre .2) in omega (arith, s .good)
+mul-is-sought c = let s = c .before .before .before .before .before .before in let e = line-entry _ (s .pre .0 .page-solvable) (s .pre .2) in omega (arith, s .good)
 
 shared-slice-read-is-sought : tie.Need-shared-slice-read-is-sought
-shared-slice-read-is-sought c = let s = c .before .before .before .before .before .before .before in let e = line-entry _ (s .pre .0 .page-sound) (s .pre .2) in omega (arith, s .good)
+shared-slice-read-is-sought c = let s = c .before .before .before .before .before .before .before in let e = line-entry _ (s .pre .0 .page-solvable) (s .pre .2) in omega (arith, s .good)
 
 is-sought-requires : tie.Need-is-sought-requires
-is-sought-requires c κs = let s = c .before .before .before .before .before .before .before in (s .pre .0 .page-sound, s .pre .0 .marked, line-head _ (s .pre .0 .page-sound) (s .pre .2))
+is-sought-requires c κs = let s = c .before .before .before .before .before .before .before in (s .pre .0 .page-solvable, s .pre .0 .marked, line-head _ (s .pre .0 .page-solvable) (s .pre .2))
 
 take-line-requires : tie.Need-take-line-requires
 take-line-requires c κs = search needs

@@ -11,7 +11,7 @@ use Rattle.unknowns.proofs.next_highs.Statement.{statement}
 use Rattle.unknowns.proofs.next_highs.Tie as tie
 
 shared-slice-read-n : tie.Need-shared-slice-read-n
-shared-slice-read-n c = let s = c .before .before .before .before .before in omega (arith, head-of (s .args .a .now) (s .pre .0 .page-sound))
+shared-slice-read-n c = let s = c .before .before .before .before .before in omega (arith, head-of (s .args .a .now) (s .pre .0 .page-solvable))
 
 cast-n : tie.Need-cast-n
 cast-n c = search needs
@@ -50,7 +50,7 @@ same-length : tie.Need-same-length
 same-length c = search needs
 
 returns : tie.Need-returns
-returns c = let s = c .before .before .before .before .before .before .before .before .before .before .before .before .before .before .before .before .before .before in next-highs _ _ (s .pre .1) (2 * conditionsOf (s .args .a .now)) refl (s .pre .0 .page-sound) (c .before .before .before .before .before .before .before .before .before .before .clear .ensures) (c .before .before .before .before .before .before .sweep .ensures) (c .before .before .finish .ensures)
+returns c = let s = c .before .before .before .before .before .before .before .before .before .before .before .before .before .before .before .before .before .before in next-highs _ _ (s .pre .1) (2 * conditionsOf (s .args .a .now)) refl (s .pre .0 .page-solvable) (c .before .before .before .before .before .before .before .before .before .before .clear .ensures) (c .before .before .before .before .before .before .sweep .ensures) (c .before .before .finish .ensures)
 
 pub next-highs-spec : {M : Type 1} → statement M
 next-highs-spec =

@@ -1,0 +1,2 @@
+-- the parts of the output
+pub mod Parts
