@@ -15,11 +15,12 @@ use Rattle.semantics.proofs.Outputs.{read-refused, read-accepted, page-accepted
 use Rattle.semantics.proofs.TrialLists.{list-small}
 use Rattle.semantics.proofs.UsedLength.{mostUsed}
 use Rattle.print.specs.Wrote.{Wrote}
+use Rattle.list.specs.Codes.{listCodes}
 use Rattle.list.specs.Answers.{ListRefused, ListRead}
 use Rattle.list.proofs.Results.{refusal-for}
 use Rattle.trial.specs.declared.Begun.{Begun}
 use Rattle.trial.specs.declared.Begun.the-variants.{Refused, Read}
-use Rattle.trial.specs.Parts.{BegunList, BegunAs, ListBegun, RefusalBegun, BothBegun, OutputBegun}
+use Rattle.trial.specs.Parts.{listLeft, BegunList, BegunAs, ListBegun, RefusalBegun, BothBegun, OutputBegun}
 use Rattle.trial.proofs.Listing.{list-in}
 
 -- a list for a page that is read
@@ -45,6 +46,16 @@ module _ (bytes a list list′ : List ℕ) where
       let q = list-in (pageOf a) bytes list′ (drop (4 * k) list) e (h .count) (h .written) (omega (arith, h .few)) in
       record { accepted = e; in-range = q .0; same = q .1; wrote = w }
 
+  -- what the slice then holds
+  pub left-refused : {number line : ℕ} → ListRefused bytes (topOf a) (conditionsOf a) number line list list′ → list′ ≡ listLeft (listRefusal (pageOf a) bytes) bytes list
+  left-refused h = rw (told h) (h .same)
+
+  pub left-read : {k : ℕ} → ListRead bytes (topOf a) (conditionsOf a) k list list′ → list′ ≡ listLeft (listRefusal (pageOf a) bytes) bytes list
+  unfolding pageOf
+  left-read h =
+      let e : listRefusal (pageOf a) bytes ≡ none = refusal-for (pageOf a) bytes ∙ h .good in
+      rw e (h .written ∙ ap (λ (k : ℕ). listCodes (listRead bytes) ++ drop (4 * k) list) (h .count))
+
 -- a page and a list
 module _ (text bytes area : List ℕ) (long : mostUsed ≤ length area) where
   pub page-refused : {out out′ : List ℕ} {size number line place : ℕ} → refusedPage number line place ≡ readOf text area .answer → Wrote out 0 (printed (refusalFields number line ∷ [])) out′ size
@@ -56,6 +67,10 @@ module _ (text bytes area : List ℕ) (long : mostUsed ≤ length area) where
         is-output = rw (read-refused text area long e);
         wrote = w;
       }
+
+  pub left-as-it-was : {number line place : ℕ} → refusedPage number line place ≡ readOf text area .answer → (list : List ℕ)
+      → list ≡ listLeft (orElse (textRefusal text) (listRefusal (pageRead text) bytes)) bytes list
+  left-as-it-was e list = rw (read-refused text area long e)
 
   module _ {used : ℕ} {a : List ℕ} (e : readPage used ≡ readOf text area .answer) (q : a ≡ readOf text area .area) where
     same-page : pageOf a ≡ pageRead text
@@ -73,6 +88,10 @@ module _ (text bytes area : List ℕ) (long : mostUsed ≤ length area) where
 
     both-begun : {list out out′ : List ℕ} {size lines : ℕ} → sound a ≡ true → ListBegun bytes a list out out′ size lines → BothBegun text bytes a list out out′ size lines
     both-begun ok h = record { accepted = read-accepted text area long e; page-sound = ok; page-is = same-page; list-begun = h }
+
+    pub left-after : (list : List ℕ) {list′ : List ℕ} → list′ ≡ listLeft (listRefusal (pageOf a) bytes) bytes list
+        → list′ ≡ listLeft (orElse (textRefusal text) (listRefusal (pageRead text) bytes)) bytes list
+    left-after list h = rw (read-accepted text area long e) (h ∙ ap (λ (p : Page). listLeft (listRefusal p bytes) bytes list) same-page)
 
     -- whichever the list comes to
     pub begun-after : sound a ≡ true → (list out out′ : List ℕ) (r : Begun) → BegunList bytes a list out out′ r → BegunAs text bytes a list out out′ r

@@ -13,6 +13,7 @@ use Rattle.semantics.specs.Page.{Page}
 use Rattle.semantics.specs.ReadPage.{Refusal, textRefusal, pageRead}
 use Rattle.semantics.specs.Trials.{TrialLine, Trial, trialsOf, listRefusal, listRead, changedPage, trialAnswers, IsTrialsOutput}
 use Rattle.change.specs.Trial.{linesAt}
+use Rattle.list.specs.Codes.{listCodes}
 use Rattle.trial.specs.declared.Begun.{Begun}
 use Rattle.trial.specs.declared.Begun.the-variants.{Refused, Read}
 
@@ -28,6 +29,11 @@ pub record ListIn (top n : ℕ) (list : List ℕ) (lines : ℕ) : Type 0 where
 -- the lines of a list from line `from` on
 abbrev pub linesFrom : (list : List ℕ) → (from lines : ℕ) → List TrialLine
 linesFrom list from lines = linesAt (lines - from) (drop (4 * from) list)
+
+-- what reading a list leaves in its slice: a refusal leaves it as it is, an accepted list stands at its front
+abbrev pub listLeft : Option Refusal → (bytes list : List ℕ) → List ℕ
+listLeft (some r) bytes list = list
+listLeft none bytes list = listCodes (listRead bytes) ++ drop (4 * length (listRead bytes)) list
 
 -- a list that is read for a page: its numbers are in range, its lines are those of the bytes, and the first line is written
 pub record ListBegun (bytes a list out out′ : List ℕ) (size lines : ℕ) : Type 0 where

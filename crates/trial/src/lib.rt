@@ -5,7 +5,9 @@ ghost use mathlib.Core.Bool.{true};
 ghost use Prim.Native.Nat.{_*_, _≤_, _<_};
 ghost use lib.ListN.{length};
 ghost use Rattle.semantics.specs.Area.{sound, pageOf, topOf, conditionsOf};
-ghost use Rattle.trial.specs.Parts.{ListIn, TrialEnd, BegunList, BegunAs, TrialPut};
+ghost use Rattle.semantics.specs.ReadPage.{orElse, textRefusal, pageRead, readOf};
+ghost use Rattle.semantics.specs.Trials.{listRefusal};
+ghost use Rattle.trial.specs.Parts.{listLeft, ListIn, TrialEnd, BegunList, BegunAs, TrialPut};
 use answers::put_lines;
 use answers::put_refusal;
 use answers::put_top;
@@ -22,7 +24,8 @@ pub enum Begun {
 // The beginning of a list for a page that is read.
 fn begin_list(bytes: &[u8], page: &[u16], list: &mut [u16], out: &mut [u8]) -> Begun
     requires { ⌜ (sound (now page) ≡ true) × (4096 ≤ length (now list)) × (27648 ≤ length (now out)) ⌝ }
-    ensures { λ r. ⌜ BegunList (now (bytes .entry)) (now (page .entry)) (now (list .exit)) (now (out .entry)) (now (out .exit)) r ⌝ }
+    ensures begun { λ r. ⌜ BegunList (now (bytes .entry)) (now (page .entry)) (now (list .exit)) (now (out .entry)) (now (out .exit)) r ⌝ }
+    ensures list { λ _. ⌜ now (list .exit) ≡ listLeft (listRefusal (pageOf (now (page .entry))) (now (bytes .entry))) (now (bytes .entry)) (now (list .entry)) ⌝ }
 {
     let top = page[0];
     let read = list::read_list(bytes, top, page[1], list);
@@ -38,7 +41,9 @@ fn begin_list(bytes: &[u8], page: &[u16], list: &mut [u16], out: &mut [u8]) -> B
 // The beginning: the page is read to its area, the list to four numbers a line.
 pub fn begin(text: &[u8], bytes: &[u8], page: &mut [u16], list: &mut [u16], out: &mut [u8]) -> Begun
     requires { ⌜ (12804 ≤ length (now page)) × (4096 ≤ length (now list)) × (27648 ≤ length (now out)) ⌝ }
-    ensures { λ r. ⌜ BegunAs (now (text .entry)) (now (bytes .entry)) (now (page .exit)) (now (list .exit)) (now (out .entry)) (now (out .exit)) r ⌝ }
+    ensures begun { λ r. ⌜ BegunAs (now (text .entry)) (now (bytes .entry)) (now (page .exit)) (now (list .exit)) (now (out .entry)) (now (out .exit)) r ⌝ }
+    ensures page { λ _. ⌜ now (page .exit) ≡ readOf (now (text .entry)) (now (page .entry)) .area ⌝ }
+    ensures list { λ _. ⌜ now (list .exit) ≡ listLeft (orElse (textRefusal (now (text .entry))) (listRefusal (pageRead (now (text .entry))) (now (bytes .entry)))) (now (bytes .entry)) (now (list .entry)) ⌝ }
 {
     let read = reader::read_page(text, page);
     match read {

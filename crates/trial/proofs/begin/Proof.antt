@@ -5,7 +5,7 @@ use borrow.Author.Needs.{needs}
 use Rattle.semantics.specs.Area.{sound}
 use Rattle.semantics.proofs.ReadProper.{read-good, read-small}
 use Rattle.reader.specs.Answers.{answerOf}
-use Rattle.trial.proofs.Beginning.{page-refused, begun-after}
+use Rattle.trial.proofs.Beginning.{page-refused, begun-after, left-as-it-was, left-after}
 use Rattle.trial.proofs.begin.Statement.{statement}
 use Rattle.trial.proofs.begin.Tie as tie
 
@@ -39,7 +39,9 @@ same-length-2 c = search needs
 returns : tie.Need-returns
 returns c =
     let z = c .before .before .before .before .before .before .before .before .before .before .before .before .before .before .before .before in
-    page-refused (z .args .text .now) (z .args .bytes .now) _ (omega (arith, z .pre .0)) (ap answerOf (sym (c .before .before .before .before .before .read .given .1)) ∙ c .before .before .before .before .before .before .before .before .before .read-page .ensures .0) (c .before .before .put-refusal .ensures)
+    let r = c .before .before .before .before .before .before .before .before .before .read-page in
+    let e = ap answerOf (sym (c .before .before .before .before .before .read .given .1)) ∙ r .ensures .0 in
+    (page-refused (z .args .text .now) (z .args .bytes .now) _ (omega (arith, z .pre .0)) e (c .before .before .put-refusal .ensures), (r .ensures .1, left-as-it-was (z .args .text .now) (z .args .bytes .now) _ (omega (arith, z .pre .0)) e (z .args .list .now)))
 
 same-length-3 : tie.Need-same-length-3
 same-length-3 c = search needs
@@ -55,7 +57,7 @@ returns-2 c =
     let z = c .before .before .before .before .before .before .before .before .before .before .before .before .before .before .before .before .before .before .before in
     let r = c .before .before .before .before .before .before .before .before .before .before .before .before .read-page in
     let e = ap answerOf (sym (c .before .before .before .before .before .before .before .before .enum-told .given .1)) ∙ r .ensures .0 in
-    begun-after (z .args .text .now) (z .args .bytes .now) _ (omega (arith, z .pre .0)) e (r .ensures .1) (ap sound (r .ensures .1) ∙ read-good _ _ e .page-sound) _ _ _ (c .before .before .before .before .begin-list .result) (c .before .before .before .before .begin-list .ensures)
+    (begun-after (z .args .text .now) (z .args .bytes .now) _ (omega (arith, z .pre .0)) e (r .ensures .1) (ap sound (r .ensures .1) ∙ read-good _ _ e .page-sound) _ _ _ (c .before .before .before .before .begin-list .result) (c .before .before .before .before .begin-list .ensures .0), (r .ensures .1, left-after (z .args .text .now) (z .args .bytes .now) _ (omega (arith, z .pre .0)) e (r .ensures .1) (z .args .list .now) (c .before .before .before .before .begin-list .ensures .1)))
 
 pub begin-spec : {M : Type 1} → statement M
 begin-spec =

@@ -5,7 +5,7 @@ use Rattle.page.proofs.Head.{head-of}
 use Rattle.page.proofs.Scan.{solvable-head}
 use Rattle.page.proofs.Solvable.{sound-solvable}
 use Rattle.list.proofs.Results.{refused-told, read-told}
-use Rattle.trial.proofs.Beginning.{refusal-few, list-refused, list-begun}
+use Rattle.trial.proofs.Beginning.{refusal-few, list-refused, list-begun, left-refused, left-read}
 use Rattle.trial.proofs.begin_list.Statement.{statement}
 use Rattle.trial.proofs.begin_list.Tie as tie
 
@@ -45,7 +45,8 @@ same-length-2 c = search needs
 returns : tie.Need-returns
 returns c =
     let z = c .before .before .before .before .before .before .before .before .before .before .before .before .before .before .before .before .before in
-    list-refused (z .args .bytes .now) (z .args .page .now) _ _ (refused-told _ _ _ _ _ (c .before .before .before .before .before .before .before .before .before .read-list .ensures) (c .before .before .before .before .before .read .given .1)) (c .before .before .put-refusal .ensures)
+    let h = refused-told _ _ _ _ _ (c .before .before .before .before .before .before .before .before .before .read-list .ensures) (c .before .before .before .before .before .read .given .1) in
+    (list-refused (z .args .bytes .now) (z .args .page .now) _ _ h (c .before .before .put-refusal .ensures), left-refused (z .args .bytes .now) (z .args .page .now) _ _ h)
 
 same-length-3 : tie.Need-same-length-3
 same-length-3 c = search needs
@@ -57,7 +58,8 @@ returns-2 : tie.Need-returns-2
 returns-2 c =
     let z = c .before .before .before .before .before .before .before .before .before .before .before .before .before .before .before .before .before in
     let r = c .before .before .before .before .before .before .before .before .before .read-list in
-    list-begun (z .args .bytes .now) (z .args .page .now) _ _ (read-told _ _ _ _ _ (r .ensures) (c .before .before .before .before .before .read2 .given .1)) (omega (arith, z .pre .1, r .kept .1 .1 .1 .0)) (c .before .before .put-top .ensures)
+    let h = read-told _ _ _ _ _ (r .ensures) (c .before .before .before .before .before .read2 .given .1) in
+    (list-begun (z .args .bytes .now) (z .args .page .now) _ _ h (omega (arith, z .pre .1, r .kept .1 .1 .1 .0)) (c .before .before .put-top .ensures), left-read (z .args .bytes .now) (z .args .page .now) _ _ h)
 
 pub begin-list-spec : {M : Type 1} → statement M
 begin-list-spec =
