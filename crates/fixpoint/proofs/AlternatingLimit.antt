@@ -9,7 +9,7 @@ use Rattle.fixpoint.specs.KnowledgeOrder.{Under, join}
 use Rattle.fixpoint.specs.LeastFixpoint.{Operator}
 use Rattle.fixpoint.specs.Support.{IsSupport, support, close}
 use Rattle.fixpoint.specs.WellFounded.{Closes, closed}
-use Rattle.fixpoint.specs.AlternatingFixpoint.{mix, floor, IsHighs, IsLows, highs, lows}
+use Rattle.fixpoint.specs.AlternatingFixpoint.{mix, floor, IsHighs, IsLows}
 use Rattle.fixpoint.proofs.Cond.{cond_false}
 use Rattle.fixpoint.proofs.KnowledgeOrder.{under_refl, under_trans, under_eq}
 use Rattle.fixpoint.proofs.Merge.{merge_same, merge_in, floor_in, merge_under, floor_mono, merge_eq, merge_join, merge_ceiling}

@@ -12,7 +12,7 @@ use Rattle.fixpoint.specs.Sum.{count}
 use Rattle.fixpoint.specs.ChaoticIteration.{DependencyClosed}
 use Rattle.fixpoint.specs.Support.{support, close}
 use Rattle.fixpoint.specs.WellFounded.{closed, stage}
-use Rattle.fixpoint.specs.AlternatingFixpoint.{mix, floor, highs, lows}
+use Rattle.fixpoint.specs.AlternatingFixpoint.{mix, floor, highs}
 use Rattle.fixpoint.specs.Reachable.{IsCount, HighLocal, Unseen}
 use Rattle.fixpoint.proofs.KnowledgeOrder.{width, width_le, width_eq}
 use Rattle.fixpoint.proofs.Merge.{merge_same, floor_in, merge_eq, merge_join, floor_under, floor_mono}

@@ -7,7 +7,7 @@ use native.Mathlib.Omega.{arith}
 use Rattle.fixpoint.specs.Interval.{Interval, Within, Assign}
 use Rattle.fixpoint.specs.KnowledgeOrder.{Under, bottom, unknown, join, certainly_false}
 use Rattle.fixpoint.specs.LeastFixpoint.{Operator, iter, lfp}
-use Rattle.fixpoint.specs.Support.{assumption, Safe, IsSupport, roof, raise, support, close}
+use Rattle.fixpoint.specs.Support.{Safe, IsSupport, roof, raise, support, close}
 use Rattle.fixpoint.proofs.Cond.{cond_true, cond_false, cond_le, cond_most, cond_least}
 use Rattle.fixpoint.proofs.KnowledgeOrder.{under_antisym}
 use Rattle.fixpoint.proofs.LeastFixpoint.{lfp_within, lfp_fixed, lfp_under}

@@ -1,5 +1,5 @@
 -- Safe assignments and the support: what may be taken as false. Assumes nothing.
-use Rattle.std.specs.Prelude.{◌≡◌, Bool, true, cond, ℕ, ◌<◌}
+use Rattle.std.specs.Prelude.{Bool, cond, ℕ, ◌<◌}
 use Rattle.fixpoint.specs.Interval.{Interval, Within, Assign}
 use Rattle.fixpoint.specs.KnowledgeOrder.{Under, unknown, certainly_false, join}
 use Rattle.fixpoint.specs.LeastFixpoint.{lfp}
