@@ -1,12 +1,11 @@
 -- The rows on raw areas hold: one test over the list, computed. Assumes nothing.
-use mathlib.Core.Path.{◌≡◌, refl, sym, ◌∙◌, ap, ap₂}
+use mathlib.Core.Path.{◌≡◌, refl, sym, ◌∙◌, ap}
 use mathlib.Core.Bool.{Bool, true, ◌&&◌}
 use mathlib.Core.List.{List, [], ◌∷◌, ◌++◌}
 use mathlib.Core.Option.{none, some}
 use lib.ListN.{length, drop}
-use Prim.Native.Nat.{ℕ, ◌<◌, ◌*◌}
-use native.Mathlib.Omega.{arith}
-use Rattle.fixpoint.specs.Interval.{same, Interval, Assign}
+use Prim.Native.Nat.{ℕ, ◌*◌}
+use Rattle.fixpoint.specs.Interval.{same}
 use Rattle.fixpoint.specs.Sum.{sum}
 use Rattle.fixpoint.specs.Support.{roof, raise}
 use Rattle.fixpoint.specs.WellFounded.{closed}
@@ -16,10 +15,9 @@ use Rattle.semantics.specs.Body.{bodies, unknown_by_default, bodyless, largest_o
 use Rattle.semantics.specs.Call.{first_of, outcome}
 use Rattle.semantics.specs.Grade.{rounding, divided, combine, fold_from, fold_all, weighted, negated}
 use Rattle.semantics.specs.Holding.{first_with, line_holding}
-use Rattle.semantics.specs.Operation.{open_of, operation, closed_causes, zeros, scratch_length, ends, ClosedAnswers, ClosedOf}
-use Rattle.semantics.specs.Page.{mentions, lines_name, Page, defaults}
-use Rattle.semantics.proofs.Proper.{Proper}
-use Rattle.semantics.specs.Reading.{pass, passes, closure, adds, pass_count, count_r, count_e, bound, IsClosed}
+use Rattle.semantics.specs.Operation.{open_of, operation, closed_causes, zeros, scratch_length, ends, ClosedOf}
+use Rattle.semantics.specs.Page.{mentions, lines_name, defaults}
+use Rattle.semantics.specs.Reading.{pass, passes, closure, adds, pass_count, count_r, count_e, bound}
 use Rattle.semantics.specs.RunArea.{cells, run_of, worklist_of, reached_of, run_sound}
 use Rattle.semantics.specs.Table.{table_from, all_unknown, any_below, all_below, listed, interval_of}
 use Rattle.semantics.specs.Worklist.{start, changes, waiting_after, evaluated, lowest_from, drive_from}

@@ -3,7 +3,6 @@
 use mathlib.Core.Path.{◌≡◌}
 use mathlib.Core.List.{List, [], ◌∷◌}
 use Prim.Native.Nat.{ℕ}
-use Rattle.fixpoint.specs.Interval.{Interval}
 use Rattle.semantics.specs.Worklist.{rest, spent}
 use Rattle.semantics.specs.Call.{Call, evaluate, drive, value, line_held, Answer, refused, unchanged, changed, drove, valued, held_by}
 use Rattle.semantics.specs.Operation.{Opening, refused_opening, opened_with, open_of, operation, refused_closing, closed_after, ClosedOf}

@@ -1,35 +1,29 @@
 -- A run area and the state that it holds: encoding, decoding, and soundness. Assumes nothing.
-use mathlib.Core.Path.{◌≡◌, refl, sym, ◌∙◌, ap, ap₂, subst, subst₂}
-use mathlib.Core.Bool.{Bool, true, false, not, cond, ◌&&◌, ◌||◌, true≢false, false≢true, or-true}
-use mathlib.Core.List.{List, [], ◌∷◌, ◌++◌}
-use mathlib.Core.Option.{Option, none, some}
+use mathlib.Core.Path.{◌≡◌, refl, sym, ◌∙◌, ap, ap₂, subst₂}
+use mathlib.Core.Bool.{Bool, true, false, ◌&&◌, ◌||◌}
+use mathlib.Core.List.{List, ◌∷◌, ◌++◌}
 use Prim.Native.Nat.{ℕ, zero, suc, ◌+◌, ◌*◌, ◌≤◌, ◌<◌}
 use native.Mathlib.Numerals.{add-one}
 use native.Mathlib.Omega.{arith}
-use lib.Dec.{eqb, leb, ltb}
-use mathlib.Core.Logic.{inl, inr}
+use lib.Dec.{eqb, leb}
 use lib.ListN.{length, get_or, drop, length-append}
 use lib.Seq.{ext_get_or, get_or-drop, drop_at, drop-cons}
 use borrow.Author.Tests.{le-leb, leb-true, eqb-true}
 use Rattle.fixpoint.specs.Interval.{same, Interval, Ordered, Assign}
-use Rattle.semantics.specs.Area.{sound, page_of, every, all_under}
-use Rattle.semantics.specs.Call.{Call, Answer, refused, Outcome, Cause, cause, first_of, outcome}
-use Rattle.semantics.specs.Demand.{perform, Demand3}
-use Rattle.semantics.specs.Operation.{Left, operation, open_causes}
+use Rattle.semantics.specs.Area.{every}
 use Rattle.semantics.specs.Page.{Page}
 use Rattle.semantics.proofs.Proper.{Proper}
 use Rattle.semantics.specs.Reading.{closure}
 use Rattle.semantics.specs.RunArea.{cells, mark_of, run_of, interval_at, mark_at, worklist_of, reached_of, cell_tests, run_sound}
-use Rattle.semantics.specs.Table.{interval_of, member, table, listed, all_below}
-use Rattle.semantics.specs.Worklist.{Worklist, start}
+use Rattle.semantics.specs.Table.{interval_of, member, table}
+use Rattle.semantics.specs.Worklist.{Worklist}
 use Rattle.fixpoint.proofs.Evaluation.{same_refl, same_true}
 use Rattle.fixpoint.proofs.KnowledgeOrder.{pair_eq}
 use Rattle.semantics.proofs.Closure.{closure_length}
 use Rattle.semantics.proofs.Invariant.{Invariant}
 use Rattle.semantics.proofs.Readings.{plain_is}
-use Rattle.semantics.proofs.Soundness.{both_true, sound_proper, Every, every_true}
-use Rattle.semantics.proofs.Table.{length_from, get_d_table, or_cases, all_true, all_at}
-use native.Mathlib.Decide.{ℕ_discrete}
+use Rattle.semantics.proofs.Soundness.{both_true, Every, every_true}
+use Rattle.semantics.proofs.Table.{length_from, get_d_table, all_true, all_at}
 
 length_cells : (n k : ℕ) (I : Assign) (mk : ℕ → ℕ) → length (cells n k I mk) ≡ 3 * n
 unfolding cells

@@ -2,23 +2,21 @@
 use mathlib.Core.Path.{◌≡◌, refl, sym, ◌∙◌, ap, subst}
 use mathlib.Core.Bool.{Bool, true, ◌&&◌}
 use mathlib.Core.List.{List, [], ◌∷◌, append-nil}
-use Prim.Native.Nat.{ℕ, ◌<◌}
+use Prim.Native.Nat.{◌<◌}
 use lib.Dec.{eqb, ltb}
 use borrow.Author.Tests.{eqb-true, ltb-true}
-use Rattle.fixpoint.specs.Interval.{same, Interval, Assign}
-use Rattle.fixpoint.specs.LeastFixpoint.{lfp}
+use Rattle.fixpoint.specs.Interval.{same}
 use Rattle.fixpoint.specs.Sum.{sum}
 use Rattle.fixpoint.specs.Support.{roof, raise}
-use Rattle.fixpoint.specs.WellFounded.{closed}
 use Rattle.semantics.specs.Area.{area_of, page_of, sound_to, sound, kind, span, lines_of, all_under, lines_ok, line_codes, every, defaults_ok}
 use Rattle.semantics.specs.Body.{bodies, unknown_by_default, bodyless, largest_of, T}
 use Rattle.semantics.specs.Grade.{rounding, divided, combine, fold_from, fold_all, weighted, negated}
 use Rattle.semantics.specs.Page.{mentions, lines_name, Page, defaults}
 use Rattle.semantics.proofs.Proper.{Proper}
-use Rattle.semantics.specs.Reading.{pass, passes, closure, count_e, count_r, bound, Reads}
-use Rattle.semantics.proofs.Rows.{interval, Row, plainly, closedly, opens, drives, Opens, Drives, Holds, AllHold, rows, page1, page3, page4, page5, page6, page7, page8, page_ours, page_exact}
-use Rattle.semantics.specs.Table.{interval_of, member, table_from, any_below, listed, all_unknown, all_below}
-use Rattle.semantics.specs.Worklist.{Worklist, start, changes, waiting_after, evaluated, lowest_from, drive_from, driven, Status, rest, spent, status}
+use Rattle.semantics.specs.Reading.{pass, passes, closure, count_e, count_r, bound}
+use Rattle.semantics.proofs.Rows.{interval, Row, plainly, closedly, opens, drives, Holds, AllHold, rows, page1, page3, page4, page5, page6, page7, page8, page_ours, page_exact}
+use Rattle.semantics.specs.Table.{interval_of, table_from, any_below, listed, all_unknown, all_below}
+use Rattle.semantics.specs.Worklist.{start, changes, waiting_after, evaluated, lowest_from, drive_from, driven, status}
 use Rattle.fixpoint.proofs.Evaluation.{same_true}
 use Rattle.semantics.proofs.Computed.{plain_list_lem, closed_list_lem}
 use Rattle.semantics.proofs.Readings.{plain_is, closed_is}

@@ -1,17 +1,14 @@
 -- The lists that compute hold the readings. Assumes nothing.
-use mathlib.Core.Path.{◌≡◌, refl, sym, ◌∙◌, ap, subst}
-use mathlib.Core.List.{List, [], ◌∷◌}
-use Prim.Native.Nat.{ℕ, zero, suc, ◌+◌, ◌*◌, ◌≤◌, ◌<◌, min, max}
-use native.Mathlib.Omega.{arith}
-use lib.ListN.{length, get_or}
+use mathlib.Core.Path.{◌≡◌, sym, ◌∙◌, ap}
+use mathlib.Core.List.{List}
+use Prim.Native.Nat.{ℕ, zero, suc, ◌+◌, ◌*◌, ◌<◌, min, max}
 use Rattle.fixpoint.specs.Interval.{Interval, Within, Assign}
-use Rattle.fixpoint.specs.KnowledgeOrder.{Under, bottom, join}
-use Rattle.fixpoint.specs.LeastFixpoint.{Operator, IsLeast, iter, lfp}
-use Rattle.fixpoint.specs.Support.{roof, raise, support, close}
-use Rattle.fixpoint.specs.System.{System}
+use Rattle.fixpoint.specs.KnowledgeOrder.{bottom, join}
+use Rattle.fixpoint.specs.LeastFixpoint.{Operator, iter, lfp}
+use Rattle.fixpoint.specs.Support.{roof, support, close}
 use Rattle.fixpoint.specs.WellFounded.{closed}
 use Rattle.semantics.specs.Body.{T, unknown_by_default}
-use Rattle.semantics.specs.Page.{Page, names}
+use Rattle.semantics.specs.Page.{Page}
 use Rattle.semantics.proofs.Proper.{Proper}
 use Rattle.semantics.specs.Reading.{IsPlain, IsClosed}
 use Rattle.semantics.specs.Table.{table, interval_of, all_unknown}

@@ -9,7 +9,7 @@ use lib.Dec.{eqb, leb, ltb}
 use lib.ListN.{get_or}
 use borrow.Author.Tests.{eqb-true, leb-true, ltb-true}
 use Rattle.fixpoint.specs.Interval.{Interval, Assign}
-use Rattle.semantics.specs.Area.{area_of, sound_to, sound, kind, span, all_under, lines_ok, line_codes, every, defaults_ok, page_of, lines_of}
+use Rattle.semantics.specs.Area.{area_of, sound_to, kind, span, all_under, lines_ok, line_codes, every, defaults_ok, page_of, lines_of}
 use Rattle.semantics.specs.Exact.{Fraction, whole, scaled, Equal, Covers, exact_combine, exact_weighted, exact_negated, exact_fold, Figures, exact_bodies, exact_body, Exact, has_body, may_take_any}
 use Rattle.semantics.specs.Page.{mentions, lines_name, defaults}
 use Rattle.semantics.specs.Reading.{IsPlain, IsClosed, Reached, queried, named}

@@ -1,41 +1,34 @@
 -- Demand 3: after an accepted opening, any list of calls on areas follows the book, and the book keeps what is asked. Assumes nothing.
 use mathlib.Core.Path.{◌≡◌, refl, sym, ◌∙◌, ap, ap₂, subst}
 use mathlib.Core.Logic.{◌≢◌, ◌↔◌, inl, inr}
-use mathlib.Core.Bool.{Bool, true, false, not, cond, ◌&&◌, ◌||◌, true≢false, false≢true}
+use mathlib.Core.Bool.{Bool, true, false, cond, ◌&&◌, false≢true}
 use mathlib.Core.List.{List, [], ◌∷◌, ◌++◌}
 use mathlib.Core.Option.{Option, none, some}
-use Prim.Native.Nat.{ℕ, zero, suc, ◌+◌, ◌*◌, ◌≤◌, ◌<◌}
-use native.Mathlib.Decide.{ℕ_discrete, dec_le}
-use native.Mathlib.Nat.{zero-add}
+use Prim.Native.Nat.{ℕ, ◌+◌, ◌*◌, ◌<◌}
 use native.Mathlib.Omega.{arith}
 use lib.Dec.{eqb, leb, ltb}
-use lib.ListN.{length, get_or, set, length-set, get_or-eq_default, drop}
-use lib.Seq.{get_or-set_same, get_or-set_other}
-use borrow.Author.Tests.{eq-eqb, ne_eqb, leb-true, leb-false, lt-leb, not-false, ltb-true, eqb-true}
-use Rattle.fixpoint.specs.ChaoticIteration.{put, woken, DependencyClosed, Step, Kept, budget}
-use Rattle.fixpoint.specs.Interval.{same, Interval, Assign}
-use Rattle.fixpoint.specs.KnowledgeOrder.{Under, bottom}
-use Rattle.fixpoint.specs.LeastFixpoint.{IsLeast}
+use lib.ListN.{length, drop}
+use borrow.Author.Tests.{leb-true, lt-leb, not-false, ltb-true, eqb-true}
+use Rattle.fixpoint.specs.ChaoticIteration.{DependencyClosed}
 use Rattle.fixpoint.specs.System.{System}
 use Rattle.semantics.specs.Area.{all_under, sound, page_of}
 use Rattle.semantics.specs.Body.{T}
-use Rattle.semantics.specs.Call.{Call, evaluate, drive, value, Answer, refused, changed, unchanged, drove, valued, Outcome, Cause, cause, first_of, unless, outcome, taken, taken_by}
-use Rattle.semantics.specs.Demand.{perform, perform_from, perform_book, Performed, Recorded, Demand3}
-use Rattle.semantics.specs.Operation.{open_causes, open_of, open_as, Opened, operation, Left, left_as, opened_with}
+use Rattle.semantics.specs.Call.{Call, evaluate, refused, changed, unchanged, first_of, outcome, taken, taken_by}
+use Rattle.semantics.specs.Demand.{perform, perform_from, perform_book, Performed, Demand3}
+use Rattle.semantics.specs.Operation.{open_causes, open_of, open_as, operation, Left, opened_with}
 use Rattle.semantics.specs.Page.{Page, names}
 use Rattle.semantics.proofs.Proper.{Proper}
-use Rattle.semantics.specs.Reading.{IsPlain, Reached, closure, IsPassCount, pass_count, bound, reached, count_r, count_e}
-use Rattle.semantics.specs.RunArea.{run_of, reached_of, worklist_of, run_sound}
-use Rattle.semantics.specs.Table.{listed, interval_of, member, table, all_unknown}
-use Rattle.semantics.specs.Worklist.{Worklist, start, changes, waiting_after, evaluated, holder, lowest_from, lowest, Status, rest, spent, status_as, status, Driven, drive_from, driven}
-use Rattle.fixpoint.proofs.ChaoticIteration.{kept_first, in_time, none_waits, done}
-use Rattle.fixpoint.proofs.ChaoticStep.{kept}
+use Rattle.semantics.specs.Reading.{closure, IsPassCount, pass_count, bound, count_r, count_e}
+use Rattle.semantics.specs.RunArea.{run_of}
+use Rattle.semantics.specs.Table.{listed, member}
+use Rattle.semantics.specs.Worklist.{Worklist, start, changes, holder, lowest, rest, status_as, status}
+use Rattle.fixpoint.proofs.ChaoticIteration.{in_time, none_waits, done}
 use Rattle.semantics.proofs.Areas.{State, state_encodable, area_sound, reached_back, state_back, rest_back}
-use Rattle.semantics.proofs.Closure.{reached_closed, reached_complete, bound_is, closure_length, reached_real, closure_is, pass_count_is, passes_few}
+use Rattle.semantics.proofs.Closure.{reached_closed, reached_complete, bound_is, reached_real, closure_is, pass_count_is, passes_few}
 use Rattle.semantics.proofs.Invariant.{lowest_some, lowest_none, rest_none, Invariant, after, waits_real, no_cause_holds, invariant_first, invariant_call, NoCause}
-use Rattle.semantics.proofs.Readings.{page_system, plain_is, plain_ordered, names_inside}
+use Rattle.semantics.proofs.Readings.{page_system, plain_is, names_inside}
 use Rattle.semantics.proofs.Soundness.{sound_proper, both_true}
-use Rattle.semantics.proofs.Table.{length_from, get_d_table, or_cases}
+use Rattle.semantics.proofs.Table.{or_cases}
 
 pub rest_iff : (n : ℕ) (b : Worklist) → length b.waiting ≡ n → (status b ≡ rest) ↔ ((c : ℕ) → c < n → member b.waiting c ≡ false)
 rest_iff n b l = (λ e c k. lowest_none 0 b.waiting (rest_none (lowest b) e) c, λ q. go q (lowest b) refl)

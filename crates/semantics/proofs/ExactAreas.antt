@@ -1,17 +1,16 @@
 -- The sound areas are exactly the areas of proper pages of at most 1,024 lines, with anything behind them. Assumes nothing.
 use mathlib.Core.Path.{◌≡◌, refl, sym, ◌∙◌, ap, ap₂, subst}
 use mathlib.Core.Logic.{◌≢◌, ◌↔◌}
-use mathlib.Core.Bool.{Bool, true, false, cond, ◌&&◌, false≢true, true≢false}
+use mathlib.Core.Bool.{Bool, true, false, cond, false≢true}
 use mathlib.Core.List.{List, [], ◌∷◌, ◌++◌, map, append_assoc}
 use Prim.Native.Nat.{ℕ, zero, suc, ◌+◌, ◌*◌, ◌-◌, ◌/◌, ◌%◌, ◌≤◌, ◌<◌}
 use native.Mathlib.Omega.{arith}
-use lib.Dec.{eqb, leb, ltb}
+use lib.Dec.{eqb, leb}
 use lib.ListN.{length, get_or, take, drop, length-map, length-append, length-take, length-drop, take-append-drop}
-use lib.Seq.{take_at, drop_at, take-add, take_all, get_or-take, get_or-drop, drop-drop}
-use borrow.Author.Tests.{leb-true, ltb-true, eqb-true, eqb-false, le-leb, lt-ltb, eq-eqb}
+use lib.Seq.{take_at, take-add, get_or-take, get_or-drop, drop-drop}
+use borrow.Author.Tests.{leb-true, eqb-true, eqb-false, le-leb, lt-ltb, eq-eqb}
 use Rattle.semantics.specs.Area.{Kind, fact_kind, rule_kind, query_kind, default_kind, no_kind, kind, span_as, span, literal_of, literals_at, line_as, line_at, line_tests, lines_of, page_of, every, all_under, field_tests, head_tests, lines_ok, default_tests, defaults_ok, sound_to, sound, head_length, first_line, default_of, top_of, conditions_of, count_of, used_of, kind_of, code_of, line_code, line_codes, area_of}
-use Rattle.semantics.specs.Grade.{Op, M, X, L, B, P}
-use Rattle.semantics.specs.Page.{Literal, positive, negative, condition_of, Reading, K, W, Line, fact, rule, query, default, Page, defaults}
+use Rattle.semantics.specs.Page.{Literal, positive, negative, K, W, Line, fact, rule, query, default, Page, defaults}
 use Rattle.semantics.proofs.Proper.{LiteralsBelow, InRange, AllInRange, Proper}
 use Rattle.semantics.proofs.RoundTrip.{kind_of_lem, line_span, default_numbers, lines_begin, page_area, default_area}
 use Rattle.semantics.proofs.Soundness.{both_true, Every, every_true, every_of, Sound, parts_to, sound_proper, few_lines}

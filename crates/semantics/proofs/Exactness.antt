@@ -17,15 +17,15 @@ use Rattle.fixpoint.specs.WellFounded.{IsClosedReading, closed}
 use Rattle.fixpoint.proofs.PlainReading.{operator}
 use Rattle.fixpoint.proofs.Support.{safe_by, support_is, support_fixed}
 use Rattle.fixpoint.proofs.WellFounded.{closed_within, closed_closes, closed_reading, closed_fixed, closed_ordered, closed_unique}
-use Rattle.semantics.specs.Body.{T, unknown_by_default}
-use Rattle.semantics.specs.Page.{Page, names}
+use Rattle.semantics.specs.Body.{unknown_by_default}
+use Rattle.semantics.specs.Page.{Page}
 use Rattle.semantics.proofs.Proper.{Proper}
 use Rattle.semantics.specs.Reading.{IsClosed}
 use Rattle.semantics.proofs.Readings.{page_system, page_agrees}
 use Rattle.semantics.specs.Area.{page_of}
 use Rattle.semantics.specs.Call.{first_of}
 use Rattle.semantics.proofs.Soundness.{sound_proper}
-use Rattle.semantics.specs.Layers.{layered, layers_causes, LayersAs, LayersOf, negates, Loops, Crisp}
+use Rattle.semantics.specs.Layers.{layered, layers_causes, LayersAs, LayersOf, Loops, Crisp}
 use Rattle.semantics.proofs.Walks.{LayersOn}
 use Rattle.semantics.proofs.LayersCheck.{sound_by}
 use Rattle.semantics.proofs.Layers.{layers_on, free_passed, loop_no_layers}

@@ -6,7 +6,7 @@ use Prim.Native.Nat.{ℕ, ◌<◌}
 use native.Mathlib.Omega.{arith}
 use Rattle.fixpoint.specs.Interval.{Interval}
 use Rattle.fixpoint.specs.Support.{roof, raise}
-use Rattle.semantics.specs.Area.{kind, span, lines_ok, all_under, line_codes, area_of, sound_to, sound, defaults_ok, page_of, lines_of}
+use Rattle.semantics.specs.Area.{kind, span, lines_ok, all_under, line_codes, area_of, sound_to, defaults_ok, page_of, lines_of}
 use Rattle.semantics.specs.Body.{bodies, unknown_by_default, bodyless, largest_of, T}
 use Rattle.semantics.specs.Grade.{M, P, rounding, divided, combine, fold_from, fold_all, weighted, negated}
 use Rattle.semantics.specs.Page.{positive, negative, fact, rule, default, mentions, lines_name, Page, defaults}

@@ -3,10 +3,9 @@ use mathlib.Core.Path.{◌≡◌, refl, sym, ◌∙◌, ap}
 use mathlib.Core.Logic.{◌≢◌, ◌⊎◌, inl, inr, ⊎_elim}
 use mathlib.Core.Bool.{Bool, true, false, false≢true, true≢false}
 use mathlib.Core.List.{List, [], ◌∷◌}
-use Prim.Native.Nat.{ℕ, suc, ◌≤◌, max}
+use Prim.Native.Nat.{ℕ, suc, ◌≤◌}
 use native.Mathlib.Decide.{ℕ_discrete, dec_le}
 use native.Mathlib.Omega.{arith}
-use lib.Dec.{eqb}
 use borrow.Author.Tests.{eqb-true, eq-eqb, ne_eqb}
 use Rattle.fixpoint.specs.Interval.{Interval, Assign}
 use Rattle.semantics.specs.Body.{rule_value, line_body, bodies, bodyless, largest_of, T}
@@ -136,6 +135,7 @@ module _ (top : ℕ) (I : Assign) (c : ℕ) where
   body_low : (d : Interval) (j : ℕ) (ls : List Line) {k : ℕ} {l : Line} → Numbered j ls k l → BodyLine c l
       → (i : ℕ) × LineWith (largest_of d (bodies top I c ls)).low j ls i
   unfolding bodies largest_of
+  body_low d j [] n o = elim n [ ]
   body_low d j (l ∷ ls) here o =
       let a = own_adds o in
       rw a.1

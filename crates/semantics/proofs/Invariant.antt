@@ -1,34 +1,32 @@
 -- What every list of calls keeps of the book: the invariant of chaotic iteration, and that an unreached condition holds [0;top]. Assumes nothing.
 use mathlib.Core.Path.{◌≡◌, refl, sym, ◌∙◌, ap, subst}
-use mathlib.Core.Logic.{◌≢◌, ◌↔◌}
-use mathlib.Core.Bool.{Bool, true, false, not, cond, ◌&&◌, ◌||◌, true≢false, false≢true}
+use mathlib.Core.Bool.{Bool, true, false, not, cond, true≢false, false≢true}
 use mathlib.Core.List.{List, [], ◌∷◌}
 use mathlib.Core.Option.{Option, none, some}
-use Prim.Native.Nat.{ℕ, zero, suc, ◌+◌, ◌*◌, ◌≤◌, ◌<◌}
+use Prim.Native.Nat.{ℕ, zero, suc, ◌+◌, ◌<◌}
 use native.Mathlib.Decide.{ℕ_discrete, dec_le}
 use native.Mathlib.Nat.{zero-add}
 use native.Mathlib.Omega.{arith}
-use lib.Dec.{eqb, leb}
+use lib.Dec.{leb}
 use lib.ListN.{length, get_or, set, length-set, get_or-eq_default}
 use lib.Seq.{get_or-set_same, get_or-set_other}
-use borrow.Author.Tests.{eq-eqb, ne_eqb, leb-false, lt-leb, not-false}
-use Rattle.fixpoint.specs.ChaoticIteration.{put, woken, DependencyClosed, Step, Kept, budget}
-use Rattle.fixpoint.specs.Interval.{same, Interval, Assign}
-use Rattle.fixpoint.specs.KnowledgeOrder.{Under, bottom}
-use Rattle.fixpoint.specs.LeastFixpoint.{IsLeast}
+use borrow.Author.Tests.{eq-eqb, ne_eqb, leb-false, not-false}
+use Rattle.fixpoint.specs.ChaoticIteration.{put, woken, DependencyClosed, Kept}
+use Rattle.fixpoint.specs.Interval.{Assign}
+use Rattle.fixpoint.specs.KnowledgeOrder.{bottom}
 use Rattle.fixpoint.specs.System.{System}
 use Rattle.semantics.specs.Body.{T}
-use Rattle.semantics.specs.Call.{Call, evaluate, drive, value, line_held, Answer, refused, changed, unchanged, drove, valued, Outcome, Cause, cause, first_of, unless, value_causes, outcome, taken_by, taken}
+use Rattle.semantics.specs.Call.{Call, evaluate, drive, value, line_held, changed, unchanged, Outcome, Cause, cause, first_of, unless, value_causes, outcome, taken_by, taken}
 use Rattle.semantics.specs.Demand.{perform_from, perform_book}
 use Rattle.semantics.specs.Page.{Page, names}
 use Rattle.semantics.proofs.Proper.{Proper}
-use Rattle.semantics.specs.Reading.{IsPlain, Reached, closure, bound, reached}
-use Rattle.semantics.specs.Table.{listed, interval_of, member, table, all_unknown}
-use Rattle.semantics.specs.Worklist.{Worklist, start, changes, waiting_after, evaluated, holder, lowest_from, lowest, Status, rest, spent, status_as, status, Driven, drive_from, driven}
-use Rattle.fixpoint.proofs.ChaoticIteration.{kept_first, in_time, none_waits, done}
+use Rattle.semantics.specs.Reading.{IsPlain, closure}
+use Rattle.semantics.specs.Table.{interval_of, member, all_unknown}
+use Rattle.semantics.specs.Worklist.{Worklist, start, changes, waiting_after, evaluated, holder, lowest_from, lowest, rest, status_as, drive_from}
+use Rattle.fixpoint.proofs.ChaoticIteration.{kept_first}
 use Rattle.fixpoint.proofs.ChaoticStep.{kept}
-use Rattle.semantics.proofs.Closure.{reached_closed, reached_complete, bound_is, closure_length}
-use Rattle.semantics.proofs.Readings.{page_system, plain_is, plain_ordered, names_inside}
+use Rattle.semantics.proofs.Closure.{reached_closed, closure_length}
+use Rattle.semantics.proofs.Readings.{page_system, plain_ordered}
 use Rattle.semantics.proofs.Table.{length_from, get_d_table}
 
 -- the lowest waiting

@@ -4,24 +4,22 @@ use mathlib.Core.Logic.{◌≢◌}
 use mathlib.Core.Bool.{Bool, true, false, not, cond, or-true}
 use mathlib.Core.List.{List, [], ◌∷◌, ◌++◌}
 use mathlib.Core.Option.{Option, none, some}
-use Prim.Native.Nat.{ℕ, zero, suc, ◌+◌, ◌*◌, ◌≤◌, ◌<◌}
+use Prim.Native.Nat.{ℕ, zero, suc, ◌*◌, ◌≤◌, ◌<◌}
 use native.Mathlib.Omega.{arith}
 use lib.Dec.{leb}
 use lib.ListN.{length, drop}
 use borrow.Author.Tests.{not-false, eq-eqb}
 use Rattle.fixpoint.specs.Interval.{Interval, Assign}
 use Rattle.semantics.specs.Area.{sound, page_of, all_under}
-use Rattle.semantics.specs.Call.{Call, evaluate, drive, value, line_held, Answer, refused, changed, unchanged, drove, valued, held_by, Cause, cause, first_of, Outcome, unless, value_causes, outcome}
-use Rattle.semantics.specs.Operation.{Left, left_as, operation, ends, Closing, closed_after, ClosedAnswers, ClosedAs, ClosedOf, closed_causes, scratch_length, zeros}
+use Rattle.semantics.specs.Call.{Call, evaluate, drive, value, line_held, Answer, refused, changed, unchanged, valued, held_by, Cause, cause, first_of, Outcome, unless, value_causes, outcome}
+use Rattle.semantics.specs.Operation.{left_as, operation, ends, Closing, closed_after, ClosedAs, ClosedOf, closed_causes}
 use Rattle.semantics.specs.Page.{Page}
-use Rattle.semantics.proofs.Proper.{Proper}
-use Rattle.semantics.specs.Reading.{IsClosed}
 use Rattle.semantics.specs.RunArea.{run_sound, run_of, reached_of, worklist_of}
 use Rattle.semantics.specs.Table.{member, interval_of, listed}
-use Rattle.semantics.specs.Worklist.{Worklist, changes, evaluated, holder, lowest, Status, rest, status, status_as, Driven, one_more, drive_from, driven}
+use Rattle.semantics.specs.Worklist.{Worklist, changes, evaluated, holder, lowest, Status, rest, status, status_as, Driven, drive_from, driven}
 use Rattle.semantics.proofs.Areas.{reencoded}
 use Rattle.semantics.proofs.Demand.{under_listed}
-use Rattle.semantics.proofs.Invariant.{NoCause, no_cause_holds}
+use Rattle.semantics.proofs.Invariant.{no_cause_holds}
 use Rattle.semantics.proofs.RoundCounts.{rounds_one}
 use Rattle.semantics.proofs.Readings.{closed_one}
 use Rattle.semantics.proofs.Soundness.{sound_proper}

@@ -13,15 +13,14 @@ use Rattle.fixpoint.specs.KnowledgeOrder.{bottom}
 use Rattle.fixpoint.specs.LeastFixpoint.{iter, lfp}
 use Rattle.semantics.specs.Area.{kind, span, lines_of, page_of, every, all_under, lines_ok, sound_to, sound, defaults_ok}
 use Rattle.semantics.specs.Call.{first_of}
-use Rattle.semantics.specs.Layers.{denies, lines_negate, negates, name, negate, empty, Loops, LowestLoop, LayersAnswer, refused_layers, loops_at, layered, layers_causes, LayersWritten, LayersOf}
+use Rattle.semantics.specs.Layers.{denies, lines_negate, negates, name, negate, empty, Loops, refused_layers, loops_at, layered, layers_causes, LayersWritten, LayersOf}
 use Rattle.semantics.specs.Page.{mentions, lines_name, Page, names, defaults}
 use Rattle.semantics.specs.Table.{table_from, all_below}
-use Rattle.semantics.proofs.Proper.{Proper}
 use Rattle.semantics.proofs.Same.{same_list, same_numbers, same_numbers_lem, same_cause, same_cause_lem}
 use Rattle.semantics.proofs.Soundness.{sound_proper, both_true, Every, every_true}
 use Rattle.semantics.proofs.Walks.{largest, spread, far}
 use Rattle.semantics.proofs.Layers.{far_lowest}
-use Rattle.semantics.proofs.RaisedTables.{raise_pass, raised, raised_least, raised_written}
+use Rattle.semantics.proofs.RaisedTables.{raise_pass, raised, raised_written}
 use Rattle.semantics.proofs.LayersRows.{LayersRow, checks, LayersHold, area_back, area_self, area_two, area_three, area_plain, layers_rows}
 
 -- whether a chain through a negation leads from c back to c

@@ -10,7 +10,7 @@ use native.Mathlib.Omega.{arith}
 use lib.Dec.{leb}
 use lib.ListN.{drop}
 use borrow.Author.Tests.{leb-false, not-false}
-use Rattle.fixpoint.specs.Interval.{Interval, Assign}
+use Rattle.fixpoint.specs.Interval.{Assign}
 use Rattle.fixpoint.specs.KnowledgeOrder.{Under}
 use Rattle.semantics.specs.Area.{sound, page_of}
 use Rattle.semantics.specs.Call.{Call, evaluate, drive, value, line_held, Outcome, Cause, cause, first_of, unless, value_causes, outcome, taken_by, taken}
@@ -21,7 +21,7 @@ use Rattle.semantics.proofs.Proper.{Proper}
 use Rattle.semantics.specs.Reading.{closure}
 use Rattle.semantics.specs.RunArea.{run_of, interval_at}
 use Rattle.semantics.specs.Table.{interval_of, member}
-use Rattle.semantics.specs.Worklist.{Worklist, start, evaluated, lowest, Driven, drive_from}
+use Rattle.semantics.specs.Worklist.{Worklist, start, evaluated, lowest, drive_from}
 use Rattle.fixpoint.proofs.KnowledgeOrder.{under_refl, under_trans}
 use Rattle.semantics.proofs.Areas.{State, state_encodable, state_back, held_at}
 use Rattle.semantics.proofs.Demand.{demand3, opened_none}

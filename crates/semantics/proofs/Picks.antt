@@ -1,38 +1,37 @@
 -- The check of picks and figures has one outcome. It accepts exactly what a simulator makes that goes to rest and sends the plain answers, and
 -- what such a simulator then holds is always accepted. Assumes nothing.
 use mathlib.Core.Path.{◌≡◌, refl, sym, ◌∙◌, ap, subst}
-use mathlib.Core.Logic.{◌≢◌, ◌↔◌, ◌⊎◌, inl, inr}
-use mathlib.Core.Bool.{Bool, true, false, not, cond, ◌&&◌, true≢false}
+use mathlib.Core.Logic.{◌↔◌, inl, inr}
+use mathlib.Core.Bool.{Bool, true, false, not, cond, true≢false}
 use mathlib.Core.List.{List, [], ◌∷◌, ◌++◌, map, map-append}
 use mathlib.Core.Option.{Option, none, some}
 use Prim.Native.Nat.{ℕ, zero, suc, ◌+◌, ◌*◌, ◌≤◌, ◌<◌}
 use native.Mathlib.Decide.{dec_le}
-use native.Mathlib.Numerals.{add-one}
 use native.Mathlib.Omega.{arith}
-use lib.Dec.{eqb, leb, ltb}
+use lib.Dec.{eqb, ltb}
 use lib.ListN.{length, get_or, take, drop, replicate, length-replicate}
-use lib.Seq.{take-suc, take-length}
-use borrow.Author.Tests.{eq-eqb, ne_eqb, eqb-true, lt-ltb, ltb-true, lt-leb, le-leb, leb-true, not-true, not-false}
-use Rattle.fixpoint.specs.Interval.{Interval, Assign}
+use lib.Seq.{take-suc}
+use borrow.Author.Tests.{eq-eqb, ne_eqb, eqb-true, lt-ltb, ltb-true, lt-leb, le-leb, not-true, not-false}
+use Rattle.fixpoint.specs.Interval.{Assign}
 use Rattle.fixpoint.specs.LeastFixpoint.{lfp}
 use Rattle.semantics.specs.Area.{all_under, sound, page_of}
 use Rattle.semantics.specs.Body.{T}
-use Rattle.semantics.specs.Call.{Call, evaluate, Answer, changed, unchanged, first_of, outcome, taken_by, taken}
+use Rattle.semantics.specs.Call.{Call, evaluate, changed, unchanged, first_of, outcome, taken_by, taken}
 use Rattle.semantics.specs.Demand.{perform, perform_from, perform_book, RunKeeps}
-use Rattle.semantics.specs.Operation.{query_causes, open_causes, open_of, open_as, opened_with, ends}
+use Rattle.semantics.specs.Operation.{query_causes, open_causes, open_of, opened_with, ends}
 use Rattle.semantics.specs.Page.{Page}
 use Rattle.semantics.specs.Picks.{book_after, pick_waits, AllWait, FirstNotWaiting, PlainFigures, PicksAnswer, refused_queries, not_waiting, not_at_rest, wrong_figures, accepted_picks, PicksAs, PicksOf, area_after, GoesToRest}
-use Rattle.semantics.specs.Reading.{IsPlain, Reached, queried, closure, pass_count, bound, count_r, count_e}
-use Rattle.semantics.specs.RunArea.{run_of, worklist_of, interval_at, mark_at}
-use Rattle.semantics.specs.Table.{listed, interval_of, member}
+use Rattle.semantics.specs.Reading.{IsPlain, queried, closure, pass_count, bound, count_r, count_e}
+use Rattle.semantics.specs.RunArea.{worklist_of, interval_at, mark_at}
+use Rattle.semantics.specs.Table.{interval_of, member}
 use Rattle.semantics.specs.Worklist.{Worklist, start, changes, evaluated, holder, lowest as lowestOf, Status, rest, spent, status_as, status}
-use Rattle.semantics.proofs.Areas.{Encodable, State, state_encodable, state_back, waits_at, held_at}
+use Rattle.semantics.proofs.Areas.{state_encodable, state_back, waits_at, held_at}
 use Rattle.semantics.proofs.Demand.{demand3, opened_none, under_listed}
 use Rattle.semantics.proofs.Invariant.{lowest_some, lowest_none, NoCause, no_cause_holds, takes_one, after}
 use Rattle.semantics.proofs.Keeps.{ends_listed}
 use Rattle.semantics.proofs.Narrowing.{performed_on}
 use Rattle.semantics.proofs.Proper.{Proper}
-use Rattle.semantics.proofs.Readings.{plain_is, plain_one}
+use Rattle.semantics.proofs.Readings.{plain_is}
 use Rattle.semantics.proofs.Same.{same_numbers, same_numbers_lem, differ_numbers}
 use Rattle.semantics.proofs.Soundness.{sound_proper, both_true}
 use Rattle.semantics.proofs.Walks.{lowest}

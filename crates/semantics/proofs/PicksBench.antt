@@ -1,22 +1,21 @@
 -- The worked rows of the check of picks hold: one test over the list, computed. Assumes nothing.
-use mathlib.Core.Path.{◌≡◌, refl, sym, ◌∙◌, ap, subst}
-use mathlib.Core.Bool.{Bool, true, false, not, ◌&&◌}
+use mathlib.Core.Path.{◌≡◌, refl}
+use mathlib.Core.Bool.{Bool, true, not, ◌&&◌}
 use mathlib.Core.List.{List, [], ◌∷◌}
-use mathlib.Core.Option.{Option, none, some}
-use Prim.Native.Nat.{ℕ, ◌+◌, ◌-◌, ◌<◌}
-use native.Mathlib.Omega.{arith}
+use mathlib.Core.Option.{none, some}
+use Prim.Native.Nat.{ℕ, ◌+◌, ◌-◌}
 use lib.Dec.{ltb, eqb}
 use lib.ListN.{length}
 use borrow.Author.Tests.{eqb-true, ltb-true, not-true}
 use Rattle.fixpoint.specs.Interval.{same}
-use Rattle.semantics.specs.Area.{kind, span, lines_of, page_of, every, all_under, lines_ok, sound_to, sound, defaults_ok}
+use Rattle.semantics.specs.Area.{kind, span, lines_of, page_of, every, all_under, lines_ok, sound_to, defaults_ok}
 use Rattle.semantics.specs.Body.{bodies, unknown_by_default, bodyless, largest_of, T}
 use Rattle.semantics.specs.Call.{first_of, outcome}
 use Rattle.semantics.specs.Demand.{perform_from}
 use Rattle.semantics.specs.Grade.{rounding, divided, combine, fold_from, fold_all, weighted, negated}
 use Rattle.semantics.specs.Operation.{query_causes, ends}
 use Rattle.semantics.specs.Page.{mentions, lines_name, Page, defaults}
-use Rattle.semantics.specs.Picks.{book_after, pick_waits, AllWait, PicksAnswer, refused_queries, not_waiting, not_at_rest, wrong_figures, accepted_picks, PicksAs, PicksOf}
+use Rattle.semantics.specs.Picks.{book_after, pick_waits, PicksAnswer, refused_queries, not_waiting, not_at_rest, wrong_figures, accepted_picks, PicksOf}
 use Rattle.semantics.specs.Reading.{pass, passes, closure}
 use Rattle.semantics.specs.Table.{table_from, all_unknown, any_below, all_below, listed, interval_of}
 use Rattle.semantics.specs.Worklist.{start, changes, waiting_after, evaluated, lowest_from, rest, spent, status}

@@ -11,10 +11,10 @@ use Rattle.fixpoint.specs.ChaoticIteration.{DependencyClosed}
 use Rattle.fixpoint.specs.Interval.{Assign}
 use Rattle.fixpoint.specs.System.{System}
 use Rattle.semantics.specs.Body.{T}
-use Rattle.semantics.specs.Call.{Call, drive, outcome, taken}
-use Rattle.semantics.specs.Demand.{perform_from, perform_book}
+use Rattle.semantics.specs.Call.{drive, outcome, taken}
+use Rattle.semantics.specs.Demand.{perform_from}
 use Rattle.semantics.specs.Page.{Page, names}
-use Rattle.semantics.specs.Reading.{IsPlain, Reached, queried, closure, bound}
+use Rattle.semantics.specs.Reading.{IsPlain, queried, closure, bound}
 use Rattle.semantics.specs.RunArea.{run_of, interval_at, worklist_of, reached_of, run_sound}
 use Rattle.semantics.specs.Table.{listed, member, interval_of}
 use Rattle.semantics.specs.Worklist.{Worklist, start, evaluated, lowest, rest, status_as, status, Driven, drive_from, driven}

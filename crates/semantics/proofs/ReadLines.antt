@@ -9,7 +9,7 @@ use lib.ListN.{length, get_or, drop}
 use Rattle.semantics.specs.Call.{first_of}
 use Rattle.semantics.specs.Page.{Line}
 use Rattle.semantics.specs.Text.{text_lines, fields_of, is_head, has_form, line_in, top_in, conditions_in}
-use Rattle.semantics.specs.ReadPage.{Fault, Refusal, placed, told_at, or_else, text_causes, head_ranges, line_ranges, leftmost, head_causes, head_fault, repeat_causes, line_causes, line_fault, bad_line, bad_line_of, text_refusal, used_by, area_causes, refusal_of}
+use Rattle.semantics.specs.ReadPage.{Fault, placed, told_at, or_else, text_causes, head_ranges, line_ranges, leftmost, head_causes, head_fault, repeat_causes, line_causes, line_fault, bad_line, bad_line_of, text_refusal, used_by, area_causes, refusal_of}
 use Rattle.semantics.proofs.FieldRanges.{some_none, else_none, no_cause_placed, NoFault, no_fault}
 use Rattle.semantics.proofs.Invariant.{NoCause}
 

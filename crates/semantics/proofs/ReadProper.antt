@@ -14,7 +14,7 @@ use Rattle.semantics.specs.Area.{sound, area_of}
 use Rattle.semantics.specs.Call.{Cause, cause, first_of}
 use Rattle.semantics.specs.Page.{Literal, Line, fact, rule, query, default, defaults}
 use Rattle.semantics.proofs.Proper.{AllInRange, Proper}
-use Rattle.semantics.specs.ReadPage.{Refusal, Fault, placed, told_at, or_else, text_causes, head_ranges, literal_ranges, line_ranges, leftmost, head_causes, head_fault, repeat_causes, line_fault, bad_line, bad_line_of, text_refusal, page_read, used_by, area_causes, refusal_of, ReadAnswer, refused_page, read_page, ReadOutcome, read_as, read_of}
+use Rattle.semantics.specs.ReadPage.{Refusal, Fault, placed, told_at, or_else, text_causes, head_ranges, literal_ranges, line_ranges, leftmost, head_causes, head_fault, repeat_causes, line_fault, bad_line, bad_line_of, text_refusal, page_read, used_by, area_causes, refusal_of, refused_page, read_page, read_as, read_of}
 use Rattle.semantics.specs.Text.{text_lines, fields_of, has_form, line_in, lines_in, top_in, conditions_in, page_in}
 use Rattle.semantics.proofs.ExactAreas.{proper_sound}
 use Rattle.semantics.proofs.FieldRanges.{else_none, inside, Sized}

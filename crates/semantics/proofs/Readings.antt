@@ -1,11 +1,11 @@
 -- A proper page is a monotone system; both readings and the support exist and are unique, and no answer is crossed. Assumes nothing.
 use mathlib.Core.Path.{◌≡◌, ◌∙◌}
-use mathlib.Core.Bool.{Bool, true, ◌&&◌, false≢true}
+use mathlib.Core.Bool.{true, ◌&&◌, false≢true}
 use mathlib.Core.Logic.{inl, inr}
 use mathlib.Core.List.{List, [], ◌∷◌}
 use lib.Dec.{eqb}
 use borrow.Author.Tests.{eqb-true}
-use Prim.Native.Nat.{ℕ, ◌≤◌, ◌<◌}
+use Prim.Native.Nat.{ℕ, ◌<◌}
 use native.Mathlib.Omega.{arith}
 use Rattle.fixpoint.specs.Interval.{Within, Ordered, Assign}
 use Rattle.fixpoint.specs.KnowledgeOrder.{Under}
@@ -21,7 +21,7 @@ use Rattle.fixpoint.proofs.LeastOnReached.{reading_inside}
 use Rattle.fixpoint.proofs.Support.{support_is, support_unique}
 use Rattle.fixpoint.proofs.PlainReading.{operator, plain_least, least_ordered, agrees_consistent}
 use Rattle.fixpoint.proofs.WellFounded.{closed_reading, closed_unique, closed_fixed, reading_ordered}
-use Rattle.semantics.proofs.Relation.{T_kept, same_respected, under_respected, within_respected, Compatible, compatible_respected}
+use Rattle.semantics.proofs.Relation.{T_kept, same_respected, under_respected, within_respected, compatible_respected}
 use Rattle.semantics.proofs.Soundness.{both_true}
 use Rattle.semantics.proofs.Table.{or_cases}
 

@@ -1,5 +1,5 @@
 -- A relation between intervals that the ops keep is kept by T: one induction over a page. Assumes nothing.
-use mathlib.Core.Path.{◌≡◌, refl, sym, ap, ap₂}
+use mathlib.Core.Path.{◌≡◌, refl, ap, ap₂}
 use mathlib.Core.Bool.{Bool, true, false, cond, ◌&&◌, ◌||◌, or-true}
 use mathlib.Core.List.{List, [], ◌∷◌, ◌++◌, map, Forall₂}
 use Prim.Native.Nat.{ℕ, ◌≤◌, ◌<◌, ◌*◌}
@@ -9,10 +9,10 @@ use lib.Dec.{eqb}
 use borrow.Author.Tests.{eq-eqb}
 use Rattle.fixpoint.specs.Interval.{Interval, Within, Assign}
 use Rattle.fixpoint.specs.KnowledgeOrder.{Under, unknown, certainly_false}
-use Rattle.semantics.specs.Body.{literal_value, rule_value, only_if, line_body, bodies, unknown_by_default, bodyless, largest_of, T}
-use Rattle.semantics.specs.Grade.{lower, upper, divided, Op, combine, endwise, fold_from, fold_all, weighted, negated, largest}
+use Rattle.semantics.specs.Body.{literal_value, rule_value, only_if, bodies, unknown_by_default, bodyless, largest_of, T}
+use Rattle.semantics.specs.Grade.{lower, upper, Op, combine, endwise, fold_from, fold_all, weighted, negated, largest}
 use Rattle.semantics.specs.Page.{Literal, positive, negative, condition_of, mentions, Line, fact, rule, query, default, lines_name, Page, names}
-use Rattle.semantics.proofs.Proper.{LiteralsBelow, InRange, AllInRange, Proper}
+use Rattle.semantics.proofs.Proper.{LiteralsBelow, AllInRange, Proper}
 use Rattle.semantics.proofs.Ops.{divided_mono, divided_ends, divided_bounded, combine_mono, combine_ends, combine_bounded}
 
 pub record Respected (top : ℕ) (R : Interval → Interval → Type 0) : Type 0 where

@@ -1,22 +1,19 @@
 -- The counts of rounds hold: one test over the list, computed. Assumes nothing.
 use mathlib.Core.Path.{◌≡◌, refl, sym, ◌∙◌, ap}
-use mathlib.Core.Bool.{Bool, true, false, not, ◌&&◌, ◌||◌, true≢false, or-true}
+use mathlib.Core.Bool.{Bool, true, false, not, ◌&&◌, ◌||◌, true≢false}
 use mathlib.Core.List.{List, [], ◌∷◌}
-use mathlib.Core.Option.{none}
-use Prim.Native.Nat.{ℕ, zero, suc, ◌<◌}
+use Prim.Native.Nat.{ℕ, suc, ◌<◌}
 use borrow.Author.Tests.{eq-eqb, not-true}
-use lib.Dec.{eqb}
 use Rattle.fixpoint.specs.Interval.{same, Interval, Assign}
 use Rattle.fixpoint.specs.KnowledgeOrder.{Alike}
 use Rattle.fixpoint.specs.LeastFixpoint.{iter}
 use Rattle.fixpoint.specs.Support.{roof, raise, close}
-use Rattle.fixpoint.specs.Reachable.{IsCount}
 use Rattle.semantics.specs.Area.{area_of, page_of, sound_to, sound, kind, span, lines_of, all_under, lines_ok, line_codes, every, defaults_ok}
 use Rattle.semantics.specs.Body.{bodies, unknown_by_default, bodyless, largest_of, T}
 use Rattle.semantics.specs.Grade.{rounding, divided, combine, fold_from, fold_all, weighted, negated}
 use Rattle.semantics.specs.Page.{mentions, lines_name, Page, defaults}
 use Rattle.semantics.proofs.Proper.{Proper}
-use Rattle.semantics.specs.Reading.{pass, passes, closure, reached}
+use Rattle.semantics.specs.Reading.{pass, passes, closure}
 use Rattle.semantics.proofs.Rows.{page1, page3, page4, page5, page6}
 use Rattle.semantics.specs.Table.{interval_of, member, table_from, any_below, all_below, listed, all_unknown}
 use Rattle.semantics.proofs.RoundRows.{CountRow, counts, Counts, AllCount, chain, open0, loops, count_rows}
@@ -26,7 +23,7 @@ use Rattle.semantics.proofs.Bench.{proper}
 use Rattle.semantics.proofs.Closure.{reached_closed}
 use Rattle.semantics.proofs.Computed.{rounds_iter}
 use Rattle.semantics.proofs.Readings.{page_system}
-use Rattle.semantics.proofs.Soundness.{both_true, Every, every_true, sound_proper}
+use Rattle.semantics.proofs.Soundness.{both_true, Every, every_true}
 use Rattle.semantics.proofs.Sweeps.{sweep, sweeps, support_list, close_list, rounds}
 use Rattle.semantics.proofs.RoundsReached.{count_counted}
 use Rattle.semantics.proofs.Table.{all_true, all_at}

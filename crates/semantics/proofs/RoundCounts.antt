@@ -6,7 +6,7 @@ use Prim.Native.Nat.{ℕ, ◌*◌, ◌≤◌}
 use Rattle.fixpoint.specs.Interval.{Assign}
 use Rattle.fixpoint.specs.KnowledgeOrder.{Alike}
 use Rattle.fixpoint.specs.ChaoticIteration.{DependencyClosed}
-use Rattle.semantics.specs.Body.{T, unknown_by_default}
+use Rattle.semantics.specs.Body.{unknown_by_default}
 use Rattle.semantics.specs.Page.{Page, names}
 use Rattle.semantics.specs.Reading.{IsClosed, closure, reached, count_r}
 use Rattle.semantics.specs.Rounds.{IsRounds}

@@ -1,20 +1,18 @@
 -- The area of a page, with anything behind it, holds that page. Assumes nothing.
-use mathlib.Core.Path.{◌≡◌, refl, sym, ◌∙◌, ap, ap₂}
-use mathlib.Core.Bool.{Bool, true, false, cond}
+use mathlib.Core.Path.{◌≡◌, refl, ◌∙◌, ap, ap₂}
 use mathlib.Core.List.{List, [], ◌∷◌, ◌++◌, map, append_assoc}
-use Prim.Native.Nat.{ℕ, zero, suc, ◌+◌, ◌*◌, ◌/◌, ◌%◌, ◌≤◌, ◌<◌}
+use Prim.Native.Nat.{ℕ, suc, ◌+◌, ◌*◌, ◌%◌, ◌<◌}
 use native.Mathlib.Omega.{arith}
-use lib.Dec.{eqb}
-use lib.ListN.{length, get_or, take, drop, length-map, length-append, get_or-append}
+use lib.ListN.{length, drop, length-map, get_or-append}
 use lib.Seq.{take_at, drop_at}
 use borrow.Author.Tests.{eq-eqb, ne_eqb}
-use Rattle.semantics.specs.Area.{Kind, fact_kind, rule_kind, query_kind, no_kind, kind, span_as, span, literal_of, literals_at, line_as, line_at, lines_of, page_of, first_line, head_length, default_of, kind_of, code_of, line_code, line_codes, area_of}
+use Rattle.semantics.specs.Area.{rule_kind, kind, span, literal_of, line_at, lines_of, page_of, head_length, default_of, kind_of, code_of, line_code, line_codes, area_of}
 use Rattle.fixpoint.specs.Sum.{bit}
 use Rattle.semantics.specs.Body.{unknown_by_default}
 use Rattle.semantics.specs.Table.{table}
 use Rattle.semantics.proofs.Table.{length_from, get_d_table}
 use Rattle.semantics.specs.Grade.{Op, M, X, L, B, P}
-use Rattle.semantics.specs.Page.{Literal, positive, negative, Reading, K, W, Line, fact, rule, query, default, Page}
+use Rattle.semantics.specs.Page.{Literal, positive, negative, K, W, Line, fact, rule, query, default, Page}
 
 pub kind_of_lem : (op : Op) → kind (kind_of op) ≡ rule_kind op
 unfolding kind

@@ -3,11 +3,11 @@ use mathlib.Core.Path.{◌≡◌}
 use mathlib.Core.List.{List, [], ◌∷◌}
 use mathlib.Core.Bool.{Bool, true, false}
 use Prim.Native.Nat.{ℕ, ◌<◌}
-use Rattle.fixpoint.specs.Interval.{Interval, Assign}
-use Rattle.semantics.specs.Grade.{Op, M, X, L, B, P}
-use Rattle.semantics.specs.Page.{Literal, positive, negative, Reading, K, W, Line, fact, rule, query, Page}
+use Rattle.fixpoint.specs.Interval.{Interval}
+use Rattle.semantics.specs.Grade.{M, X, L, B, P}
+use Rattle.semantics.specs.Page.{positive, negative, K, W, fact, rule, query, Page}
 use Rattle.semantics.specs.Reading.{IsPlain, IsClosed, Reads, closure, count_r, count_e, bound}
-use Rattle.semantics.specs.Worklist.{Worklist, Status, rest, spent, status, start, driven}
+use Rattle.semantics.specs.Worklist.{Status, rest, spent, status, start, driven}
 
 abbrev pub interval : ℕ → ℕ → Interval
 interval l h = record { low = l; high = h }

@@ -8,11 +8,9 @@ use Prim.Native.Nat.{ℕ}
 use lib.Dec.{eqb}
 use lib.ListN.{get_or}
 use borrow.Author.Tests.{eq-eqb, eqb-true, not-true}
-use Rattle.fixpoint.specs.Interval.{same, Interval}
 use Rattle.semantics.specs.Call.{Answer, refused, unchanged, changed, drove, valued, held_by}
 use Rattle.semantics.specs.Operation.{Opening, refused_opening, opened_with}
 use Rattle.semantics.specs.Worklist.{Status, rest, spent}
-use Rattle.fixpoint.proofs.Evaluation.{same_true}
 use Rattle.semantics.proofs.Soundness.{both_true}
 
 -- lists, by a test of their elements

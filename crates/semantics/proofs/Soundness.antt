@@ -1,15 +1,15 @@
 -- A sound page area holds a proper page. Assumes nothing.
-use mathlib.Core.Path.{◌≡◌, refl, sym, ap, subst}
+use mathlib.Core.Path.{◌≡◌, refl, ap}
 use mathlib.Core.Bool.{Bool, true, false, cond, ◌&&◌, false≢true}
 use mathlib.Core.List.{List, [], ◌∷◌, map}
-use Prim.Native.Nat.{ℕ, zero, suc, ◌+◌, ◌*◌, ◌-◌, ◌/◌, ◌%◌, ◌≤◌, ◌<◌, min}
+use Prim.Native.Nat.{ℕ, zero, suc, ◌+◌, ◌*◌, ◌-◌, ◌/◌, ◌%◌, ◌≤◌, ◌<◌}
 use native.Mathlib.Decide.{dec_lt}
 use native.Mathlib.Omega.{arith}
 use lib.Dec.{eqb, leb, ltb}
-use lib.ListN.{length, get_or, take, drop, length-take, length-drop, length-map}
+use lib.ListN.{length, get_or, drop, length-take, length-drop, length-map}
 use borrow.Author.Tests.{leb-true, ltb-true, eqb-true, ne_eqb, le-leb}
 use Rattle.semantics.specs.Area.{Kind, fact_kind, rule_kind, query_kind, default_kind, no_kind, kind, span_as, span, literal_of, literals_at, line_as, lines_of, page_of, every, all_under, field_tests, line_tests, head_tests, lines_ok, default_tests, defaults_ok, sound_to, sound, first_line, default_of, top_of, conditions_of, count_of, used_of}
-use Rattle.semantics.specs.Page.{Literal, positive, negative, condition_of, Line, fact, rule, query, default, Page, defaults}
+use Rattle.semantics.specs.Page.{positive, negative, condition_of, Line, fact, rule, query, default, defaults}
 use Rattle.semantics.proofs.Proper.{LiteralsBelow, InRange, AllInRange, Proper}
 use Rattle.semantics.proofs.Table.{all_at}
 

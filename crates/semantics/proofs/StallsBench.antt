@@ -2,7 +2,7 @@
 use mathlib.Core.Path.{refl}
 use Rattle.fixpoint.specs.Interval.{same}
 use Rattle.fixpoint.specs.Sum.{sum}
-use Rattle.semantics.specs.Area.{kind, span, lines_of, page_of, all_under, lines_ok, sound_to, sound, defaults_ok}
+use Rattle.semantics.specs.Area.{kind, span, lines_of, page_of, all_under, lines_ok, sound_to, defaults_ok}
 use Rattle.semantics.proofs.AreaRows.{area1, area_no_kind, spoilt1, nines}
 use Rattle.semantics.specs.Body.{bodies, unknown_by_default, bodyless, largest_of, T}
 use Rattle.semantics.specs.Call.{outcome}

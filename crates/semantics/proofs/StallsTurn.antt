@@ -9,7 +9,7 @@ use lib.Dec.{leb}
 use lib.ListN.{length, drop, length-append, length-drop}
 use borrow.Author.Tests.{le-leb, leb-true, not-false}
 use Rattle.semantics.specs.Area.{sound, page_of}
-use Rattle.semantics.specs.Call.{drive, drove, cause, first_of}
+use Rattle.semantics.specs.Call.{drive, cause, first_of}
 use Rattle.semantics.specs.Operation.{Left, operation}
 use Rattle.semantics.specs.Page.{Page}
 use Rattle.semantics.specs.RunArea.{run_sound, reached_of, worklist_of}

@@ -2,15 +2,13 @@
 use mathlib.Core.Path.{◌≡◌, refl, ap}
 use mathlib.Core.Bool.{Bool, true, false, ◌&&◌, false≢true}
 use mathlib.Core.List.{List, [], ◌∷◌}
-use Prim.Native.Nat.{ℕ}
 use lib.Dec.{eqb}
 use borrow.Author.Tests.{eqb-true}
-use lib.ListN.{replicate}
 use Rattle.semantics.specs.Page.{defaults}
 use Rattle.semantics.specs.Body.{unknown_by_default}
 use Rattle.semantics.specs.Table.{table_from}
 use Rattle.semantics.specs.Area.{every, area_of, line_codes}
-use Rattle.semantics.specs.ReadPage.{ReadAnswer, refused_page, read_page, ReadOutcome, leftmost, head_fault, line_fault, bad_line, bad_line_of, text_refusal, refusal_of, read_of, line_of, start_from, start_of}
+use Rattle.semantics.specs.ReadPage.{ReadAnswer, refused_page, read_page, leftmost, head_fault, line_fault, bad_line, bad_line_of, text_refusal, refusal_of, read_of, line_of, start_from, start_of}
 use Rattle.semantics.specs.Text.{text_lines, fields_of, is_number, number_in, is_literal, literal_in, all_literals, is_op, op_in, is_reading, reading_in, is_head, is_fact, is_rule, is_query, is_default, has_form, line_in, lines_in, page_in}
 use Rattle.semantics.proofs.Same.{same_list, same_numbers, same_numbers_lem}
 use Rattle.semantics.proofs.Soundness.{both_true, Every, every_true}

@@ -1,17 +1,16 @@
 -- The forms of the lines: a line that is written has its form and says what was written, and a line of a form is the text of what it says.
 -- Assumes nothing.
 use mathlib.Core.Path.{◌≡◌, refl, sym, ◌∙◌, ap, ap₂}
-use mathlib.Core.Bool.{Bool, true, false, cond, ◌&&◌, ◌||◌, false≢true}
+use mathlib.Core.Bool.{Bool, true, false, cond, ◌||◌, false≢true}
 use mathlib.Core.List.{List, [], ◌∷◌, map}
 use Prim.Native.Nat.{ℕ, suc, ◌≤◌, ◌<◌}
 use native.Mathlib.Omega.{arith}
-use lib.Dec.{eqb, leb}
+use lib.Dec.{eqb}
 use lib.ListN.{length, get_or, drop, length-map}
 use borrow.Author.Tests.{eqb-true, leb-true, le-leb}
 use Rattle.semantics.specs.Grade.{Op, M, X, L, B, P}
 use Rattle.semantics.specs.Page.{Literal, positive, negative, condition_of, Reading, K, W, Line, fact, rule, query, default}
 use Rattle.semantics.proofs.Proper.{LiteralsBelow, InRange}
-use Rattle.semantics.specs.Area.{every}
 use Rattle.semantics.specs.Text.{field, is_number, number_in, is_negated, is_literal, literal_in, all_literals, is_letter, is_op, op_in, is_reading, reading_in, head_form, is_head, fact_form, is_fact, rule_form, is_rule, query_form, is_query, default_form, is_default, has_form, line_in}
 use Rattle.semantics.specs.ReadPage.{literal_ranges, line_ranges}
 use Rattle.semantics.specs.Fields.{number_text, reading_letter}

@@ -7,7 +7,7 @@ use native.Mathlib.Omega.{arith}
 use lib.ListN.{length, get_or, drop}
 use borrow.Author.Rules.{rules}
 use borrow.Author.Tests.{leb-true, eqb-true}
-use Rattle.semantics.specs.Area.{Kind, fact_kind, rule_kind, query_kind, default_kind, no_kind, kind, span_as, span, literals_at, every, field_tests, line_tests, head_tests, lines_ok, sound_to, sound, first_line, top_of, conditions_of, count_of, used_of, line_codes, area_of}
+use Rattle.semantics.specs.Area.{Kind, fact_kind, rule_kind, query_kind, default_kind, no_kind, kind, span_as, span, literals_at, every, field_tests, line_tests, lines_ok, sound_to, sound, first_line, top_of, conditions_of, count_of, used_of, line_codes, area_of}
 use Rattle.semantics.specs.Grade.{M}
 use Rattle.semantics.specs.Page.{positive, Line, rule, Page, defaults}
 use Rattle.semantics.proofs.Proper.{AllInRange, Proper}
@@ -59,32 +59,32 @@ longest =
     let l = positive 0 in
     rule 0 1 M (l ∷ l ∷ l ∷ l ∷ l ∷ l ∷ l ∷ l ∷ [])
 
-rules : ℕ → List Line
-rules zero = []
-rules (suc k) = longest ∷ rules k
+longest_rules : ℕ → List Line
+longest_rules zero = []
+longest_rules (suc k) = longest ∷ longest_rules k
 
-length_rules : (k : ℕ) → length (rules k) ≡ k
-unfolding rules
+length_rules : (k : ℕ) → length (longest_rules k) ≡ k
+unfolding longest_rules
 length_rules zero = refl
 length_rules (suc k) = ap suc (length_rules k)
 
-length_codes : (k : ℕ) → length (line_codes (rules k)) ≡ 12 * k
-unfolding line_codes rules
+length_codes : (k : ℕ) → length (line_codes (longest_rules k)) ≡ 12 * k
+unfolding line_codes longest_rules
 length_codes zero = omega arith
 length_codes (suc k) = omega (arith, length_codes k)
 
-ranged_rules : (k : ℕ) → AllInRange 1 512 (rules k)
-unfolding rules
+ranged_rules : (k : ℕ) → AllInRange 1 512 (longest_rules k)
+unfolding longest_rules
 ranged_rules zero = tt
 ranged_rules (suc k) = (search rules, ranged_rules k)
 
-no_defaults : (k c : ℕ) → defaults (rules k) c ≡ 0
-unfolding rules defaults
+no_defaults : (k c : ℕ) → defaults (longest_rules k) c ≡ 0
+unfolding longest_rules defaults
 no_defaults zero c = refl
 no_defaults (suc k) c = no_defaults k c
 
 abbrev rules_page : ℕ → Page
-rules_page k = record { top = 1; conditions = 512; lines = rules k }
+rules_page k = record { top = 1; conditions = 512; lines = longest_rules k }
 
 proper_rules : (k : ℕ) → Proper (rules_page k)
 proper_rules k =

@@ -6,13 +6,13 @@ use mathlib.Core.Option.{none}
 use Prim.Native.Nat.{ℕ, suc, ◌+◌, ◌*◌, ◌-◌, ◌≤◌, ◌<◌}
 use native.Mathlib.Omega.{arith}
 use lib.ListN.{length, get_or, drop, length-append}
-use borrow.Author.Tests.{eq-eqb, ne_eqb, le-leb, le-ltb}
+use borrow.Author.Tests.{eq-eqb, ne_eqb, le-ltb}
 use Rattle.semantics.specs.Grade.{Op, M, X, L, B, P}
 use Rattle.semantics.specs.Page.{Literal, positive, negative, Reading, K, W, Line, fact, rule, query, default, Page, defaults}
 use Rattle.semantics.proofs.Proper.{LiteralsBelow, InRange, AllInRange, Proper}
 use Rattle.semantics.specs.Area.{used_of, area_of}
 use Rattle.semantics.specs.Text.{text_lines, fields_of, is_head, line_in, top_in, conditions_in, lines_in, page_in}
-use Rattle.semantics.specs.ReadPage.{head_ranges, line_ranges, leftmost, head_fault, line_fault, bad_line, bad_line_of, text_refusal, page_read, refusal_of, read_page, read_of}
+use Rattle.semantics.specs.ReadPage.{head_ranges, leftmost, head_fault, line_fault, bad_line, bad_line_of, text_refusal, page_read, refusal_of, read_page, read_of}
 use Rattle.semantics.proofs.Rows.{page1}
 use Rattle.semantics.specs.Fields.{number_within, number_text, reading_letter, after_commas, joined, ended_lines}
 use Rattle.semantics.specs.Written.{literal_text, op_letter, line_fields, head_fields, line_texts, text_of}

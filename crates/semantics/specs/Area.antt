@@ -2,7 +2,7 @@
 -- Every definition is total: an area may be of any length and content, and what lies past its end reads as 0.
 use Rattle.std.specs.Prelude.{Bool, true, false, cond, ◌&&◌, List, [], ◌∷◌, ◌++◌, map, ℕ, zero, suc, ◌+◌, ◌*◌, ◌-◌, ◌/◌, ◌%◌, eqb, ltb, leb, length, get_or, take, drop}
 use Rattle.semantics.specs.Grade.{Op, M, X, L, B, P}
-use Rattle.semantics.specs.Page.{Literal, positive, negative, Reading, K, W, Line, fact, rule, query, default, Page, defaults}
+use Rattle.semantics.specs.Page.{Literal, positive, negative, K, W, Line, fact, rule, query, default, Page, defaults}
 use Rattle.semantics.specs.Body.{unknown_by_default}
 use Rattle.semantics.specs.Table.{table, all_below}
 use Rattle.fixpoint.specs.Sum.{bit}

@@ -4,7 +4,7 @@ use Rattle.std.proofs.Math.Option.{Option, none, some}
 use Rattle.fixpoint.specs.Interval.{Interval}
 use Rattle.semantics.specs.Page.{Page}
 use Rattle.semantics.specs.Table.{member, interval_of}
-use Rattle.semantics.specs.Worklist.{Worklist, changes, evaluated, holder, Status, status, Driven, driven}
+use Rattle.semantics.specs.Worklist.{Worklist, changes, evaluated, holder, Status, status, driven}
 
 pub data Call : Type 0 where
   evaluate : (condition : ℕ) → Call

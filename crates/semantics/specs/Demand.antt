@@ -1,14 +1,14 @@
 -- Demand 3: any accepted opening, then any list of evaluations, drives, value and line calls. One statement. Assumes nothing.
 use Rattle.std.specs.Prelude.{◌≡◌, ◌≢◌, ◌↔◌, Bool, true, false, List, [], ◌∷◌, ◌++◌, ℕ, ◌+◌, ◌*◌, ◌≤◌, ◌<◌, drop}
-use Rattle.fixpoint.specs.Interval.{Interval, Assign}
+use Rattle.fixpoint.specs.Interval.{Assign}
 use Rattle.semantics.specs.Page.{Page}
 use Rattle.semantics.specs.Table.{member, interval_of}
 use Rattle.semantics.specs.Reading.{IsPlain, Reached, closure, IsPassCount, count_r, count_e}
 use Rattle.semantics.specs.Area.{page_of}
-use Rattle.semantics.specs.Worklist.{Worklist, start, Status, rest, status}
+use Rattle.semantics.specs.Worklist.{Worklist, start, rest, status}
 use Rattle.semantics.specs.RunArea.{run_of}
-use Rattle.semantics.specs.Call.{Call, evaluate, Answer, refused, Outcome, outcome, taken}
-use Rattle.semantics.specs.Operation.{opened_with, Left, operation, open_of}
+use Rattle.semantics.specs.Call.{Call, evaluate, Answer, refused, outcome, taken}
+use Rattle.semantics.specs.Operation.{opened_with, operation, open_of}
 
 -- a list of calls on areas: the answers, and the run area after them
 pub record Performed : Type 0 where

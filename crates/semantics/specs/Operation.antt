@@ -1,13 +1,13 @@
 -- Document 01, "Operations and their refusals", on areas: what each call answers, and what it leaves in every lent slice.
 -- Assumes nothing.
-use Rattle.std.specs.Prelude.{Bool, true, false, not, cond, ◌&&◌, List, [], ◌∷◌, ◌++◌, ◌≡◌, ℕ, zero, suc, ◌+◌, ◌-◌, ◌*◌, leb, length, drop}
+use Rattle.std.specs.Prelude.{Bool, not, cond, ◌&&◌, List, [], ◌∷◌, ◌++◌, ◌≡◌, ℕ, zero, suc, ◌+◌, ◌-◌, ◌*◌, leb, length, drop}
 use Rattle.std.proofs.Math.Option.{Option, none, some}
-use Rattle.fixpoint.specs.Interval.{Interval, Assign}
+use Rattle.fixpoint.specs.Interval.{Assign}
 use Rattle.semantics.specs.Page.{Page}
 use Rattle.semantics.specs.Area.{sound, page_of, first_line, conditions_of, count_of, used_of, all_under}
 use Rattle.semantics.specs.Reading.{IsClosed, closure, pass_count, count_r, count_e, bound}
 use Rattle.semantics.specs.Rounds.{IsRounds}
-use Rattle.semantics.specs.Worklist.{Worklist, start}
+use Rattle.semantics.specs.Worklist.{start}
 use Rattle.semantics.specs.RunArea.{run_of, worklist_of, reached_of, run_sound}
 use Rattle.semantics.specs.Call.{Call, evaluate, drive, value, line_held, Answer, refused, Cause, cause, first_of, Outcome, outcome}
 

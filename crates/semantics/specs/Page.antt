@@ -1,5 +1,5 @@
 -- Document 01, "The page", without its text. Assumes nothing.
-use Rattle.std.specs.Prelude.{Bool, true, false, ◌&&◌, ◌||◌, List, [], ◌∷◌, ℕ, ◌+◌, eqb}
+use Rattle.std.specs.Prelude.{Bool, false, ◌&&◌, ◌||◌, List, [], ◌∷◌, ℕ, ◌+◌, eqb}
 use Rattle.fixpoint.specs.Sum.{bit}
 use Rattle.semantics.specs.Grade.{Op}
 

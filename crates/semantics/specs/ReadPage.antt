@@ -1,5 +1,5 @@
 -- Document 01, "Read a page" and "Show a line": what each answers, and what reading leaves in the page area. Assumes nothing.
-use Rattle.std.specs.Prelude.{Bool, true, false, not, cond, ◌||◌, List, [], ◌∷◌, ◌++◌, ℕ, zero, suc, ◌-◌, eqb, ltb, leb, length, get_or, drop}
+use Rattle.std.specs.Prelude.{Bool, not, cond, ◌||◌, List, [], ◌∷◌, ◌++◌, ℕ, zero, suc, ◌-◌, eqb, ltb, leb, length, get_or, drop}
 use Rattle.std.proofs.Math.Option.{Option, none, some}
 use Rattle.semantics.specs.Page.{Literal, condition_of, Line, fact, rule, query, default, Page, defaults}
 use Rattle.semantics.specs.Area.{used_of, area_of}
