@@ -1,12 +1,12 @@
 -- One binary digit of a number: of a power of two, of a number with a digit set or cleared, and at its lowest set digit. Assumes nothing.
-use mathlib.Core.Path.{◌≡◌, refl, sym, ◌∙◌, ap, ap₂}
-use mathlib.Core.Logic.{◌≢◌, ⊎_elim}
+use mathlib.Core.Path.{◌≡◌, refl, sym, ◌∙◌, ap}
+use mathlib.Core.Logic.{◌≢◌}
 use Prim.Native.Nat.{ℕ, zero, suc, ◌+◌, ◌-◌, ◌*◌, ◌/◌, ◌%◌, ◌^◌, ◌≤◌, ◌<◌}
-use native.Mathlib.Nat.{mod-lt, pow-suc, mod-eq_of_lt, div-eq_of_lt, div-lt_iff_lt-mul, mul-mod_left, zero-lt-suc, div-one, zero-div}
+use native.Mathlib.Nat.{mod-lt, pow-suc, mod-eq_of_lt, div-eq_of_lt, div-lt_iff_lt-mul, zero-lt-suc, div-one, zero-div}
 use native.Mathlib.Omega.{arith}
 use lib.Bits.{bit_and, bit_or, and_shr, or_shr, and_mod, or_mod, or_zero_r, and_zero_r, and_mask, and_le_l}
 use lib.Count.{count_leading_zeros, leading_top, count_trailing_zeros, under}
-use lib.Pow.{pow_pos, pow_mono, pow-add, shl-shr, shr-shr, pow-lt}
+use lib.Pow.{pow_pos, pow_mono, shl-shr, shr-shr, pow-lt}
 
 -- the digit j
 abbrev pub bit : ℕ → ℕ → ℕ
@@ -51,11 +51,11 @@ power_other (suc k) (suc j) h = bit_suc (1 * 2 ^ suc k) j ∙ ap (λ (x : ℕ). 
     half = omega (arith, pow-suc 2 k)
 
 -- a digit set
-pub bit_or : (a b j : ℕ) → bit (bit_or a b) j ≡ bit_or (bit a j) (bit b j)
-bit_or a b j = ap (λ (x : ℕ). x % 2) (or_shr a b j) ∙ or_mod (a / 2 ^ j) (b / 2 ^ j) 1
+pub bit_or_lem : (a b j : ℕ) → bit (bit_or a b) j ≡ bit_or (bit a j) (bit b j)
+bit_or_lem a b j = ap (λ (x : ℕ). x % 2) (or_shr a b j) ∙ or_mod (a / 2 ^ j) (b / 2 ^ j) 1
 
-pub bit_and : (a b j : ℕ) → bit (bit_and a b) j ≡ bit_and (bit a j) (bit b j)
-bit_and a b j = ap (λ (x : ℕ). x % 2) (and_shr a b j) ∙ and_mod (a / 2 ^ j) (b / 2 ^ j) 1
+pub bit_and_lem : (a b j : ℕ) → bit (bit_and a b) j ≡ bit_and (bit a j) (bit b j)
+bit_and_lem a b j = ap (λ (x : ℕ). x % 2) (and_shr a b j) ∙ and_mod (a / 2 ^ j) (b / 2 ^ j) 1
 
 or_one : (x : ℕ) → x < 2 → bit_or x 1 ≡ 1
 or_one zero h = refl
@@ -92,20 +92,20 @@ module _ (w k : ℕ) (l : k < 64) where
   one_is = mod-eq_of_lt small
 
   pub set_same : bit (bit_or w one) k ≡ 1
-  set_same = bit_or w one k ∙ ap (bit_or (bit w k)) (ap (λ (x : ℕ). bit x k) one_is ∙ power_same k) ∙ or_one (bit w k) (bit_lt w k)
+  set_same = bit_or_lem w one k ∙ ap (bit_or (bit w k)) (ap (λ (x : ℕ). bit x k) one_is ∙ power_same k) ∙ or_one (bit w k) (bit_lt w k)
 
   pub set_other : (j : ℕ) → j ≢ k → bit (bit_or w one) j ≡ bit w j
-  set_other j h = bit_or w one j ∙ ap (bit_or (bit w j)) (ap (λ (x : ℕ). bit x j) one_is ∙ power_other k j h) ∙ or_zero_r (bit w j)
+  set_other j h = bit_or_lem w one j ∙ ap (bit_or (bit w j)) (ap (λ (x : ℕ). bit x j) one_is ∙ power_other k j h) ∙ or_zero_r (bit w j)
 
   not_one : (j : ℕ) → j < 64 → bit ((2 ^ 64 - 1) - one) j ≡ 1 - bit (1 * 2 ^ k) j
   not_one j m = ap (λ (x : ℕ). bit ((2 ^ 64 - 1) - x) j) one_is ∙ bit_not 64 j (1 * 2 ^ k) m small
 
   pub clear_same : bit (bit_and w ((2 ^ 64 - 1) - one)) k ≡ 0
-  clear_same = bit_and w ((2 ^ 64 - 1) - one) k ∙ ap (bit_and (bit w k)) (not_one k l ∙ ap (λ (x : ℕ). 1 - x) (power_same k)) ∙ and_zero_r (bit w k)
+  clear_same = bit_and_lem w ((2 ^ 64 - 1) - one) k ∙ ap (bit_and (bit w k)) (not_one k l ∙ ap (λ (x : ℕ). 1 - x) (power_same k)) ∙ and_zero_r (bit w k)
 
   pub clear_other : (j : ℕ) → j < 64 → j ≢ k → bit (bit_and w ((2 ^ 64 - 1) - one)) j ≡ bit w j
   clear_other j m h =
-      bit_and w ((2 ^ 64 - 1) - one) j ∙ ap (bit_and (bit w j)) (not_one j m ∙ ap (λ (x : ℕ). 1 - x) (power_other k j h)) ∙ and_one (bit w j) (bit_lt w j)
+      bit_and_lem w ((2 ^ 64 - 1) - one) j ∙ ap (bit_and (bit w j)) (not_one j m ∙ ap (λ (x : ℕ). 1 - x) (power_other k j h)) ∙ and_one (bit w j) (bit_lt w j)
 
 -- the lowest set digit
 pub trailing_found : (k n : ℕ) → count_trailing_zeros k n < k → bit n (count_trailing_zeros k n) ≡ 1
@@ -168,7 +168,7 @@ module _ (n : ℕ) (fits : n < 2 ^ 64) (some : n ≢ 0) where
 
 -- a digit of a masked number is one of the number
 pub bit_masked : (a m j : ℕ) → bit (bit_and a m) j ≡ 1 → bit a j ≡ 1
-bit_masked a m j h = let e : bit_and (bit a j) (bit m j) ≡ 1 = sym (bit_and a m j) ∙ h in omega (arith, and_le_l (bit a j) (bit m j), bit_lt a j)
+bit_masked a m j h = let e : bit_and (bit a j) (bit m j) ≡ 1 = sym (bit_and_lem a m j) ∙ h in omega (arith, and_le_l (bit a j) (bit m j), bit_lt a j)
 
 pub masked_fits : (a m : ℕ) → a < 2 ^ 64 → bit_and a m < 2 ^ 64
 masked_fits a m h = omega (arith, and_le_l a m)

@@ -13,7 +13,7 @@ use lib.ListN.{length, get_or, set, length-set, replicate}
 use lib.Seq.{get_or-set_same, get_or-set_other}
 use borrow.Author.Tests.{eq-eqb, ne_eqb}
 use Rattle.bits.specs.Words.{has, Inserted, Removed, Absorbed, LowestIn, AnyIn}
-use Rattle.bits.proofs.Bits.{bit, bit_lt, bit_or, bit_and, bit_not, bit_zero, set_same, set_other, clear_same, clear_other, trailing_found, trailing_below, trailing_in, highest_lt, highest_found, bit_masked, masked_fits}
+use Rattle.bits.proofs.Bits.{bit, bit_lt, bit_or_lem, bit_and_lem, bit_not, bit_zero, set_same, set_other, clear_same, clear_other, trailing_found, trailing_below, trailing_in, highest_lt, highest_found, bit_masked, masked_fits}
 
 or_as_cond : (b t : Bool) → cond t true b ≡ (b || t)
 or_as_cond true true = refl
@@ -124,14 +124,14 @@ module _ (named reached waiting : List ℕ) where
   pub joined : (v : ℕ) {y : ℕ} → y ≡ get_or reached v 0 → Joined v (bit_or y (get_or named v 0))
   joined v {y} e j l =
       rw e
-      (ap (λ (d : ℕ). eqb d 1) (bit_or (get_or reached v 0) (get_or named v 0) j) ∙ or_digit _ _ (bit_lt (get_or reached v 0) j) (bit_lt (get_or named v 0) j))
+      (ap (λ (d : ℕ). eqb d 1) (bit_or_lem (get_or reached v 0) (get_or named v 0) j) ∙ or_digit _ _ (bit_lt (get_or reached v 0) j) (bit_lt (get_or named v 0) j))
 
   pub joined_new : (v : ℕ) {y z : ℕ} → y ≡ get_or reached v 0 → y < 2 ^ 64 → z ≡ get_or waiting v 0 → JoinedNew v (bit_or z (bit_and (get_or named v 0) ((2 ^ 64 - 1) - y)))
   joined_new v {y} {z} e fits f j l =
       let x = get_or named v 0 in
-      let new : bit (bit_and x ((2 ^ 64 - 1) - y)) j ≡ bit_and (bit x j) (1 - bit y j) = bit_and x ((2 ^ 64 - 1) - y) j ∙ ap (bit_and (bit x j)) (bit_not 64 j y l fits) in
+      let new : bit (bit_and x ((2 ^ 64 - 1) - y)) j ≡ bit_and (bit x j) (1 - bit y j) = bit_and_lem x ((2 ^ 64 - 1) - y) j ∙ ap (bit_and (bit x j)) (bit_not 64 j y l fits) in
       rw (sym e, sym f)
-      (ap (λ (d : ℕ). eqb d 1) (bit_or z (bit_and x ((2 ^ 64 - 1) - y)) j)
+      (ap (λ (d : ℕ). eqb d 1) (bit_or_lem z (bit_and x ((2 ^ 64 - 1) - y)) j)
       ∙ or_digit _ _ (bit_lt z j) (bit_lt (bit_and x ((2 ^ 64 - 1) - y)) j)
       ∙ ap (λ (d : ℕ). eqb (bit z j) 1 || eqb d 1) new
       ∙ ap (λ (t : Bool). eqb (bit z j) 1 || t) (and_not_digit _ _ (bit_lt x j) (bit_lt y j)))

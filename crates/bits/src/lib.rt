@@ -1,4 +1,6 @@
 // Sets of up to 512 conditions as eight words of 64 bits.
+#![tactic(auto)]
+
 ghost use Rattle.std.specs.Prelude.{◌≡◌, ◌<◌, length};
 ghost use Rattle.bits.specs.Words.{has, Inserted, InsertedNew, Removed, Absorbed, LowestIn, AnyIn};
 
