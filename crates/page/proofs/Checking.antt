@@ -1,25 +1,25 @@
 -- The soundness scan over the lines: where it stands, and that the entries still to come decide. Assumes nothing.
 use mathlib.Core.Path.{◌≡◌, sym, ◌∙◌}
-use mathlib.Core.Bool.{Bool, true, false, not, ◌&&◌}
+use mathlib.Core.Bool.{Bool, true, false, ◌&&◌}
 use mathlib.Core.List.{List}
 use Prim.Native.Nat.{ℕ, ◌+◌, ◌*◌, ◌-◌, ◌≤◌, ◌<◌}
 use native.Mathlib.Omega.{arith}
 use lib.Dec.{eqb, leb}
 use lib.ListN.{length, get_or, take, drop}
-use borrow.Author.Tests.{leb-true, not-true, not-false}
+use borrow.Author.Tests.{leb-true}
 use Rattle.semantics.specs.Area.{kind, every, all_under, field_tests, line_tests, lines_ok, first_line}
 use Rattle.semantics.proofs.Soundness.{both_true}
 use Rattle.page.specs.Lines.{step_at}
 use Rattle.page.specs.Checks.{head_ok, rule_ok}
 use Rattle.page.proofs.Scan.{Remaining, remaining_first, under_break, under_last, span_rule, span_short, head_entry, head_in, rule_entry, short_entry, entry_fits, lines_bad, lines_behind, lines_last}
 
--- what a function that answers b told, seen behind a test of its negation
+-- what a function that answers b told, seen behind a test of its answer
 module _ {r b : Bool} (e : r ≡ b) where
-  pub told_true : not r ≡ false → b ≡ true
-  told_true f = sym e ∙ not-false r f
+  pub told_true : r ≡ true → b ≡ true
+  told_true f = sym e ∙ f
 
-  pub told_false : not r ≡ true → b ≡ false
-  told_false f = sym e ∙ not-true r f
+  pub told_false : r ≡ false → b ≡ false
+  told_false f = sym e ∙ f
 
 module _ (a : List ℕ) (used count top n : ℕ) where
   -- what the scan is to answer

@@ -1,16 +1,16 @@
 -- The D lines of a page area, collected in a scan, and the D numbers held to them. Assumes nothing.
-use mathlib.Core.Path.{◌≡◌, refl, sym, ◌∙◌, ap, subst}
+use mathlib.Core.Path.{◌≡◌, refl, sym, ◌∙◌, ap}
 use mathlib.Core.Logic.{◌≢◌}
-use mathlib.Core.Bool.{Bool, true, false, ◌&&◌, ◌||◌, false≢true, true≢false, or-true}
-use mathlib.Core.List.{List, [], ◌∷◌}
-use Prim.Native.Nat.{ℕ, zero, suc, ◌+◌, ◌-◌, ◌≤◌, ◌<◌}
+use mathlib.Core.Bool.{Bool, true, false, ◌||◌, false≢true}
+use mathlib.Core.List.{List, ◌∷◌}
+use Prim.Native.Nat.{ℕ, zero, suc, ◌+◌, ◌≤◌, ◌<◌}
 use native.Mathlib.Decide.{ℕ_discrete}
 use native.Mathlib.Omega.{arith}
 use lib.Dec.{eqb, leb}
-use lib.ListN.{length, get_or, take, drop}
-use borrow.Author.Tests.{eq-eqb, ne_eqb, le-leb, leb-true, eqb-true}
+use lib.ListN.{length, get_or, drop}
+use borrow.Author.Tests.{eq-eqb, le-leb, leb-true, eqb-true}
 use Rattle.fixpoint.specs.Sum.{bit}
-use Rattle.semantics.specs.Area.{Kind, fact_kind, rule_kind, query_kind, default_kind, no_kind, kind, line_as, line_at, lines_ok, every, default_tests, defaults_ok, page_of, first_line, default_of, conditions_of, count_of, used_of}
+use Rattle.semantics.specs.Area.{Kind, fact_kind, rule_kind, query_kind, default_kind, no_kind, kind, line_as, line_at, every, default_tests, defaults_ok, page_of, first_line, default_of, conditions_of, count_of, used_of}
 use Rattle.semantics.specs.Body.{unknown_by_default}
 use Rattle.semantics.specs.Page.{Line, defaults}
 use Rattle.semantics.specs.Table.{all_below}

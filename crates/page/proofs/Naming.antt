@@ -1,5 +1,5 @@
 -- Which condition the R lines of an area name, literal by literal and line by line, in the code's own terms. Assumes nothing.
-use mathlib.Core.Path.{◌≡◌, refl, sym, ◌∙◌, ap}
+use mathlib.Core.Path.{◌≡◌, refl, sym, ◌∙◌}
 use mathlib.Core.Logic.{◌≢◌, ⊎_elim}
 use mathlib.Core.Bool.{Bool, true, false, cond, ◌&&◌, ◌||◌, and-false}
 use mathlib.Core.List.{List, ◌∷◌, map}
@@ -8,12 +8,10 @@ use native.Mathlib.Omega.{arith}
 use lib.Dec.{eqb, ltb}
 use lib.ListN.{get_or, take, drop}
 use borrow.Author.Tests.{eq-eqb, ne_eqb, lt-ltb, le-ltb}
-use Rattle.semantics.specs.Area.{Kind, fact_kind, rule_kind, query_kind, default_kind, no_kind, kind, literal_of, line_as, line_at, page_of, count_of}
-use Rattle.semantics.specs.Page.{positive, negative, condition_of, Line, mentions, lines_name, names}
-use Rattle.page.specs.Lines.{Next, line_names}
+use Rattle.semantics.specs.Area.{Kind, fact_kind, rule_kind, query_kind, default_kind, no_kind, kind, literal_of, line_as, line_at}
+use Rattle.semantics.specs.Page.{positive, negative, condition_of, Line, mentions, lines_name}
+use Rattle.page.specs.Lines.{line_names}
 use Rattle.page.proofs.Scan.{part_cons, Remaining, remaining_next, rule_kind_lem, fact_kind_lem, over_five, line_at_lem}
-use Rattle.page.proofs.Scanning.{Scanning, lines_left, scanning_first, lines_first, scanning_moved, lines_moved, lines_none}
-use Rattle.page.specs.Solvable.{solvable}
 
 -- c is the condition of one of the literals
 abbrev pub codes_name : ℕ → List ℕ → Bool

@@ -9,7 +9,7 @@ use lib.ListN.{length, get_or, drop}
 use lib.Seq.{drop-drop}
 use borrow.Author.Tests.{leb-true}
 use Rattle.semantics.specs.Page.{Line}
-use Rattle.semantics.specs.Area.{kind, span_as, span, line_at, lines_of, page_of, every, line_tests, lines_ok, head_tests, first_line, top_of, conditions_of, count_of, used_of}
+use Rattle.semantics.specs.Area.{kind, span_as, span, line_at, lines_of, page_of, every, line_tests, lines_ok, first_line, top_of, conditions_of, count_of, used_of}
 use Rattle.semantics.proofs.Soundness.{both_true}
 use Rattle.page.specs.Graded.{SoundEntry}
 use Rattle.page.specs.Lines.{EntryIn, Next}

@@ -1,4 +1,6 @@
 // Code on raw page areas (document 01, "Areas"): a cursor over the lines, soundness, and which condition an R line names.
+#![tactic(auto)]
+
 ghost use Rattle.std.specs.Prelude.{◌≡◌, true, false, List, map, ℕ, ◌≤◌, ◌<◌, ◌+◌, ◌-◌, length, get_or, take, drop};
 ghost use Rattle.semantics.specs.Page.{mentions};
 ghost use Rattle.semantics.specs.Body.{unknown_by_default};
@@ -20,7 +22,7 @@ pub fn span_of(k: u16, y: u16) -> usize
 }
 
 // A place among the lines of an area: `passed` lines lie before it, and the entry of the next one begins at `at`.
-#[derive(Drop)]
+#[derive(Clone, Copy)]
 pub struct Cursor {
     pub at: usize,
     pub passed: u16,

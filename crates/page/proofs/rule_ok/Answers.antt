@@ -3,28 +3,24 @@ use mathlib.Core.Path.{sym}
 use native.Mathlib.Omega.{arith}
 use borrow.Author.Tests.{lt-leb}
 use Rattle.page.proofs.Scan.{rule_fails, rule_last}
-use Rattle.page.proofs.rule_ok.Statement.{statement}
-use Rattle.page.proofs.rule_ok.Tie as tie
+use Rattle.page.proofs.rule_ok.Goals as goal
 
-returns : tie.Need-returns
-returns c =
-    let z = c.before.args in
+pub returns-then-x-lt1 : goal.returns-then-x-lt1
+returns-then-x-lt1 c =
+    let z = c.args in
     sym (rule_fails z.top z.x z.y 0 (lt-leb 1 z.x (omega arith)))
 
-returns-2 : tie.Need-returns-2
-returns-2 c =
-    let z = c.before.before.args in
+pub returns-then-top-x : goal.returns-then-top-x
+returns-then-top-x c =
+    let z = c.args in
     sym (rule_fails z.top z.x z.y 1 (lt-leb z.x z.top (omega arith)))
 
-returns-3 : tie.Need-returns-3
-returns-3 c =
-    let z = c.before.before.before.args in
+pub returns-then-y-lt1 : goal.returns-then-y-lt1
+returns-then-y-lt1 c =
+    let z = c.args in
     sym (rule_fails z.top z.x z.y 2 (lt-leb 1 z.y (omega arith)))
 
-returns-4 : tie.Need-returns-4
-returns-4 c =
-    let z = c.before.before.before.args in
+pub returns : goal.returns
+returns c =
+    let z = c.args in
     rule_last z.top z.x z.y (omega arith) (omega arith) (omega arith)
-
-pub rule-ok-spec : {M : Type 1} → statement M
-rule-ok-spec = tie.close (tie.spec returns returns-2 returns-3 returns-4)
