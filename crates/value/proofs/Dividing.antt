@@ -1,5 +1,4 @@
 -- A product of two grades divided by top, with what an end adds before. Assumes nothing.
-use mathlib.Core.Path.{◌≡◌}
 use Prim.Native.Nat.{ℕ, suc, ◌+◌, ◌*◌, ◌/◌, ◌≤◌, ◌<◌}
 use native.Mathlib.Nat.{mul-le-mul, div-lt_iff_lt-mul, suc-mul}
 use native.Mathlib.Omega.{arith}

@@ -1,4 +1,6 @@
 // The value of one line at one end, over a table of that end of every literal (document 01, "The page").
+#![tactic(auto)]
+
 ghost use Rattle.std.specs.Prelude.{◌≡◌, true, ◌≤◌, ◌<◌, ◌+◌, ◌*◌, ◌/◌, min, max, length, get_or};
 ghost use Rattle.semantics.specs.Area.{page_of, top_of, conditions_of, kind, rule_kind};
 ghost use Rattle.semantics.specs.Body.{bodyless};
@@ -10,14 +12,14 @@ ghost use Rattle.value.specs.LineEnds.{slice, behind_first, Listed, Foldable, Fo
 ghost use Rattle.page.specs.Solvable.{solvable};
 
 // An end of an interval.
-#[derive(Drop)]
+#[derive(Clone, Copy)]
 pub enum End {
     Lower,
     Upper,
 }
 
 // The two ends of an interval.
-#[derive(Drop)]
+#[derive(Clone, Copy)]
 pub struct Ends {
     pub low: u16,
     pub high: u16,

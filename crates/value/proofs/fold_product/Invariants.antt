@@ -1,0 +1,11 @@
+-- `fold_product`: the product divided by top, literal by literal (`FoldingAt`). Assumes nothing.
+use Prim.Native.Nat.{◌-◌, ◌≤◌}
+use Rattle.value.specs.LineEnds.{product}
+use Rattle.value.proofs.Folds.{FoldingAt}
+use Rattle.value.proofs.fold_product.Given as goal
+
+abbrev pub invariant-loop-j : goal.invariant-loop-j
+invariant-loop-j l = FoldingAt (product l.add l.top) l.a l.from l.to l.values l.first l.r l.j × (l.r ≤ l.top)
+
+abbrev pub decreases-loop-j : goal.decreases-loop-j
+decreases-loop-j l = l.to - l.j
