@@ -1,5 +1,5 @@
 -- An op over both ends of literals, in the code's own terms: what the op of a kind makes of two grades, and the state of the loop. Assumes nothing.
-use mathlib.Core.Path.{◌≡◌, refl, sym, ◌∙◌, ap, subst}
+use mathlib.Core.Path.{◌≡◌, sym, ◌∙◌, ap, subst}
 use mathlib.Core.List.{List}
 use Prim.Native.Nat.{ℕ, ◌+◌, ◌*◌, ◌-◌, ◌≤◌, ◌<◌, min, max}
 use native.Mathlib.Omega.{arith}
@@ -41,19 +41,19 @@ module _ (top k p q : ℕ) (e : End) where
   unfolding kind combine
   combine_p h f = kind_is P (rw h) f
 
-module _ (codes : List ℕ) (k : ℕ) (values : List ℕ) (top first-low first_high_lem : ℕ) where
+module _ (codes : List ℕ) (k : ℕ) (values : List ℕ) (top first_low first_high : ℕ) where
   -- the state after j literals
   pub record FoldingBoth (low high j : ℕ) : Type 0 where
-    pub ready : BothFoldable top codes values first-low first_high_lem
+    pub ready : BothFoldable top codes values first_low first_high
     pub least : 1 ≤ k
     pub most : k ≤ 5
     pub within : j ≤ length codes
     pub low_in : low ≤ top
     pub high_in : high ≤ top
-    pub low_is : (op : Op) → kind k ≡ rule_kind op → Folding (combine top op lower) codes values first-low low j
-    pub high_is : (op : Op) → kind k ≡ rule_kind op → Folding (combine top op upper) codes (mirrored top values) first_high_lem high j
+    pub low_is : (op : Op) → kind k ≡ rule_kind op → Folding (combine top op lower) codes values first_low low j
+    pub high_is : (op : Op) → kind k ≡ rule_kind op → Folding (combine top op upper) codes (mirrored top values) first_high high j
 
-  pub both_first : BothFoldable top codes values first-low first_high_lem × (1 ≤ k) × (k ≤ 5) → FoldingBoth first-low first_high_lem 0
+  pub both_first : BothFoldable top codes values first_low first_high × (1 ≤ k) × (k ≤ 5) → FoldingBoth first_low first_high 0
   both_first r =
       record {
         ready = r.0;
@@ -91,8 +91,8 @@ module _ (codes : List ℕ) (k : ℕ) (values : List ℕ) (top first-low first_h
           high_is = λ op h. folding_next _ _ _ _ (s.high_is op h) l (g op h ∙ ap (λ (x : ℕ). combine top op upper high x) d');
         }
 
-  pub low_last : {low high j : ℕ} → FoldingBoth low high j → length codes ≤ j → (op : Op) → kind k ≡ rule_kind op → Folded (combine top op lower) codes values first-low low
+  pub low_last : {low high j : ℕ} → FoldingBoth low high j → length codes ≤ j → (op : Op) → kind k ≡ rule_kind op → Folded (combine top op lower) codes values first_low low
   low_last s l op h = folding_last _ _ _ _ (s.low_is op h) l
 
-  pub high_last : {low high j : ℕ} → FoldingBoth low high j → length codes ≤ j → (op : Op) → kind k ≡ rule_kind op → Folded (combine top op upper) codes (mirrored top values) first_high_lem high
+  pub high_last : {low high j : ℕ} → FoldingBoth low high j → length codes ≤ j → (op : Op) → kind k ≡ rule_kind op → Folded (combine top op upper) codes (mirrored top values) first_high high
   high_last s l op h = folding_last _ _ _ _ (s.high_is op h) l

@@ -1,17 +1,16 @@
 -- The high ends that a table of low ends stands for. Assumes nothing.
-use mathlib.Core.Path.{◌≡◌, refl, sym, ◌∙◌, ap}
+use mathlib.Core.Path.{◌≡◌, ◌∙◌, ap}
 use mathlib.Core.List.{List}
 use Prim.Native.Nat.{ℕ, ◌+◌, ◌*◌, ◌-◌, ◌/◌, ◌%◌, ◌≤◌, ◌<◌}
 use native.Mathlib.Decide.{ℕ_discrete}
 use native.Mathlib.Omega.{arith}
-use lib.Bits.{bit_xor, xor_step, xor_zero_r, differ}
+use lib.Bits.{xor_step, xor_zero_r, differ}
 use lib.ListN.{length, get_or}
-use Rattle.fixpoint.specs.Interval.{Interval, Within, Assign}
+use Rattle.fixpoint.specs.Interval.{Within, Assign}
 use Rattle.semantics.specs.Grade.{lower, upper}
-use Rattle.semantics.specs.Table.{table}
 use Rattle.semantics.proofs.Table.{length_from, get_d_table}
-use Rattle.value.specs.Table.{end_of, Grades, EndTable}
-use Rattle.value.proofs.Tables.{EndsAt, table_at_lem, table_of_lem, grades_of}
+use Rattle.value.specs.Table.{EndTable}
+use Rattle.value.proofs.Tables.{table_at_lem, table_of_lem, grades_of}
 use Rattle.ends.specs.Mirror.{flip, mirrored, Mirrored}
 
 -- the two codes of a condition

@@ -34,14 +34,14 @@ module _ (a values : List ℕ) (at : ℕ) (ok : solvable a ≡ true) (g : Mirror
   first_negation = (negation_in code (code_under a values at r), negation_grade code (code_under a values at r))
 
   module _ {h : ℕ} (q : h ≡ top_of a - get_or values (flip code) 0) where
-    first_high_lem : h ≡ get_or (mirrored (top_of a) values) code 0
-    first_high_lem = q ∙ sym (mirrored_at (top_of a) values code first_in)
+    first_high : h ≡ get_or (mirrored (top_of a) values) code 0
+    first_high = q ∙ sym (mirrored_at (top_of a) values code first_in)
 
     pub ends_foldable : BothFoldable (top_of a) (rest a values at r) values (get_or values code 0) h
     ends_foldable =
         record {
           low = foldable a values at r ok g.low;
-          high = subst (one.Foldable (top_of a) (rest a values at r) (mirrored (top_of a) values)) (sym first_high_lem) (foldable a (mirrored (top_of a) values) at r ok g.high);
+          high = subst (one.Foldable (top_of a) (rest a values at r) (mirrored (top_of a) values)) (sym first_high) (foldable a (mirrored (top_of a) values) at r ok g.high);
           room = λ j l. negation_in _ (rest_code a values at r j l);
           under = λ j l. negation_grade _ (rest_code a values at r j l);
         }
@@ -49,4 +49,4 @@ module _ (a values : List ℕ) (at : ℕ) (ok : solvable a ≡ true) (g : Mirror
     -- a fold from h is one from the number of the first literal in the mirrored table
     pub high_folded : {x : ℕ} → ((op : Op) → kind (get_or a (at + 1) 0) ≡ rule_kind op → one.Folded (combine (top_of a) op upper) (rest a values at r) (mirrored (top_of a) values) h x)
         → (op : Op) → kind (get_or a (at + 1) 0) ≡ rule_kind op → one.Folded (combine (top_of a) op upper) (rest a values at r) (mirrored (top_of a) values) (get_or (mirrored (top_of a) values) code 0) x
-    high_folded {x} f op k = subst (λ (y : ℕ). one.Folded (combine (top_of a) op upper) (rest a values at r) (mirrored (top_of a) values) y x) first_high_lem (f op k)
+    high_folded {x} f op k = subst (λ (y : ℕ). one.Folded (combine (top_of a) op upper) (rest a values at r) (mirrored (top_of a) values) y x) first_high (f op k)

@@ -1,6 +1,6 @@
 -- One table for both ends of every literal: it holds the low ends, and the high end of a literal is top less the low end of its negation.
 -- Assumes nothing.
-use Rattle.std.specs.Prelude.{◌≡◌, List, ℕ, ◌*◌, ◌-◌, ◌≤◌, ◌<◌, length, get_or}
+use Rattle.std.specs.Prelude.{List, ℕ, ◌-◌, ◌≤◌, ◌<◌, length, get_or}
 use Rattle.std.specs.Int.Bits.{bit_xor}
 use Rattle.semantics.specs.Table.{table}
 use Rattle.value.specs.Table.{Grades}
@@ -20,8 +20,8 @@ pub record Mirrored (top n : ℕ) (values : List ℕ) : Type 0 where
   pub high : Grades top n (mirrored top values)
 
 -- what a fold over literals requires of both ends
-pub record BothFoldable (top : ℕ) (codes values : List ℕ) (first-low first_high_lem : ℕ) : Type 0 where
-  pub low : one.Foldable top codes values first-low
-  pub high : one.Foldable top codes (mirrored top values) first_high_lem
+pub record BothFoldable (top : ℕ) (codes values : List ℕ) (first_low first_high : ℕ) : Type 0 where
+  pub low : one.Foldable top codes values first_low
+  pub high : one.Foldable top codes (mirrored top values) first_high
   pub room : (j : ℕ) → j < length codes → flip (get_or codes j 0) < length values
   pub under : (j : ℕ) → j < length codes → get_or values (flip (get_or codes j 0)) 0 ≤ top

@@ -1,5 +1,7 @@
 // Both ends of the value of one line at once, over a table of bytes that holds the low end of every literal: the high end of a literal is top
 // less the low end of its negation. A drive evaluates both ends of every line, and half of the memory serves it.
+#![tactic(auto)]
+
 ghost use Rattle.std.specs.Prelude.{◌≡◌, true, ◌≤◌, ◌<◌, ◌+◌, ◌*◌, ◌-◌, length, get_or, set};
 ghost use Rattle.semantics.specs.Area.{top_of, conditions_of, kind, rule_kind};
 ghost use Rattle.semantics.specs.Grade.{Op, lower, upper, combine};
