@@ -1,11 +1,11 @@
 -- An index that may be missing, in the parts as the borrow checker states them. Assumes nothing.
-use mathlib.Core.Path.{◌≡◌, refl, ◌∙◌, ap}
+use mathlib.Core.Path.{◌≡◌, ◌∙◌, ap}
 use mathlib.Core.Logic.{inl, inr}
 use mathlib.Core.List.{List, ◌++◌}
 use Prim.Native.Nat.{ℕ, ◌+◌, ◌*◌, ◌-◌, ◌≤◌}
 use native.Mathlib.Decide.{dec_lt}
 use native.Mathlib.Omega.{arith}
-use lib.ListN.{length, get_or, take, drop, replicate, length-replicate, get_or-replicate, get_or-eq_default}
+use lib.ListN.{length, take, drop, replicate, length-replicate, get_or-replicate, get_or-eq_default}
 use lib.Seq.{drop_at, length-take-le}
 use borrow.Author.Rules.{part_to_end}
 use Rattle.semantics.specs.Area.{conditions_of}
