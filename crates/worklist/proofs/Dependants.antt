@@ -1,19 +1,17 @@
 -- The heads of the two groups of a condition are its dependants, so waking them marks the dependants. Assumes nothing.
 use mathlib.Core.Path.{◌≡◌, refl, sym, ◌∙◌, ap, ap₂}
 use mathlib.Core.Logic.{◌⊎◌, inl, inr, ⊎_elim}
-use mathlib.Core.Bool.{Bool, true, false, cond, ◌&&◌, ◌||◌, and-false, or-true, true≢false}
+use mathlib.Core.Bool.{Bool, true, false, cond, ◌&&◌, ◌||◌, or-true, true≢false}
 use mathlib.Core.List.{List, [], ◌∷◌}
-use Prim.Native.Nat.{ℕ, zero, suc, ◌+◌, ◌*◌, ◌-◌, ◌≤◌, ◌<◌}
+use Prim.Native.Nat.{ℕ, ◌+◌, ◌*◌, ◌≤◌, ◌<◌}
 use native.Mathlib.Decide.{ℕ_discrete}
 use native.Mathlib.Omega.{arith}
 use lib.Dec.{eqb, leb}
 use lib.ListN.{length, get_or}
-use borrow.Author.Tests.{eq-eqb, ne_eqb, eqb-true, leb-true, le-leb}
+use borrow.Author.Tests.{eq-eqb, ne_eqb, leb-true, le-leb}
 use Rattle.semantics.specs.Area.{page_of, conditions_of, code_of}
 use Rattle.semantics.specs.Page.{Literal, positive, negative, condition_of, mentions, Line, fact, rule, query, default, lines_name, names}
-use Rattle.semantics.proofs.Proper.{AllInRange}
 use Rattle.semantics.specs.RunArea.{mark_at}
-use Rattle.semantics.proofs.Soundness.{both_true}
 use Rattle.semantics.proofs.Table.{or_cases}
 use Rattle.worklist.specs.Cells.{DependantsMarked}
 use Rattle.page.proofs.Head.{head_of, conditions_is}
@@ -25,7 +23,6 @@ use Rattle.worklist.specs.Waiting.{WordsMatch}
 use Rattle.worklist.proofs.Matching.{lt_or_le}
 use Rattle.worklist.specs.Woken.{Among, HeadsBelow, HeadsIn, HeadsWoken, SetKept}
 use Rattle.page.specs.Solvable.{solvable}
-use Rattle.page.proofs.Solvable.{solvable_proper}
 
 -- a rule names c if it has the plain or the negated literal of c
 regroup : (x y p q : Bool) → ((x || y) || (p || q)) ≡ ((x || p) || (y || q))

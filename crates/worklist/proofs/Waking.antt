@@ -5,11 +5,10 @@ use mathlib.Core.List.{List}
 use Prim.Native.Nat.{ℕ, ◌+◌, ◌*◌, ◌≤◌, ◌<◌}
 use native.Mathlib.Decide.{ℕ_discrete}
 use native.Mathlib.Omega.{arith}
-use lib.ListN.{length, get_or, set, drop, length-set}
+use lib.ListN.{length, get_or, set, length-set}
 use lib.Seq.{drop-set-lt}
 use Rattle.semantics.specs.RunArea.{mark_at}
 use Rattle.worklist.proofs.Stores.{mark_same, mark_other, mark_apart}
-use Rattle.worklist.specs.Waiting.{WordsMatch}
 use Rattle.worklist.specs.Woken.{Among, HeadsBelow, HeadsIn, HeadsWoken, SetKept}
 use Rattle.bits.specs.Words.{Inserted}
 use Rattle.worklist.proofs.Matching.{match_inserted}

@@ -1,4 +1,6 @@
 // The cells of a run area (low, high, mark for each condition): soundness, the lowest waiting condition, waking dependants, a store.
+#![tactic(auto)]
+
 ghost use Rattle.std.specs.Prelude.{◌≡◌, true, cond, not, ℕ, ◌≤◌, ◌+◌, ◌<◌, ◌*◌, length, get_or, drop};
 ghost use Rattle.fixpoint.specs.Interval.{same, Interval};
 ghost use Rattle.semantics.specs.Area.{page_of, conditions_of, every, line_at};
