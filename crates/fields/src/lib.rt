@@ -1,11 +1,13 @@
 // The fields of a line: numbers and literals. A place is an index into a text that ends with byte 10, so a byte that is not 10 has a
 // byte behind it, and no length is tested.
+#![tactic(auto)]
+
 ghost use Rattle.std.specs.Prelude.{◌≡◌, true};
 ghost use Rattle.semantics.specs.Text.{is_number, is_literal};
 ghost use Rattle.fields.specs.Cursor.{class_of, field_at, InText, DigitAs, FirstDigit, Digits, DigitsAt, NumberTo, SignIs, LiteralAt, CodeTo, number_before};
 
 // What a byte is: a digit with its value, or another byte.
-#[derive(Drop)]
+#[derive(Clone, Copy)]
 enum Class {
     Digit(u32),
     Other,
@@ -23,14 +25,14 @@ fn digit(b: u8) -> Class
 }
 
 // A number, and a place behind it.
-#[derive(Drop)]
+#[derive(Clone, Copy)]
 pub enum Field {
     Number(u16, usize),
     Bad,
 }
 
 // What is read where there is no doubt of it: a value, and the place where its digits end.
-#[derive(Drop)]
+#[derive(Clone, Copy)]
 pub struct Token {
     pub value: u16,
     pub end: usize,
