@@ -1,5 +1,7 @@
 // The lines after the first: `F,cond,low,high`, `R,cond,weight,op,literal,...`, `Q,reading,cond`, `D,cond,U`, parsed by their form. What
 // is out of range is for the caller to refuse, who has every field at hand.
+#![tactic(auto)]
+
 ghost use Rattle.std.specs.Prelude.{ℕ, ◌≡◌, get_or};
 ghost use Rattle.fields.specs.Cursor.{InText};
 ghost use Rattle.lines.specs.Lines.{PairLetter, PairAt, far_with, LiteralsAt, ParsedAs, kind_at, reading_at};
@@ -8,7 +10,7 @@ use fields::{Field, number_before, read_literal};
 
 // What is read of a line, with the place of the next line; or that it has no form. Of a rule's literals: how many they are, and which is
 // the first whose condition is out of range, from 1, or 0 for none.
-#[derive(Drop)]
+#[derive(Clone, Copy)]
 pub enum Parsed {
     Fact {
         condition: u16,
@@ -35,7 +37,7 @@ pub enum Parsed {
 }
 
 // The first two numbers behind a letter and the place of the field after them, or that the line has no form.
-#[derive(Drop)]
+#[derive(Clone, Copy)]
 enum Pair {
     Good(u16, u16, usize),
     Form,
@@ -105,7 +107,7 @@ fn far_with(far: usize, n: usize, condition: u16, conditions: u16) -> usize
 }
 
 // What is read of the literals of a rule, as in `Parsed`.
-#[derive(Drop)]
+#[derive(Clone, Copy)]
 enum Literals {
     Good {
         count: usize,
