@@ -14,7 +14,7 @@ use lines::{Parsed, parse_line};
 
 // What the fields of a line come to: all are in range, or the number of the refusal for the leftmost that is not, and its place in the
 // line, from 1.
-#[derive(Drop)]
+#[derive(Clone, Copy)]
 pub enum Fault {
     None,
     At(u16, usize),
@@ -86,7 +86,7 @@ fn default_fault(condition: u16, conditions: u16, seen: &mut [u64]) -> Fault
 }
 
 // What a line comes to: the place of the next line and the numbers of its entry, or the number of its refusal and the field's place.
-#[derive(Drop)]
+#[derive(Clone, Copy)]
 pub enum Line {
     Good { next: usize, size: usize },
     Bad(u16, usize),
@@ -136,7 +136,7 @@ fn check_line(bytes: &[u8], at: usize, top: u16, conditions: u16, seen: &mut [u6
 }
 
 // What is read of the first line, `G,top,C`: top, C and the place of the next line, or that the line has no form.
-#[derive(Drop)]
+#[derive(Clone, Copy)]
 pub enum Head {
     Good {
         top: u16,
@@ -170,7 +170,7 @@ fn parse_head(bytes: &[u8]) -> Head
 }
 
 // What the lines after the first come to.
-#[derive(Drop)]
+#[derive(Clone, Copy)]
 pub enum Tally {
     Good {
         count: usize,
@@ -246,7 +246,7 @@ fn head_fault(top: u16, conditions: u16) -> Fault
 }
 
 // What a text comes to: the numbers of its page, or a refusal.
-#[derive(Drop)]
+#[derive(Clone, Copy)]
 pub enum Checked {
     Page {
         top: u16,

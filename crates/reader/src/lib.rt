@@ -1,4 +1,6 @@
 // Read a page, from its text to a page area, and show a line of it.
+#![tactic(auto)]
+
 mod check;
 mod show;
 mod write;
@@ -13,7 +15,7 @@ use crate::show::{line_end, next_line};
 use crate::write::{put_head, write_lines};
 
 // The used length of a page that is read, or the number of a refusal, its line and the place of its field.
-#[derive(Drop)]
+#[derive(Clone, Copy)]
 pub enum ReadAnswer {
     Read(usize),
     Refused {
@@ -63,7 +65,7 @@ pub fn read_page(bytes: &[u8], area: &mut [u16]) -> ReadAnswer
 }
 
 // Where a line stands: from `start` up to `end`.
-#[derive(Drop)]
+#[derive(Clone, Copy)]
 pub struct Span {
     pub start: usize,
     pub end: usize,

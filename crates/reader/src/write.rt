@@ -59,14 +59,14 @@ pub fn put_head(
 }
 
 // Where the next line begins in the text, and where the next entry begins in the area.
-#[derive(Drop)]
+#[derive(Clone, Copy)]
 struct Place {
     next: usize,
     end: usize,
 }
 
 // The first two numbers behind a letter, and the place of the field after them.
-#[derive(Drop)]
+#[derive(Clone, Copy)]
 struct Two {
     first: u16,
     second: u16,
