@@ -50,7 +50,7 @@ fn first_fault(first: u16, second: u16) -> u16
 }
 
 // What a line comes to: its trial and the place of the next line, or the number of its refusal.
-#[derive(Drop)]
+#[derive(Clone, Copy)]
 enum Checked {
     Good { trial: u16, next: usize },
     Bad(u16),

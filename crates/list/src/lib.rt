@@ -1,5 +1,7 @@
 // Read a list of trials, `T,trial,cond,low,high` in each line, in two passes: the first checks every line, and the second writes what they
 // say when no refusal can follow.
+#![tactic(auto)]
+
 mod check;
 mod parse;
 mod write;
@@ -11,7 +13,7 @@ use crate::check::check_list;
 use crate::write::write_trials;
 
 // The number of a refusal and its line, or how many lines a list has that is read.
-#[derive(Drop)]
+#[derive(Clone, Copy)]
 pub enum ListAnswer {
     Refused { number: u16, line: usize },
     Read(usize),

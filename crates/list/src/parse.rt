@@ -8,7 +8,7 @@ ghost use Rattle.list.specs.Lines.{FrontAt, ParsedAs, Says};
 use fields::{Field, checked_number, number_before};
 
 // The numbers of a line.
-#[derive(Drop)]
+#[derive(Clone, Copy)]
 pub struct Trial {
     pub trial: u16,
     pub condition: u16,
@@ -17,14 +17,14 @@ pub struct Trial {
 }
 
 // What is read of a line, with the place of the next line; or that it has no form.
-#[derive(Drop)]
+#[derive(Clone, Copy)]
 pub enum Parsed {
     Good(Trial, usize),
     Form,
 }
 
 // The trial, the condition and the place of the field after them, or that the line has no form.
-#[derive(Drop)]
+#[derive(Clone, Copy)]
 enum Front {
     Good(u16, u16, usize),
     Form,
@@ -76,7 +76,7 @@ pub fn parse_trial(bytes: &[u8], at: usize) -> Parsed
 }
 
 // A line that is known to have the form, and the place of the next line.
-#[derive(Drop)]
+#[derive(Clone, Copy)]
 pub struct Known {
     pub line: Trial,
     pub next: usize,
