@@ -4,7 +4,7 @@ use mathlib.Core.List.{List}
 use Prim.Native.Nat.{ℕ, ◌+◌, ◌*◌, ◌≤◌}
 use native.Mathlib.Nat.{mul-le-mul}
 use native.Mathlib.Omega.{arith}
-use Rattle.fixpoint.specs.Sum.{sum, count}
+use Rattle.fixpoint.specs.Sum.{count}
 use Rattle.fixpoint.proofs.Sum.{sum_le, sum_const}
 use Rattle.semantics.specs.Page.{Page, names}
 use Rattle.semantics.specs.Reading.{count_r, count_e, bound}

@@ -13,7 +13,7 @@ use Rattle.fixpoint.specs.Sum.{sum, bit, count}
 use Rattle.fixpoint.proofs.Sum.{sum_eq, sum_add, sum_zero}
 use Rattle.semantics.specs.Area.{all_under}
 use Rattle.semantics.specs.Page.{Page, names}
-use Rattle.semantics.specs.Reading.{adds, passes, pass, closure}
+use Rattle.semantics.specs.Reading.{adds, passes, closure}
 use Rattle.semantics.specs.Table.{member, listed, any_below}
 use Rattle.semantics.proofs.Closure.{at, at_first, at_next, at_length, adds_still, adding_few, found_all}
 use Rattle.semantics.proofs.Proper.{Proper}

@@ -1,3 +1,5 @@
+#![tactic(auto)]
+
 ghost use Rattle.std.specs.Prelude.{◌≡◌, true, ◌&&◌, map, ◌≤◌, ◌+◌, ◌-◌, ◌<◌, ◌*◌, leb, length, get_or, take, drop};
 ghost use Rattle.semantics.specs.Area.{sound, line_at, all_under, literal_of, page_of, top_of, conditions_of, used_of};
 ghost use Rattle.semantics.specs.Operation.{open_of};
@@ -83,7 +85,7 @@ fn follow(a: &[u16], c: u16, found: &mut [u64], new: &mut [u64]) -> u32
 }
 
 // How many conditions a pass followed, and how many those name.
-#[derive(Drop)]
+#[derive(Clone, Copy)]
 struct Counts {
     reached: u32,
     edges: u32,
@@ -109,7 +111,7 @@ fn pass(a: &[u16], fresh: &mut [u64], found: &mut [u64], new: &mut [u64]) -> Cou
 }
 
 // A set of conditions, the count of passes that found it, and its R and E.
-#[derive(Drop)]
+#[derive(Clone, Copy)]
 struct Found {
     set: [u64; 8],
     passes: u32,
@@ -295,7 +297,7 @@ pub fn all_below(queries: &[u16], n: u16) -> bool
     true
 }
 
-#[derive(Drop)]
+#[derive(Clone, Copy)]
 pub enum OpenAnswer {
     Refused(u8),
     Opened {

@@ -1,0 +1,34 @@
+-- `reach::mark_closure` meets its contract: each pass but the last marks a condition, and there are 512. Assumes nothing.
+use mathlib.Core.Path.{◌∙◌, sym}
+use native.Mathlib.Omega.{arith}
+use Rattle.semantics.specs.Area.{page_of}
+use Rattle.semantics.specs.Table.{member}
+use Rattle.reach.proofs.Closing.{spreading_first, spreading_next, spreading_last}
+use Rattle.reach.proofs.Inserting.{size_most}
+use Rattle.reach.proofs.Naming.{queries_few}
+use Rattle.page.proofs.Solvable.{solvable_proper}
+use Rattle.reach.proofs.mark_closure.Goals as goal
+
+pub mark_queries-requires : goal.mark_queries-requires
+mark_queries-requires c = (queries_few c.args.a.now c.requires.0 c.args.queries.now c.requires.1, c.requires.2.0)
+
+pub loop-init : goal.loop-init
+unfolding page_of
+loop-init c = spreading_first (page_of c.args.a.now) c.args.queries.now (solvable_proper c.args.a.now c.requires.0) c.requires.1 c.requires.2 c.mark_queries.ensures
+
+pub sweep-requires : goal.sweep-requires
+sweep-requires c = (c.requires.0, c.loop.invariant.size)
+
+pub loop-smaller : goal.loop-smaller
+loop-smaller c = omega (arith, c.sweep.ensures.counted, size_most 512 (member c.sweep.new.marks))
+
+pub loop-preserved : goal.loop-preserved
+unfolding page_of
+loop-preserved c = spreading_next (page_of c.args.a.now) c.args.queries.now (solvable_proper c.args.a.now c.requires.0) c.requires.1 c.loop.invariant c.sweep.ensures
+
+pub shape_of-marks : goal.shape_of-marks
+shape_of-marks c = c.sweep.ensures.size ∙ sym c.requires.2.0
+
+pub returns : goal.returns
+unfolding page_of
+returns c = spreading_last (page_of c.args.a.now) c.args.queries.now (solvable_proper c.args.a.now c.requires.0) c.requires.1 c.loop.invariant c.sweep.ensures (omega arith)
