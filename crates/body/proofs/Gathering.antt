@@ -3,11 +3,11 @@ use mathlib.Core.Path.{◌≡◌, refl, sym, ◌∙◌, ap, subst}
 use mathlib.Core.Logic.{◌⊎◌, inl, inr, ⊎_elim}
 use mathlib.Core.Bool.{Bool, true, false, true≢false}
 use mathlib.Core.List.{List, [], ◌∷◌}
-use Prim.Native.Nat.{ℕ, zero, suc, ◌+◌, ◌-◌, ◌≤◌, ◌<◌, max}
+use Prim.Native.Nat.{ℕ, ◌+◌, ◌≤◌, ◌<◌, max}
 use native.Mathlib.Decide.{ℕ_discrete}
 use native.Mathlib.Numerals.{add-one}
 use native.Mathlib.Omega.{arith}
-use lib.ListN.{length, get_or, drop}
+use lib.ListN.{get_or, drop}
 use Rattle.fixpoint.specs.Interval.{Interval, Assign}
 use Rattle.fixpoint.proofs.KnowledgeOrder.{pair_eq}
 use Rattle.semantics.specs.Area.{page_of, top_of, conditions_of, count_of, used_of, line_at, first_line}
@@ -23,7 +23,7 @@ use Rattle.value.proofs.BodyEnds.{body_some, body_has, body_none}
 use Rattle.value.proofs.Defaults.{bodyless_in}
 use Rattle.ends.specs.Mirror.{mirrored}
 use Rattle.index.specs.Groups.{LinesByHead}
-use Rattle.body.specs.Body.{TakenLine, PassedLine, Taken, Largest, BestOf, Body}
+use Rattle.body.specs.Body.{Taken, Largest, BestOf, Body}
 use Rattle.page.specs.Solvable.{solvable}
 use Rattle.page.proofs.Solvable.{solvable_used}
 

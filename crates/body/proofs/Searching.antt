@@ -1,5 +1,5 @@
 -- The search for the first line of a condition with a low end, in the code's own terms. Assumes nothing.
-use mathlib.Core.Path.{◌≡◌, refl, sym, ◌∙◌, ap, subst}
+use mathlib.Core.Path.{◌≡◌, sym, ◌∙◌, ap, subst}
 use mathlib.Core.Logic.{⊎_elim, inl, inr}
 use mathlib.Core.Bool.{Bool, true, false, cond, true≢false}
 use mathlib.Core.List.{List, [], ◌∷◌}
@@ -8,7 +8,7 @@ use native.Mathlib.Numerals.{add-one}
 use native.Mathlib.Omega.{arith}
 use lib.Dec.{eqb}
 use lib.ListN.{get_or, drop}
-use Rattle.fixpoint.specs.Interval.{Interval, Assign}
+use Rattle.fixpoint.specs.Interval.{Assign}
 use Rattle.semantics.specs.Area.{page_of, top_of, conditions_of, count_of, line_at, first_line}
 use Rattle.semantics.specs.Body.{line_body}
 use Rattle.semantics.specs.Grade.{lower}

@@ -1,7 +1,7 @@
 -- Both ends of a body value over the lines of its condition, step by step. Assumes nothing.
-use Rattle.std.specs.Prelude.{◌≡◌, ◌⊎◌, Bool, true, false, List, [], ◌∷◌, ℕ, ◌≤◌, ◌<◌, max, get_or, drop}
+use Rattle.std.specs.Prelude.{◌≡◌, ◌⊎◌, Bool, true, false, List, [], ◌∷◌, ℕ, ◌≤◌, max, drop}
 use Rattle.fixpoint.specs.Interval.{Interval, Assign}
-use Rattle.semantics.specs.Area.{page_of, top_of, conditions_of, count_of, line_at}
+use Rattle.semantics.specs.Area.{page_of, top_of, conditions_of, line_at}
 use Rattle.semantics.specs.Body.{line_body, T}
 use Rattle.semantics.specs.Grade.{End, lower, upper}
 use Rattle.page.specs.Places.{LineOf}

@@ -1,4 +1,6 @@
 // Both ends of the body value T of a condition, over its lines: by the index, or by a scan where there is none. Which line holds the low end.
+#![tactic(auto)]
+
 ghost use Rattle.std.specs.Prelude.{◌≡◌, true, false, ◌<◌, get_or, drop};
 ghost use Rattle.fixpoint.specs.Interval.{Assign};
 ghost use Rattle.semantics.specs.Area.{top_of, conditions_of, line_at};
@@ -17,7 +19,7 @@ ghost use Rattle.page.specs.Solvable.{solvable};
 use value::Ends;
 
 // The largest ends over the lines of a condition that are seen, and whether there is one.
-#[derive(Drop)]
+#[derive(Clone, Copy)]
 pub struct Best {
     pub found: bool,
     pub low: u16,
