@@ -2,11 +2,11 @@
 use mathlib.Core.Path.{◌≡◌, refl, sym, ◌∙◌, ap}
 use mathlib.Core.Logic.{◌≢◌}
 use mathlib.Core.Bool.{true, false, not}
-use mathlib.Core.List.{List, [], ◌∷◌, ◌++◌}
+use mathlib.Core.List.{List}
 use Prim.Native.Nat.{ℕ, ◌+◌, ◌*◌, ◌-◌, ◌≤◌, ◌<◌}
 use native.Mathlib.Decide.{ℕ_discrete}
 use native.Mathlib.Omega.{arith}
-use lib.ListN.{length, get_or, set, length-set}
+use lib.ListN.{length, set, length-set}
 use lib.Seq.{set-get_or}
 use borrow.Author.Tests.{not-false}
 use Rattle.fixpoint.specs.Interval.{same, Interval}
@@ -14,7 +14,7 @@ use Rattle.fixpoint.proofs.Evaluation.{same_true}
 use Rattle.semantics.specs.Area.{page_of, top_of, conditions_of}
 use Rattle.semantics.specs.Grade.{lower}
 use Rattle.semantics.specs.RunArea.{interval_at, mark_at, run_sound}
-use Rattle.page.specs.Graded.{Graded, BodyValue}
+use Rattle.page.specs.Graded.{BodyValue}
 use Rattle.page.proofs.Head.{conditions_is}
 use Rattle.value.specs.Table.{end_of}
 use Rattle.ends.specs.Mirror.{Mirrored}
@@ -22,8 +22,8 @@ use Rattle.ends.proofs.Mirrors.{high_table, both_grades}
 use Rattle.ends.proofs.Stores.{table_agrees, table_stored}
 use Rattle.bits.specs.Words.{Removed}
 use Rattle.worklist.specs.Evaluation.{stored}
-use Rattle.worklist.specs.Waiting.{WordsMatch, StillMatches}
-use Rattle.worklist.proofs.Evaluation.{graded_of, long_of, stored_length, stored_apart, stored_interval, stored_mark, stored_mark_apart, evaluated_changed, evaluated_same}
+use Rattle.worklist.specs.Waiting.{StillMatches}
+use Rattle.worklist.proofs.Evaluation.{graded_of, long_of, stored_apart, stored_interval, stored_mark, stored_mark_apart, evaluated_changed, evaluated_same}
 use Rattle.worklist.proofs.Matching.{match_removed, still_then}
 use Rattle.body.specs.Body.{Body}
 use Rattle.step.specs.Beside.{Beside, Changed, EvaluatedBeside}

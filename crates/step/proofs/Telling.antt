@@ -11,7 +11,6 @@ use borrow.Author.Tests.{eq-eqb, ne_eqb}
 use Rattle.fixpoint.specs.ChaoticIteration.{put}
 use Rattle.fixpoint.specs.Interval.{Interval, Within, Assign}
 use Rattle.semantics.specs.Area.{page_of, top_of, conditions_of}
-use Rattle.semantics.specs.Body.{T}
 use Rattle.semantics.specs.Grade.{lower}
 use Rattle.semantics.specs.Holding.{first_with, line_holding}
 use Rattle.semantics.specs.Page.{Page}

@@ -1,6 +1,6 @@
 -- Which line an evaluation tells, from what its condition held before. Assumes nothing.
 use Rattle.std.specs.Prelude.{◌≡◌, ◌≢◌, List, ℕ, ◌<◌}
-use Rattle.fixpoint.specs.Interval.{Interval, Assign}
+use Rattle.fixpoint.specs.Interval.{Assign}
 use Rattle.semantics.specs.Area.{page_of, conditions_of}
 use Rattle.semantics.specs.Body.{T}
 use Rattle.semantics.specs.Holding.{line_holding}

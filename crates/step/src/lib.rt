@@ -1,4 +1,6 @@
 // An evaluation of a waiting condition: its cell, its dependants, and what is held beside the run area. Which line holds the new low end.
+#![tactic(auto)]
+
 ghost use Rattle.std.specs.Prelude.{◌≡◌, true, ◌≤◌, ◌<◌, ◌+◌, ◌*◌, length, get_or};
 ghost use Rattle.semantics.specs.Area.{page_of, top_of, conditions_of};
 ghost use Rattle.semantics.specs.Grade.{lower};
@@ -56,7 +58,7 @@ pub fn step(
 }
 
 // A condition that is evaluated, and what it held before.
-#[derive(Drop)]
+#[derive(Clone, Copy)]
 pub struct Before {
     pub condition: u16,
     pub low: u16,
