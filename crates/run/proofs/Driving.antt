@@ -11,7 +11,7 @@ use Rattle.semantics.specs.Call.{drove, Answer, outcome}
 use Rattle.semantics.specs.Operation.{Left, drive_of}
 use Rattle.semantics.specs.Page.{Page}
 use Rattle.semantics.specs.RunArea.{mark_at, run_of, worklist_of, reached_of, run_sound}
-use Rattle.semantics.specs.Worklist.{Worklist, evaluated, holder, lowest, Status, rest, spent, status_as, status, Driven, last_of, one_more, driven}
+use Rattle.semantics.specs.Worklist.{Worklist, evaluated, holder, Status, status_as, status, Driven, last_of, one_more, driven}
 use Rattle.semantics.proofs.Areas.{Encodable, sound_encodable, state_back, reached_back, rest_back, reencoded, waits_at}
 use Rattle.semantics.proofs.Drives.{driven_none, driven_spent, driven_next, driven_line}
 use Rattle.semantics.proofs.Operations.{drive_done}
@@ -24,7 +24,7 @@ use Rattle.step.specs.Before.{ToldBefore}
 use Rattle.step.specs.Beside.{Beside}
 use Rattle.step.proofs.Telling.{told_holder}
 use Rattle.page.proofs.Head.{conditions_is}
-use Rattle.run.specs.Answers.{Answered, status_if}
+use Rattle.run.specs.Answers.{Answered}
 use Rattle.run.specs.Steps.{drive_left, Ready, LastLine, Stopped}
 use Rattle.run.proofs.Answering.{rest_of, waits_of}
 use Rattle.page.specs.Solvable.{solvable}

@@ -6,7 +6,7 @@ use Rattle.semantics.specs.Worklist.{Status, rest, spent}
 use Rattle.run.specs.declared.EvaluateAnswer.{EvaluateAnswer}
 use Rattle.run.specs.declared.EvaluateAnswer.TheVariants as evaluated
 use Rattle.run.specs.declared.ValueAnswer.{ValueAnswer}
-use Rattle.run.specs.declared.ValueAnswer.TheVariants as Valued-as
+use Rattle.run.specs.declared.ValueAnswer.TheVariants as valued_as
 use Rattle.run.specs.declared.LineAnswer.{LineAnswer}
 use Rattle.run.specs.declared.LineAnswer.TheVariants as held
 use Rattle.run.specs.declared.DriveAnswer.{DriveAnswer}
@@ -25,8 +25,8 @@ status_if false = spent
 
 -- the number of a refusal, or the interval and whether the whole run is at rest
 abbrev pub value_answer_of : ValueAnswer → Answer
-value_answer_of (Valued-as.Refused k) = refused k
-value_answer_of (Valued-as.Held l h r) = valued (record { low = l; high = h }) (status_if r)
+value_answer_of (valued_as.Refused k) = refused k
+value_answer_of (valued_as.Held l h r) = valued (record { low = l; high = h }) (status_if r)
 
 -- the number of a refusal, or the line
 abbrev pub line_answer_of : LineAnswer → Answer

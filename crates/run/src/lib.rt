@@ -1,4 +1,6 @@
 // The operations Evaluate, Drive, Value and Line held.
+#![tactic(auto)]
+
 ghost use Rattle.std.specs.Prelude.{◌≡◌, true, ◌*◌, ◌≤◌, ◌<◌, length};
 ghost use Rattle.semantics.specs.Area.{sound, page_of, conditions_of};
 ghost use Rattle.semantics.specs.Operation.{evaluate_of, drive_of, value_of, line_held_of, drive_workspace, index_length};
@@ -15,7 +17,7 @@ ghost use Rattle.page.specs.Solvable.{solvable};
 use step::Before;
 
 // What an evaluation answers: the number of a refusal, or whether the interval changed and which line holds its low end.
-#[derive(Drop)]
+#[derive(Clone, Copy)]
 pub enum EvaluateAnswer {
     Refused(u8),
     Unchanged(u16),
@@ -23,7 +25,7 @@ pub enum EvaluateAnswer {
 }
 
 // Whether an evaluation changed the interval, and which line holds its low end.
-#[derive(Drop)]
+#[derive(Clone, Copy)]
 struct Told {
     changed: bool,
     line: u16,
@@ -78,7 +80,7 @@ pub fn evaluate(page: &[u16], run: &mut [u16], condition: u32) -> EvaluateAnswer
 }
 
 // What a value call answers: the number of a refusal, or the interval held and whether the whole run is at rest.
-#[derive(Drop)]
+#[derive(Clone, Copy)]
 pub enum ValueAnswer {
     Refused(u8),
     Held { low: u16, high: u16, rest: bool },
@@ -110,7 +112,7 @@ pub fn value(page: &[u16], run: &[u16], condition: u32) -> ValueAnswer
 }
 
 // What a line call answers: the number of a refusal, or the line.
-#[derive(Drop)]
+#[derive(Clone, Copy)]
 pub enum LineAnswer {
     Refused(u8),
     Held(u16),
@@ -150,7 +152,7 @@ pub fn line_held(page: &[u16], run: &[u16], condition: u32) -> LineAnswer
 }
 
 // What a drive answers: the number of a refusal, or the count of evaluations, the line that the last one told, and whether the run is then at rest.
-#[derive(Drop)]
+#[derive(Clone, Copy)]
 pub enum DriveAnswer {
     Refused(u8),
     Rest { taken: u32, line: u16 },
@@ -158,7 +160,7 @@ pub enum DriveAnswer {
 }
 
 // Where the evaluations of a drive stop: how many were taken, whether none waits, and what the condition of the last one held before it.
-#[derive(Drop)]
+#[derive(Clone, Copy)]
 struct Steps {
     taken: u32,
     rest: bool,
@@ -257,7 +259,7 @@ fn drive_over(
 }
 
 // What a drive takes, and whether the run is then at rest.
-#[derive(Drop)]
+#[derive(Clone, Copy)]
 pub struct Drove {
     pub taken: u32,
     pub rest: bool,
