@@ -1,5 +1,5 @@
 -- What each call on the shared area answers and leaves, cause by cause, in the order of the code's tests. Assumes nothing.
-use mathlib.Core.Path.{◌≡◌, refl, sym, ap}
+use mathlib.Core.Path.{◌≡◌, refl}
 use mathlib.Core.Bool.{true, false}
 use mathlib.Core.List.{List}
 use Prim.Native.Nat.{ℕ, ◌*◌, ◌≤◌, ◌<◌}
@@ -7,9 +7,9 @@ use lib.ListN.{length}
 use borrow.Author.Tests.{le-leb, lt-leb}
 use Rattle.semantics.specs.Area.{sound, page_of, conditions_of}
 use Rattle.semantics.specs.Call.{evaluate, refused}
-use Rattle.semantics.specs.Operation.{Opened, refused_opening, open_of, Left, operation}
+use Rattle.semantics.specs.Operation.{refused_opening, open_of, operation}
 use Rattle.semantics.specs.RunArea.{run_sound}
-use Rattle.semantics.specs.Stalls.{Stall, first, second, shared_length, part_of, with_part, open_stall, evaluate_stall, refused_turn, Turn, turn_of}
+use Rattle.semantics.specs.Stalls.{Stall, first, second, shared_length, part_of, with_part, open_stall, evaluate_stall, refused_turn, turn_of}
 use Rattle.run.specs.Answers.{Answered}
 use Rattle.run.proofs.Answering.{answered}
 

@@ -9,7 +9,7 @@ use native.Mathlib.Nat.{zero-add, suc-add}
 use native.Mathlib.Omega.{arith}
 use lib.ListN.{drop}
 use Rattle.semantics.specs.Area.{sound, page_of}
-use Rattle.semantics.specs.Call.{Answer, drove, drive}
+use Rattle.semantics.specs.Call.{drove, drive}
 use Rattle.semantics.specs.Operation.{Left, operation, drive_of}
 use Rattle.semantics.specs.Page.{Page}
 use Rattle.semantics.specs.RunArea.{run_of, run_sound, reached_of, worklist_of}

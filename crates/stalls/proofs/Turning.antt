@@ -1,8 +1,8 @@
 -- The three drives of a turn, on the shared area. Assumes nothing.
-use mathlib.Core.Path.{◌≡◌, refl, sym, ◌∙◌, ap, ap₂}
+use mathlib.Core.Path.{◌≡◌, sym, ◌∙◌, ap, ap₂}
 use mathlib.Core.Bool.{Bool, true}
 use mathlib.Core.List.{List, ◌++◌}
-use Prim.Native.Nat.{ℕ, ◌+◌, ◌-◌, ◌*◌, ◌≤◌}
+use Prim.Native.Nat.{ℕ, ◌+◌, ◌-◌, ◌≤◌}
 use native.Mathlib.Omega.{arith}
 use lib.ListN.{length, take, drop, take-append-drop}
 use lib.Seq.{drop-drop}
@@ -11,13 +11,13 @@ use Rattle.semantics.specs.Call.{drive}
 use Rattle.semantics.specs.Operation.{drive_of}
 use Rattle.semantics.specs.Page.{Page}
 use Rattle.semantics.specs.RunArea.{run_sound}
-use Rattle.semantics.specs.Stalls.{Stall, first, second, other, half, run_length, shared_length, part_of, with_part, Told, turned, turn_of, DroveAs}
+use Rattle.semantics.specs.Stalls.{Stall, first, second, other, half, run_length, shared_length, part_of, Told, turned, turn_of, DroveAs}
 use Rattle.semantics.proofs.StallsParts.{length_operation, length_part, part_with, length_with, other_kept, past_kept}
 use Rattle.semantics.proofs.StallsSplit.{halves_are}
 use Rattle.semantics.proofs.StallsTurn.{Ready}
 use Rattle.run.specs.Answers.{status_if}
 use Rattle.stalls.specs.Answers.{PartDrives}
-use Rattle.stalls.proofs.ThreeDrives.{drive_within, drive_sound, turn_within, turn_tells, turn_leaves_three}
+use Rattle.stalls.proofs.ThreeDrives.{drive_within, drive_sound, turn_tells, turn_leaves_three}
 
 -- the two parts and what lies past them are the area
 parts_are : (page : Page) (area : List ℕ) → area ≡ part_of page first area ++ (part_of page second area ++ drop (shared_length page) area)

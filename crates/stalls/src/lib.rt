@@ -1,4 +1,6 @@
 // Two runs on one page, in one shared area: opening and evaluating one of them, and a turn of evaluations that both share.
+#![tactic(auto)]
+
 ghost use Rattle.std.specs.Prelude.{◌≡◌, true, ◌≤◌, length};
 ghost use Rattle.semantics.specs.Area.{sound, page_of};
 ghost use Rattle.semantics.specs.RunArea.{run_sound};
@@ -11,7 +13,7 @@ use reach::OpenAnswer;
 use run::{Drove, EvaluateAnswer};
 
 // The first stall's run, or the second's.
-#[derive(Drop)]
+#[derive(Clone, Copy)]
 pub enum Stall {
     First,
     Second,
@@ -81,7 +83,7 @@ fn drive_part(page: &[u16], stall: Stall, area: &mut [u16], allowance: u32) -> D
 }
 
 // What a turn answers: the number of a refusal, with the stall or 0; or what each stall took, and whether it rests.
-#[derive(Drop)]
+#[derive(Clone, Copy)]
 pub enum TurnAnswer {
     Refused { number: u8, stall: u8 },
     Turned { first: Drove, second: Drove },
