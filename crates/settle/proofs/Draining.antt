@@ -3,7 +3,7 @@ use mathlib.Core.Path.{◌≡◌, refl, sym, ◌∙◌, ap, subst}
 use mathlib.Core.Logic.{◌≢◌}
 use mathlib.Core.Bool.{Bool, true, false, ◌&&◌, ◌||◌, or-true, true≢false}
 use mathlib.Core.List.{List, [], ◌∷◌}
-use Prim.Native.Nat.{ℕ, zero, suc, ◌+◌, ◌*◌, ◌-◌, ◌≤◌, ◌<◌}
+use Prim.Native.Nat.{ℕ, zero, suc, ◌+◌, ◌*◌, ◌≤◌, ◌<◌}
 use native.Mathlib.Decide.{ℕ_discrete}
 use native.Mathlib.Omega.{arith}
 use lib.Dec.{eqb}
@@ -21,7 +21,7 @@ use Rattle.bits.specs.Words.{has, Removed, AnyIn}
 use Rattle.index.specs.Groups.{LinesByHead}
 use Rattle.index.specs.Parts.{Users}
 use Rattle.index.specs.Readers.{among, lines_read}
-use Rattle.value.specs.Table.{end_of, other}
+use Rattle.value.specs.Table.{end_of}
 use Rattle.settle.specs.Scratch.{held, room_at, Half, Lookable, Looked, RestsAt, Settled}
 use Rattle.settle.specs.Waiting.{WaitSet, Woken, Waiting}
 use Rattle.settle.proofs.Members.{waiters, few_wait, else_same, rest_in, fewer}

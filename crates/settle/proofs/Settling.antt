@@ -5,7 +5,7 @@ use mathlib.Core.List.{List}
 use Prim.Native.Nat.{ℕ, ◌<◌}
 use native.Mathlib.Omega.{arith}
 use Rattle.semantics.specs.Area.{page_of, conditions_of, count_of}
-use Rattle.semantics.specs.Body.{T, unknown_by_default}
+use Rattle.semantics.specs.Body.{unknown_by_default}
 use Rattle.semantics.specs.Grade.{End}
 use Rattle.semantics.specs.Table.{member}
 use Rattle.page.specs.Places.{place_of}

@@ -1,29 +1,26 @@
 -- The set of those that wait: heads that join it, and the groups of an index. Assumes nothing.
-use mathlib.Core.Path.{◌≡◌, refl, sym, ◌∙◌, ap, subst}
-use mathlib.Core.Logic.{◌⊎◌, inl, inr, ⊎_elim}
-use mathlib.Core.Bool.{Bool, true, false, or-true, true≢false}
-use mathlib.Core.List.{List, [], ◌∷◌}
-use Prim.Native.Nat.{ℕ, zero, suc, ◌+◌, ◌*◌, ◌-◌, ◌/◌, ◌≤◌, ◌<◌}
+use mathlib.Core.Path.{◌≡◌, refl, sym, ◌∙◌, subst}
+use mathlib.Core.Logic.{inl, inr, ⊎_elim}
+use mathlib.Core.Bool.{Bool, true, or-true}
+use mathlib.Core.List.{List}
+use Prim.Native.Nat.{ℕ, ◌+◌, ◌*◌, ◌-◌, ◌≤◌, ◌<◌}
 use native.Mathlib.Decide.{ℕ_discrete}
 use native.Mathlib.Omega.{arith}
 use lib.Dec.{eqb}
 use lib.ListN.{length, get_or, take, drop}
 use borrow.Author.Tests.{eq-eqb, eqb-true}
-use Rattle.semantics.specs.Area.{page_of, conditions_of}
+use Rattle.semantics.specs.Area.{conditions_of}
 use Rattle.semantics.specs.Grade.{End}
-use Rattle.semantics.proofs.Soundness.{both_true}
 use Rattle.semantics.proofs.Table.{or_cases}
 use Rattle.page.proofs.Head.{head_of}
 use Rattle.bits.specs.Words.{has, Inserted}
-use Rattle.index.specs.Groups.{Groups, LinesByHead, HeadsByLiteral}
+use Rattle.index.specs.Groups.{LinesByHead, HeadsByLiteral}
 use Rattle.index.specs.Parts.{Lines, Users, MaybeUsers}
-use Rattle.index.specs.Readers.{among, lines_read}
 use Rattle.index.proofs.Grouped.{group_within}
 use Rattle.index.proofs.Parts.{has_lines, has_users}
 use Rattle.index.proofs.Readers.{reads_below}
 use Rattle.settle.specs.Waiting.{WaitSet, HeadsWait, Woken, Indexed, MaybeIndexed}
 use Rattle.page.specs.Solvable.{solvable}
-use Rattle.page.proofs.Solvable.{solvable_proper}
 
 -- heads join the set one after the other
 module _ (heads : List ℕ) (from to : ℕ) (words₀ : List ℕ) where

@@ -1,4 +1,6 @@
 // One end of every reached condition, settled while the other ends stay.
+#![tactic(auto)]
+
 ghost use Rattle.std.specs.Prelude.{◌≡◌, true, ℕ, ◌+◌, ◌*◌, ◌≤◌, ◌<◌, length, get_or};
 ghost use Rattle.semantics.specs.Area.{conditions_of, count_of};
 ghost use Rattle.page.specs.Places.{place_of, LineIn};
@@ -22,7 +24,7 @@ fn base_of(n: usize, end: End) -> usize
 }
 
 // How many conditions there are, where the table of an end begins, and what the end adds before a division.
-#[derive(Drop)]
+#[derive(Clone, Copy)]
 struct Figures {
     n: usize,
     base: usize,
