@@ -1,4 +1,6 @@
 // The high ends that the lines give the reached conditions unknown by default, over a table of high ends: one sweep over the page.
+#![tactic(auto)]
+
 ghost use Rattle.std.specs.Prelude.{◌≡◌, true, ◌≤◌, ◌<◌, length, get_or};
 ghost use Rattle.semantics.specs.Area.{page_of, top_of, conditions_of};
 ghost use Rattle.semantics.specs.Body.{bodyless};
