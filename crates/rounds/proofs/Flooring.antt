@@ -9,7 +9,7 @@ use native.Mathlib.Omega.{arith}
 use lib.ListN.{length, get_or, drop}
 use Rattle.fixpoint.specs.Interval.{Interval, Within}
 use Rattle.fixpoint.specs.KnowledgeOrder.{Under, Alike}
-use Rattle.fixpoint.specs.AlternatingFixpoint.{mix, lows}
+use Rattle.fixpoint.specs.AlternatingFixpoint.{mix}
 use Rattle.fixpoint.proofs.Cond.{cond_true, cond_false, cond_most, cond_least, cond_le}
 use Rattle.fixpoint.proofs.KnowledgeOrder.{pair_eq}
 use Rattle.fixpoint.proofs.Merge.{floor_in}

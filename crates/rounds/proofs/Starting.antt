@@ -163,12 +163,12 @@ module _ (a users s₀ words₀ : List ℕ) where
   size = conditions_of a
 
   -- the number of a negation
-  abbrev over_high_lem : ℕ → ℕ
-  over_high_lem d = top_of a - get_or s₀ (2 * conditions_of a + 2 * d) 0
+  abbrev over_high : ℕ → ℕ
+  over_high d = top_of a - get_or s₀ (2 * conditions_of a + 2 * d) 0
 
   -- whoever negates d is woken, if the number is another
   abbrev WokenFor : List ℕ → ℕ → Type 0
-  WokenFor words d = get_or s₀ (2 * d + 1) 0 ≢ over_high_lem d → (h : ℕ) → lines_read (2 * d + 1) (page_of a).lines h ≡ true → has words h ≡ true
+  WokenFor words d = get_or s₀ (2 * d + 1) 0 ≢ over_high d → (h : ℕ) → lines_read (2 * d + 1) (page_of a).lines h ≡ true → has words h ≡ true
 
   pub record StartingLows (s words : List ℕ) (c : ℕ) : Type 0 where
     pub half : HighsIn a s₀
@@ -178,7 +178,7 @@ module _ (a users s₀ words₀ : List ℕ) where
     pub plain : (d : ℕ) → get_or s (2 * d) 0 ≡ get_or s₀ (2 * d) 0
     pub over : (i : ℕ) → 2 * size ≤ i → get_or s i 0 ≡ get_or s₀ i 0
     pub behind : (d : ℕ) → c ≤ d → get_or s (2 * d + 1) 0 ≡ get_or s₀ (2 * d + 1) 0
-    pub negated : (d : ℕ) → d < c → get_or s (2 * d + 1) 0 ≡ over_high_lem d
+    pub negated : (d : ℕ) → d < c → get_or s (2 * d + 1) 0 ≡ over_high d
     pub beyond : drop (4 * size) s ≡ drop (4 * size) s₀
     pub set_in : WaitSet size words
     pub kept : (d : ℕ) → d < 512 → has words₀ d ≡ true → has words d ≡ true
@@ -209,7 +209,7 @@ module _ (a users s₀ words₀ : List ℕ) where
       y : ℕ
       y = top_of a - get_or s (2 * size + 2 * c) 0
 
-      y_is : y ≡ over_high_lem c
+      y_is : y ≡ over_high c
       unfolding y
       y_is = ap (λ (k : ℕ). top_of a - k) (v.over (2 * size + 2 * c) (omega arith))
 
@@ -243,7 +243,7 @@ module _ (a users s₀ words₀ : List ℕ) where
             plain = λ d. other_at (2 * d) (λ z. omega arith) ∙ v.plain d;
             over = λ j m. other_at j (λ z. omega arith) ∙ v.over j m;
             behind = λ d m. other_at (2 * d + 1) (λ z. omega arith) ∙ v.behind d (omega arith);
-            negated = upto (λ d. get_or s' (2 * d + 1) 0 ≡ over_high_lem d) c (λ d m. other_at (2 * d + 1) (λ z. omega arith) ∙ v.negated d m)
+            negated = upto (λ d. get_or s' (2 * d + 1) 0 ≡ over_high d) c (λ d m. other_at (2 * d + 1) (λ z. omega arith) ∙ v.negated d m)
                 (ap (λ (x : List ℕ). get_or x (2 * c + 1) 0) s_is ∙ get_or-set_same s (2 * c + 1) y 0 (omega (arith, v.same_length, v.half.1)) ∙ y_is);
             beyond = ap (drop (4 * size)) s_is ∙ drop-set-lt (4 * size) s (2 * c + 1) y (omega arith) ∙ v.beyond;
             set_in = r.set_in;

@@ -1,5 +1,7 @@
 // Rounds of two halves: the least high ends over the floor held, then the least floor over the high ends held. The floor is the low ends, and the
 // high ends of the conditions that are unknown by default.
+#![tactic(auto)]
+
 ghost use Rattle.std.specs.Prelude.{◌≡◌, true, ◌⊎◌, [], ◌∷◌, ℕ, ◌≤◌, ◌<◌, ◌+◌, ◌*◌, length, get_or, drop};
 ghost use Rattle.semantics.specs.Area.{line_at, page_of, top_of, conditions_of};
 ghost use Rattle.page.specs.Places.{LineIn};
