@@ -13,7 +13,7 @@ use Rattle.fixpoint.proofs.Cond.{by_bool, cond_true, cond_false}
 use Rattle.fixpoint.proofs.KnowledgeOrder.{pair_eq}
 use Rattle.semantics.specs.Area.{page_of, top_of, conditions_of}
 use Rattle.semantics.specs.Body.{T}
-use Rattle.semantics.specs.Grade.{lower, upper}
+use Rattle.semantics.specs.Grade.{lower}
 use Rattle.semantics.specs.Table.{member, any_below}
 use Rattle.semantics.proofs.Table.{any_true}
 use Rattle.page.proofs.Head.{head_of}
@@ -79,7 +79,7 @@ module _ {a : List ℕ} {m : List Bool} {users tops : List ℕ} {k : ℕ} {s low
   low_table : EndTable lower (top_of a) n (held n s) (take (2 * n) s)
   low_table =
       table_of_lem lower (top_of a) n (held n s) (take (2 * n) s)
-      (λ c l. record { plain = seen_at (2 * c) (omega arith); negative = seen_at (2 * c + 1) (omega arith) ∙ b.tables.over_high_lem c l })
+      (λ c l. record { plain = seen_at (2 * c) (omega arith); negative = seen_at (2 * c + 1) (omega arith) ∙ b.tables.over_high c l })
 
   pub advance_notable : Notable a m s zeros
   advance_notable =
@@ -106,7 +106,7 @@ module _ {a : List ℕ} {m : List Bool} {users tops : List ℕ} {k : ℕ} {s low
   seen_low c l = seen_at (2 * c) (omega arith)
 
   seen_high : (c : ℕ) → c < n → (seen a s c).high ≡ get_or s (2 * n + 2 * c) 0
-  seen_high c l = omega (arith, seen_at (2 * c + 1) (omega arith), b.tables.over_high_lem c l, (b.tables.within c l).high_in)
+  seen_high c l = omega (arith, seen_at (2 * c + 1) (omega arith), b.tables.over_high c l, (b.tables.within c l).high_in)
 
   past_same : (c : ℕ) → c < n → T (page_of a) (seen a s) c ≡ T (page_of a) (past a s) c
   past_same c l =
@@ -170,7 +170,7 @@ module _ {a : List ℕ} {m : List Bool} {users tops : List ℕ} {k : ℕ} {s low
             marked = b.tables.marked;
             known = next_tops.known;
             within = λ c l. omega (arith, v.noting.highs c l, (b.tables.within c l).high_in);
-            over_high_lem = λ c l. table₁ (2 * c + 1) (omega arith) ∙ b.tables.over_high_lem c l ∙ ap (λ (x : ℕ). top_of a - x) (sym (v.noting.highs c l));
+            over_high = λ c l. table₁ (2 * c + 1) (omega arith) ∙ b.tables.over_high c l ∙ ap (λ (x : ℕ). top_of a - x) (sym (v.noting.highs c l));
             look_in = x;
             lows_in = y;
           }
@@ -264,7 +264,7 @@ module _ {a : List ℕ} {m : List Bool} {users tops : List ℕ} {k : ℕ} {s low
                   high_in = omega (arith, highs₃ c l, v.noting.highs c l, (b.tables.within c l).high_in, no_higher c l);
                 };
                 over_low = λ c l. omega (arith, t.upper (2 * n + (2 * c + 1)) (omega arith), h.negations c l, lows₃ c l, grade₁ c l);
-                over_high_lem = λ c l. t.negations c ∙ h.over_high_lem c l ∙ ap (λ (x : ℕ). top_of a - x) (sym (highs₃ c l));
+                over_high = λ c l. t.negations c ∙ h.over_high c l ∙ ap (λ (x : ℕ). top_of a - x) (sym (highs₃ c l));
                 apart = λ c l r. highs₃ c l ∙ apart₂ c l r;
               }
             where
@@ -322,7 +322,7 @@ module _ {a : List ℕ} {m : List Bool} {users tops : List ℕ} {k : ℕ} {s low
           negation₃ : (length users ≡ 0 → ⊥) → (c e : ℕ) → c < n → e < n → has lows' c ≡ false → reads (page_of a) true c e ≡ true → get_or s₃ (2 * e + 1) 0 ≡ get_or s (2 * e + 1) 0
           negation₃ d c e l i q f =
               elim (ℕ_discrete (get_or s₂ (2 * n + 2 * e) 0) (get_or s₁ (2 * n + 2 * e) 0)) [
-                | yes z ↦ t.negations e ∙ h.over_high_lem e i ∙ ap (λ (x : ℕ). top_of a - x) (z ∙ v.noting.highs e i) ∙ sym (b.tables.over_high_lem e i)
+                | yes z ↦ t.negations e ∙ h.over_high e i ∙ ap (λ (x : ℕ). top_of a - x) (z ∙ v.noting.highs e i) ∙ sym (b.tables.over_high e i)
                 | no z ↦ absurd (⊎_elim d (λ g. true≢false (sym (t.lows_kept c (omega (arith, few)) (g e i z c f)) ∙ q)) h.lows_woken)
               ]
 

@@ -117,7 +117,7 @@ module _ (a : List ℕ) (m : List Bool) (s₀ : List ℕ) where
         record {
           low = get_or-set_other s₃ (2 * size + (2 * c + 1)) (2 * c) (top_of a) 0 (λ z. omega arith) ∙ get_or-set_other s₂ (2 * size + 2 * c) (2 * c) y 0 (λ z. omega arith)
               ∙ get_or-set_other s₁ (2 * c + 1) (2 * c) (top_of a - y) 0 (λ z. omega arith) ∙ get_or-set_same s (2 * c) 0 0 (omega (arith, v.long));
-          over_high_lem = get_or-set_other s₃ (2 * size + (2 * c + 1)) (2 * c + 1) (top_of a) 0 (λ z. omega arith) ∙ get_or-set_other s₂ (2 * size + 2 * c) (2 * c + 1) y 0 (λ z. omega arith)
+          over_high = get_or-set_other s₃ (2 * size + (2 * c + 1)) (2 * c + 1) (top_of a) 0 (λ z. omega arith) ∙ get_or-set_other s₂ (2 * size + 2 * c) (2 * c + 1) y 0 (λ z. omega arith)
               ∙ get_or-set_same s₁ (2 * c + 1) (top_of a - y) 0 (omega (arith, v.long, long₁)) ∙ ap (λ (k : ℕ). top_of a - k) q;
           high = get_or-set_other s₃ (2 * size + (2 * c + 1)) (2 * size + 2 * c) (top_of a) 0 (λ z. omega arith) ∙ get_or-set_same s₂ (2 * size + 2 * c) y 0 (omega (arith, v.long, long₂)) ∙ q;
           over_low = get_or-set_same s₃ (2 * size + (2 * c + 1)) (top_of a) 0 (omega (arith, v.long, long₃));
@@ -128,7 +128,7 @@ module _ (a : List ℕ) (m : List Bool) (s₀ : List ℕ) where
         let b = v.each d k in
         record {
           low = else' (2 * d) (λ z. omega arith) (λ z. omega arith) (λ z. omega arith) (λ z. omega arith) ∙ b.low;
-          over_high_lem = else' (2 * d + 1) (λ z. omega arith) (λ z. omega arith) (λ z. omega arith) (λ z. omega arith) ∙ b.over_high_lem;
+          over_high = else' (2 * d + 1) (λ z. omega arith) (λ z. omega arith) (λ z. omega arith) (λ z. omega arith) ∙ b.over_high;
           high = else' (2 * size + 2 * d) (λ z. omega arith) (λ z. omega arith) (λ z. omega arith) (λ z. omega arith) ∙ b.high;
           over_low = else' (2 * size + (2 * d + 1)) (λ z. omega arith) (λ z. omega arith) (λ z. omega arith) (λ z. omega arith) ∙ b.over_low;
         }

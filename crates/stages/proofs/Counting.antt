@@ -51,7 +51,7 @@ module _ {a : List ℕ} {m : List Bool} {s : List ℕ} (b : CountReady a m s) wh
           shut = b.shut;
           within = λ c l. record { low_in = omega (arith, (v.each c l).low); high_in = omega (arith, (v.each c l).high, high_least c) };
           over_low = λ c l. omega (arith, (v.each c l).over_low, (v.each c l).low);
-          over_high_lem = λ c l. (v.each c l).over_high_lem ∙ ap (λ (x : ℕ). top_of a - x) (sym (v.each c l).high);
+          over_high = λ c l. (v.each c l).over_high ∙ ap (λ (x : ℕ). top_of a - x) (sym (v.each c l).high);
           apart = λ c l r. (v.each c l).high ∙ cond_false (top_of a) 0 r;
         }
 

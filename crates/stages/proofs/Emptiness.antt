@@ -7,7 +7,7 @@ use lib.Bits.{bit_or}
 use lib.Dec.{eqb}
 use lib.ListN.{get_or}
 use Rattle.bits.specs.Words.{AnyIn}
-use Rattle.bits.proofs.Bits.{bit, bit_lt, bit_zero, bit_or}
+use Rattle.bits.proofs.Bits.{bit, bit_lt, bit_zero, bit_or_lem}
 
 digits_none : (x y : ℕ) → x < 2 → y < 2 → bit_or x y ≡ 0 → (x ≡ 0) × (y ≡ 0)
 digits_none zero zero a b h = (refl, refl)
@@ -20,7 +20,7 @@ digits_none (suc (suc x)) y a b h = absurd (omega arith)
 
 -- a digit that two words do not have together neither has
 or_none : (x y j : ℕ) → bit (bit_or x y) j ≡ 0 → (bit x j ≡ 0) × (bit y j ≡ 0)
-or_none x y j h = digits_none (bit x j) (bit y j) (bit_lt x j) (bit_lt y j) (sym (bit_or x y j) ∙ h)
+or_none x y j h = digits_none (bit x j) (bit y j) (bit_lt x j) (bit_lt y j) (sym (bit_or_lem x y j) ∙ h)
 
 module _ (words : List ℕ) where
   abbrev word : ℕ → ℕ

@@ -215,7 +215,7 @@ module _ {a users : List ℕ} {m : List Bool} {tops s look lows : List ℕ} (b :
         same_length = refl;
         lows = λ c l. refl;
         negations = λ c l. refl;
-        over_high_lem = b.over_high_lem;
+        over_high = b.over_high;
         beyond = refl;
         lows_in = b.lows_in;
         look_in = b.look_in;
@@ -240,7 +240,7 @@ module _ {a users : List ℕ} {m : List Bool} {tops s look lows : List ℕ} (b :
           within = λ c l. ⊎_elim (λ y. omega (arith, y.same, b.within c l)) (λ y. omega (arith, y.0.fallen, y.0.over, b.within c l)) (v.each c l);
           lowered_in = v.lowered_in;
           lows_in = b.lows_in;
-          others = λ c l q. v.table (2 * c + 1) (omega arith) ∙ b.over_high_lem c l ∙ ap (λ (x : ℕ). top_of a - x) (sym (stays c l q));
+          others = λ c l q. v.table (2 * c + 1) (omega arith) ∙ b.over_high c l ∙ ap (λ (x : ℕ). top_of a - x) (sym (stays c l q));
         }
 
     module _ {s₂ lows' : List ℕ} (g : LowsBegun a s₁ s₂) (o : Woke a users s₁ s₂ lows lows') where
@@ -254,7 +254,7 @@ module _ {a users : List ℕ} {m : List Bool} {tops s look lows : List ℕ} (b :
       negation : (c : ℕ) → c < size → get_or s₂ (2 * size + 2 * c) 0 ≢ get_or s (2 * size + 2 * c) 0 → get_or s₁ (2 * c + 1) 0 ≢ get_or s₂ (2 * c + 1) 0
       negation c l d e =
           ⊎_elim (λ y. d (highs₂ c l ∙ y.same))
-          (λ y. absurd (omega (arith, e, y.0.over, y.0.fallen, b.within c l, b.over_high_lem c l, v.table (2 * c + 1) (omega arith), g.negated c l))) (v.each c l)
+          (λ y. absurd (omega (arith, e, y.0.over, y.0.fallen, b.within c l, b.over_high c l, v.table (2 * c + 1) (omega arith), g.negated c l))) (v.each c l)
 
       each₂ : (c : ℕ) → c < size → HighStays a m tops s s₂ c ⊎ HighFalls a m tops s s₂ c
       each₂ c l =
@@ -278,7 +278,7 @@ module _ {a users : List ℕ} {m : List Bool} {tops s look lows : List ℕ} (b :
             same_length = g.same_length ∙ v.same_length;
             lows = λ c l. low_eq (g.intervals c l) ∙ v.table (2 * c) (omega arith);
             negations = λ c l. g.negations c l ∙ v.negations c l;
-            over_high_lem = λ c l. g.negated c l ∙ ap (λ (x : ℕ). top_of a - x) (sym (highs₂ c l));
+            over_high = λ c l. g.negated c l ∙ ap (λ (x : ℕ). top_of a - x) (sym (highs₂ c l));
             beyond = g.beyond ∙ v.beyond;
             lows_in = o.set_in;
             look_in = v.look_in;

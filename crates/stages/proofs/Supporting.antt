@@ -172,7 +172,7 @@ module _ {a : List ℕ} {m : List Bool} {users tops : List ℕ} {k : ℕ} {s loo
             shut = b.tables.shut;
             within = within₁;
             over_low = tops_half.negated;
-            over_high_lem = λ c l. v.table (2 * c + 1) (omega arith) ∙ b.tables.over_high_lem c l ∙ ap (λ (i : ℕ). top_of a - i) (sym (same₁ c l));
+            over_high = λ c l. v.table (2 * c + 1) (omega arith) ∙ b.tables.over_high c l ∙ ap (λ (i : ℕ). top_of a - i) (sym (same₁ c l));
             apart = apart₁;
           }
 
@@ -232,7 +232,7 @@ module _ {a : List ℕ} {m : List Bool} {users tops : List ℕ} {k : ℕ} {s loo
             within = λ c l. (x.half.within c l).high_in;
             lowered_in = v.lowered_in;
             lows_in = b.lows_wait.set_in;
-            others = λ c l q. negation₂ c l ∙ b.tables.over_high_lem c l ∙ ap (λ (i : ℕ). top_of a - i) (sym (same₂ c l q));
+            others = λ c l q. negation₂ c l ∙ b.tables.over_high c l ∙ ap (λ (i : ℕ). top_of a - i) (sym (same₂ c l q));
           }
 
       -- after the negations
@@ -252,7 +252,7 @@ module _ {a : List ℕ} {m : List Bool} {users tops : List ℕ} {k : ℕ} {s loo
               shut = b.tables.shut;
               within = λ c l. subst (Within (top_of a)) (sym (g.intervals c l)) (x.half.within c l);
               over_low = λ c l. g.negations c l ∙ x.half.negated c l ∙ ap (λ (i : ℕ). top_of a - i) (sym (low_eq (g.intervals c l)));
-              over_high_lem = λ c l. g.negated c l ∙ ap (λ (i : ℕ). top_of a - i) (sym (highs₃ c l));
+              over_high = λ c l. g.negated c l ∙ ap (λ (i : ℕ). top_of a - i) (sym (highs₃ c l));
               apart = λ c l r. highs₃ c l ∙ x.steady.apart c l r ∙ apart₁ c l r;
             }
 

@@ -38,7 +38,7 @@ pub record Tables (a : List ℕ) (m : List Bool) (s : List ℕ) : Type 0 where
   pub shut : DependencyClosed (conditions_of a) (names (page_of a)) (member m)
   pub within : (c : ℕ) → c < conditions_of a → Within (top_of a) (held (conditions_of a) s c)
   pub over_low : (c : ℕ) → c < conditions_of a → get_or s (2 * conditions_of a + (2 * c + 1)) 0 ≡ top_of a - get_or s (2 * c) 0
-  pub over_high_lem : (c : ℕ) → c < conditions_of a → get_or s (2 * c + 1) 0 ≡ top_of a - get_or s (2 * conditions_of a + 2 * c) 0
+  pub over_high : (c : ℕ) → c < conditions_of a → get_or s (2 * c + 1) 0 ≡ top_of a - get_or s (2 * conditions_of a + 2 * c) 0
   pub apart : (c : ℕ) → c < conditions_of a → member m c ≡ false → get_or s (2 * conditions_of a + 2 * c) 0 ≡ 0
 
 -- the high ends of the closed reading, and for a free condition that of assignment k

@@ -238,7 +238,7 @@ pub record HighsReady (a users : List ℕ) (m : List Bool) (tops s look lows : L
   pub marked : conditions_of a ≤ length m
   pub known : conditions_of a ≤ length tops
   pub within : (c : ℕ) → c < conditions_of a → get_or s (2 * conditions_of a + 2 * c) 0 ≤ top_of a
-  pub over_high_lem : (c : ℕ) → c < conditions_of a → get_or s (2 * c + 1) 0 ≡ top_of a - get_or s (2 * conditions_of a + 2 * c) 0
+  pub over_high : (c : ℕ) → c < conditions_of a → get_or s (2 * c + 1) 0 ≡ top_of a - get_or s (2 * conditions_of a + 2 * c) 0
   pub look_in : WaitSet (conditions_of a) look
   pub lows_in : WaitSet (conditions_of a) lows
 
@@ -265,7 +265,7 @@ pub record HighsTaken (a users : List ℕ) (m : List Bool) (tops s s' lows' look
   pub same_length : length s' ≡ length s
   pub lows : (c : ℕ) → c < conditions_of a → get_or s' (2 * c) 0 ≡ get_or s (2 * c) 0
   pub negations : (c : ℕ) → c < conditions_of a → get_or s' (2 * conditions_of a + (2 * c + 1)) 0 ≡ get_or s (2 * conditions_of a + (2 * c + 1)) 0
-  pub over_high_lem : (c : ℕ) → c < conditions_of a → get_or s' (2 * c + 1) 0 ≡ top_of a - get_or s' (2 * conditions_of a + 2 * c) 0
+  pub over_high : (c : ℕ) → c < conditions_of a → get_or s' (2 * c + 1) 0 ≡ top_of a - get_or s' (2 * conditions_of a + 2 * c) 0
   pub beyond : drop (4 * conditions_of a) s' ≡ drop (4 * conditions_of a) s
   pub lows_in : WaitSet (conditions_of a) lows'
   pub look_in : WaitSet (conditions_of a) look'
@@ -293,7 +293,7 @@ first_high a m c = cond (member m c) (top_of a) 0
 -- the four numbers of c in the first assignment
 pub record BegunAt (a : List ℕ) (m : List Bool) (s : List ℕ) (c : ℕ) : Type 0 where
   pub low : get_or s (2 * c) 0 ≡ 0
-  pub over_high_lem : get_or s (2 * c + 1) 0 ≡ top_of a - first_high a m c
+  pub over_high : get_or s (2 * c + 1) 0 ≡ top_of a - first_high a m c
   pub high : get_or s (2 * conditions_of a + 2 * c) 0 ≡ first_high a m c
   pub over_low : get_or s (2 * conditions_of a + (2 * c + 1)) 0 ≡ top_of a
 

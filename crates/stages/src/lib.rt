@@ -1,4 +1,6 @@
 // How many rounds the closed reading takes: assignment 0 is [0;top], each next one is T at the last joined with its support.
+#![tactic(auto)]
+
 ghost use Rattle.std.specs.Prelude.{◌≡◌, true, false, ℕ, ◌≤◌, ◌<◌, ◌+◌, ◌*◌, length, get_or};
 ghost use Rattle.semantics.specs.Area.{top_of, conditions_of, count_of};
 ghost use Rattle.semantics.specs.Table.{member, any_below};
