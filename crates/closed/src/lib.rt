@@ -1,4 +1,6 @@
 // The closed reading, by rounds of two halves: the least high ends over the floor held, then the least floor over the high ends held.
+#![tactic(auto)]
+
 ghost use Rattle.std.specs.Prelude.{◌≡◌, ◌++◌, ℕ, ◌≤◌, ◌+◌, ◌<◌, ◌*◌, length, get_or, drop};
 ghost use Rattle.std.proofs.Math.Option.{none};
 ghost use Rattle.semantics.specs.Operation.{ends, zeros, index_length, used_workspace, closed_workspace, ClosedOf};
@@ -65,7 +67,7 @@ fn solve(
 }
 
 // The answer of the closed reading: the number of the refusal, or the count of rounds where the work is done.
-#[derive(Drop)]
+#[derive(Clone, Copy)]
 pub enum ClosedAnswer {
     Refused(u8),
     Done(u32),
