@@ -1,19 +1,19 @@
 -- The search in depth: what each step makes of the levels. Assumes nothing.
 use mathlib.Core.Path.{◌≡◌, refl, sym, ◌∙◌, ap, subst}
 use mathlib.Core.Logic.{◌≢◌, ◌⊎◌, inl, inr, ⊎_elim}
-use mathlib.Core.Bool.{Bool, true, false, not, ◌||◌, false≢true, true≢false}
+use mathlib.Core.Bool.{Bool, true, false, not, false≢true, true≢false}
 use mathlib.Core.List.{List}
-use Prim.Native.Nat.{ℕ, zero, suc, ◌+◌, ◌*◌, ◌-◌, ◌≤◌, ◌<◌}
+use Prim.Native.Nat.{ℕ, ◌+◌, ◌*◌, ◌-◌, ◌≤◌, ◌<◌}
 use native.Mathlib.Decide.{ℕ_discrete, dec_le}
 use native.Mathlib.Omega.{arith}
 use borrow.Author.Count.{below_more}
 use lib.Dec.{eqb, ltb}
-use lib.ListN.{length, get_or, set, length-set, get_or-eq_default}
+use lib.ListN.{length, set, length-set, get_or-eq_default}
 use lib.Seq.{get_or-set_same, get_or-set_other}
 use borrow.Author.Tests.{eq-eqb, ne_eqb, eqb-true, ltb-true, ltb-false}
-use Rattle.fixpoint.specs.Sum.{sum, bit, count}
+use Rattle.fixpoint.specs.Sum.{bit, count}
 use Rattle.fixpoint.proofs.Sum.{sum_le, sum_drop, sum_const}
-use Rattle.semantics.specs.Layers.{negates, Chain, empty, name, negate, Loops, LowestLoop}
+use Rattle.semantics.specs.Layers.{Chain, empty, name, negate, Loops}
 use Rattle.semantics.specs.Page.{Page, names}
 use Rattle.semantics.proofs.Layers.{or_left, or_right, negates_names, loop_inside}
 use Rattle.semantics.proofs.Proper.{Proper}

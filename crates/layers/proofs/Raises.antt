@@ -1,15 +1,14 @@
 -- What a line raises, and a pass over the lines of a page in place. Assumes nothing.
 use mathlib.Core.Path.{◌≡◌, refl, sym, ◌∙◌, ap, subst}
-use mathlib.Core.Logic.{◌≢◌, ◌⊎◌, inl, inr, ⊎_elim}
-use mathlib.Core.Bool.{Bool, true, false, false≢true}
+use mathlib.Core.Logic.{◌⊎◌, inl, inr, ⊎_elim}
+use mathlib.Core.Bool.{true, false, false≢true}
 use mathlib.Core.List.{List}
-use Prim.Native.Nat.{ℕ, suc, ◌+◌, ◌*◌, ◌/◌, ◌%◌, ◌≤◌, ◌<◌, max}
+use Prim.Native.Nat.{ℕ, suc, ◌+◌, ◌/◌, ◌%◌, ◌≤◌, ◌<◌, max}
 use native.Mathlib.Decide.{ℕ_discrete, dec_le}
 use native.Mathlib.Omega.{arith}
 use lib.ListN.{length, get_or, drop}
 use Rattle.semantics.specs.Area.{page_of, line_at, top_of, conditions_of, count_of, first_line}
-use Rattle.semantics.specs.Layers.{Layers, lines_negate, negates}
-use Rattle.semantics.specs.Page.{names, lines_name}
+use Rattle.semantics.specs.Layers.{Layers}
 use Rattle.semantics.proofs.Layers.{negates_names}
 use Rattle.semantics.proofs.Readings.{names_inside}
 use Rattle.page.specs.Graded.{RuleAt}

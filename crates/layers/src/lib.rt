@@ -1,5 +1,7 @@
 // Loops through an absence (document 02, ticket 3). The layers of a page are worked out by passes over its lines. Where they do not settle,
 // a search in depth finds the lowest condition from which a chain through a negation leads back.
+#![tactic(auto)]
+
 ghost use Rattle.std.specs.Prelude.{◌≡◌, true, ◌&&◌, ◌++◌, ◌-◌, ◌≤◌, ◌<◌, leb, length, get_or, drop};
 ghost use Rattle.semantics.specs.Area.{page_of, top_of, conditions_of, used_of};
 ghost use Rattle.semantics.specs.Layers.{LayersOf};
@@ -303,7 +305,7 @@ fn copy(from: &[u16], to: &mut [u16])
 }
 
 // The answer of the check: the number of a refusal; the condition that 30 comes with; or that the layers are written.
-#[derive(Drop)]
+#[derive(Clone, Copy)]
 pub enum Verdict {
     Refused(u8),
     Loops(u16),
