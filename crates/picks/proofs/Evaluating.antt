@@ -1,5 +1,5 @@
 -- An evaluation on the table and the two sets, in the code's own terms. Assumes nothing.
-use mathlib.Core.Path.{◌≡◌, refl, sym, ◌∙◌, ap}
+use mathlib.Core.Path.{◌≡◌, sym, ◌∙◌, ap}
 use mathlib.Core.Logic.{◌≢◌}
 use mathlib.Core.Bool.{Bool, true, false, not, ◌&&◌, ◌||◌, or-false, and-false}
 use mathlib.Core.List.{List}
@@ -27,9 +27,8 @@ use Rattle.ends.proofs.Mirrors.{high_table, both_grades}
 use Rattle.ends.proofs.Stores.{table_agrees, table_stored}
 use Rattle.body.specs.Body.{Body}
 use Rattle.reach.specs.Sets.{Joins}
-use Rattle.picks.specs.Book.{SetIs, Holds, HoldSome, Evaluates}
+use Rattle.picks.specs.Book.{SetIs, Holds}
 use Rattle.picks.specs.Figures.{table_at}
-use Rattle.page.specs.Solvable.{solvable}
 
 module _ (a : List ℕ) {m : List Bool} {b : Worklist} {reached waiting values : List ℕ} (h : Holds a m b reached waiting values) where
   abbrev I : Assign

@@ -1,9 +1,9 @@
 -- The picks in turn from the opening, and what the check answers, in the code's own terms. Assumes nothing.
 use mathlib.Core.Path.{◌≡◌, refl, sym, ◌∙◌, ap, subst}
-use mathlib.Core.Bool.{Bool, true, false, not, ◌&&◌, true≢false}
-use mathlib.Core.List.{List, []}
+use mathlib.Core.Bool.{Bool, true, false, ◌&&◌}
+use mathlib.Core.List.{List}
 use mathlib.Core.Option.{none}
-use Prim.Native.Nat.{ℕ, zero, suc, ◌+◌, ◌*◌, ◌-◌, ◌≤◌, ◌<◌}
+use Prim.Native.Nat.{ℕ, ◌+◌, ◌*◌, ◌-◌, ◌≤◌, ◌<◌}
 use native.Mathlib.Decide.{ℕ_discrete, dec_le}
 use native.Mathlib.Numerals.{add-one}
 use native.Mathlib.Omega.{arith}
@@ -12,23 +12,20 @@ use lib.ListN.{length, get_or, take, replicate, length-replicate, get_or-replica
 use lib.Seq.{take_all}
 use borrow.Author.Tests.{ltb-true, leb-true, not-false}
 use Rattle.fixpoint.specs.KnowledgeOrder.{unknown}
-use Rattle.fixpoint.specs.Sum.{sum, count}
 use Rattle.semantics.specs.Area.{sound, page_of, top_of, conditions_of, all_under}
 use Rattle.semantics.specs.Call.{first_of}
 use Rattle.semantics.specs.Demand.{perform_from}
 use Rattle.semantics.specs.Grade.{lower}
 use Rattle.semantics.specs.Operation.{query_causes, ends}
-use Rattle.semantics.specs.Page.{Page, names}
 use Rattle.semantics.specs.Picks.{book_after, pick_waits, AllWait, PicksAnswer, refused_queries, not_waiting, not_at_rest, wrong_figures, accepted_picks, PicksOf}
-use Rattle.semantics.specs.Reading.{closure, count_r, count_e, bound}
+use Rattle.semantics.specs.Reading.{closure}
 use Rattle.semantics.specs.Table.{member, interval_of, all_unknown}
-use Rattle.semantics.specs.Worklist.{Worklist, start, evaluated, rest, spent, status}
+use Rattle.semantics.specs.Worklist.{Worklist, start, rest, status}
 use Rattle.semantics.proofs.Closure.{closure_length}
 use Rattle.semantics.proofs.Demand.{under_listed}
-use Rattle.semantics.proofs.Invariant.{NoCause, no_cause_holds}
+use Rattle.semantics.proofs.Invariant.{no_cause_holds}
 use Rattle.semantics.proofs.Keeps.{ends_listed}
-use Rattle.semantics.proofs.Picks.{pick_is, pick_waits_lem, book_next, waits_spent, none_rests, picks_sound, picks_proper, picks_inside, picks_in_time, plain_figures}
-use Rattle.semantics.proofs.Proper.{Proper}
+use Rattle.semantics.proofs.Picks.{pick_is, book_next, waits_spent, none_rests, picks_sound, picks_proper, picks_inside, picks_in_time, plain_figures}
 use Rattle.semantics.proofs.Soundness.{both_true}
 use Rattle.semantics.proofs.Table.{length_from, get_d_table}
 use Rattle.bits.specs.Words.{has, LowestIn}

@@ -1,5 +1,7 @@
 // The check of a simulator's picks and figures. It borrows no run area: the run that the picks make is held in a table of the low end of every
 // literal, which a drive holds beside the run area, and in two sets of conditions.
+#![tactic(auto)]
+
 ghost use Rattle.std.specs.Prelude.{◌≡◌, true, ◌&&◌, ◌+◌, ◌*◌, ◌-◌, ◌≤◌, ◌<◌, eqb, ltb, length, get_or, drop};
 ghost use Rattle.std.proofs.Math.Option.{none};
 ghost use Rattle.semantics.specs.Area.{page_of, top_of, conditions_of, line_at, all_under};
@@ -114,7 +116,7 @@ fn figures_held(a: &[u16], queries: &[u16], figures: &[u16], values: &[u8]) -> b
 }
 
 // What the check answers: the number of a refusal before 50; 50 with the place of the pick; 51; 52; or the picks and figures are accepted.
-#[derive(Drop)]
+#[derive(Clone, Copy)]
 pub enum Checked {
     Refused(u8),
     NotWaiting(u32),
