@@ -1,4 +1,6 @@
 // How far a condition reaches: the conditions that name it, directly or through others, as a row of 512 marks in eight words.
+#![tactic(auto)]
+
 ghost use Rattle.std.specs.Prelude.{◌≡◌, true, map, ◌≤◌, ◌<◌, ◌+◌, ◌-◌, length, get_or, take, drop};
 ghost use Rattle.fixpoint.specs.Sum.{count};
 ghost use Rattle.semantics.specs.Area.{line_at, literal_of, page_of, top_of, conditions_of, used_of};
@@ -104,7 +106,7 @@ fn size(row: &[u64]) -> u32
 }
 
 // The number of a refusal, or the count.
-#[derive(Drop)]
+#[derive(Clone, Copy)]
 pub enum CountAnswer {
     Refused(u8),
     Counted(u16),

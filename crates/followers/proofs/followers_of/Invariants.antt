@@ -1,0 +1,13 @@
+-- `followers::followers_of` meets its contract: each pass but the last adds a condition, and there are 512. Assumes nothing.
+use Prim.Native.Nat.{◌-◌}
+use Rattle.fixpoint.specs.Sum.{count}
+use Rattle.semantics.specs.Area.{page_of}
+use Rattle.bits.specs.Words.{has}
+use Rattle.followers.specs.Rows.{Covers, Seeks}
+use Rattle.followers.proofs.followers_of.Given as goal
+
+abbrev pub invariant-loop-seen : goal.invariant-loop-seen
+invariant-loop-seen l = Covers l.seen l.row × Seeks (page_of l.a) l.c l.seen l.row
+
+abbrev pub decreases-loop-seen : goal.decreases-loop-seen
+decreases-loop-seen l = 512 - count 512 (has l.row)
