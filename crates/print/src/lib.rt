@@ -1,5 +1,7 @@
 // Text written into a slice that the caller lends, at a place that moves on: bytes, decimal numbers and fields. Each function hands back the
 // place behind what it wrote.
+#![tactic(auto)]
+
 ghost use Rattle.std.specs.Prelude.{[], ◌∷◌, ◌++◌, ◌+◌, ◌≤◌, ◌<◌, length};
 ghost use Rattle.semantics.specs.Fields.{digit, number_text};
 ghost use Rattle.print.specs.Wrote.{Wrote};
