@@ -1,6 +1,8 @@
 // The page that a trial changes (document 02, ticket 8), as a page area. The head and the D numbers are the page's; its F lines of the
 // conditions that the trial's lines name go; behind its other lines each such condition has one fact, that of its last line. For each F line
 // and each condition the lines of the trial are looked through: no table of conditions is kept.
+#![tactic(auto)]
+
 ghost use Rattle.std.specs.Prelude.{◌≡◌, true, ◌++◌, ◌+◌, ◌*◌, ◌-◌, ◌≤◌, ◌<◌, length, drop};
 ghost use Rattle.semantics.specs.Area.{sound, line_at, top_of, conditions_of, used_of};
 ghost use Rattle.semantics.specs.ReadPage.{or_else};
@@ -14,7 +16,7 @@ ghost use Rattle.change.specs.Written.{LinesWrote, FactsFit, LinesKept, FactsWro
 use page::{Cursor, span_of};
 
 // What the lines of a trial give a condition: nothing, or an interval.
-#[derive(Drop)]
+#[derive(Clone, Copy)]
 enum Given {
     Nothing,
     Fact(u16, u16),
@@ -86,7 +88,7 @@ fn put_numbers(area: &mut [u16], at: usize, numbers: &[u16]) -> usize
 }
 
 // The place behind the entries that are written, and how many they are.
-#[derive(Drop)]
+#[derive(Clone, Copy)]
 struct Place {
     end: usize,
     count: u16,
