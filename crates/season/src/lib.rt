@@ -1,4 +1,6 @@
 // A season's figures (document 02, ticket 14): the answers for one condition are checked, and then gone through once.
+#![tactic(auto)]
+
 ghost use Rattle.std.specs.Prelude.{◌≡◌, map, ◌≤◌, min, max, pos, ◌-ℤ◌, nat_abs, length};
 ghost use Rattle.std.proofs.Math.Option.{none};
 ghost use Rattle.semantics.specs.ReadPage.{leftmost};
@@ -7,7 +9,7 @@ ghost use Rattle.season.specs.Answer.{answer_of, wrong_length, fault_at};
 ghost use Rattle.season.specs.Sums.{Small, begun, grown, sums_of};
 
 // Sums and extremes of some answers: the figures but for the count and the mean.
-#[derive(Drop)]
+#[derive(Clone, Copy)]
 pub struct Sums {
     pub lows: u32,
     pub widths: u32,
@@ -16,7 +18,7 @@ pub struct Sums {
     pub change: i32,
 }
 
-#[derive(Drop)]
+#[derive(Clone, Copy)]
 pub struct Figures {
     pub count: u32,
     pub lows: u32,
@@ -28,7 +30,7 @@ pub struct Figures {
     pub change: i32,
 }
 
-#[derive(Drop)]
+#[derive(Clone, Copy)]
 pub enum SeasonAnswer {
     Refused { number: u8, place: u32 },
     Told(Figures),

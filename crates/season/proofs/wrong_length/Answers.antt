@@ -5,8 +5,7 @@ use Prim.Native.Nat.{ℕ, ◌/◌, ◌%◌}
 use native.Mathlib.Omega.{arith}
 use lib.Dec.{ltb}
 use borrow.Author.Tests.{lt-ltb, le-ltb, ne_eqb, eq-eqb, ltb-true, ltb-false}
-use Rattle.season.proofs.wrong_length.Statement.{statement}
-use Rattle.season.proofs.wrong_length.Tie as tie
+use Rattle.season.proofs.wrong_length.Goals as goal
 
 halved : (n : ℕ) → n % 2 ≡ 0 → ltb 8192 n ≡ ltb 4096 (n / 2)
 halved n e = go (ltb 4096 (n / 2)) refl
@@ -15,14 +14,11 @@ halved n e = go (ltb 4096 (n / 2)) refl
     go true f = lt-ltb 8192 n (omega (arith, ltb-true 4096 (n / 2) f))
     go false f = le-ltb 8192 n (omega (arith, ltb-false 4096 (n / 2) f))
 
-returns : tie.Need-returns
-returns c = sym (rw (ne_eqb (c.before.args.n % 2) 0 c.if1.true))
+pub returns-then-n-ne0 : goal.returns-then-n-ne0
+returns-then-n-ne0 c = sym (rw (ne_eqb (c.args.n % 2) 0 c.if-n-ne0.true))
 
-returns-2 : tie.Need-returns-2
-returns-2 c = let n = c.before.before.args.n in sym (rw (eq-eqb (n % 2) 0 c.before.if1.false, lt-ltb (n / 2) 1 (omega arith)))
+pub returns-then-n-lt2 : goal.returns-then-n-lt2
+returns-then-n-lt2 c = let n = c.args.n in sym (rw (eq-eqb (n % 2) 0 c.if-n-ne0.false, lt-ltb (n / 2) 1 (omega arith)))
 
-returns-3 : tie.Need-returns-3
-returns-3 c = let n = c.before.before.args.n in rw (eq-eqb (n % 2) 0 c.before.if1.false, le-ltb (n / 2) 1 (omega arith)) (halved n c.before.if1.false)
-
-pub wrong-length-spec : {M : Type 1} → statement M
-wrong-length-spec = tie.close (tie.spec returns returns-2 returns-3)
+pub returns : goal.returns
+returns c = let n = c.args.n in rw (eq-eqb (n % 2) 0 c.if-n-ne0.false, le-ltb (n / 2) 1 (omega arith)) (halved n c.if-n-ne0.false)
