@@ -1,5 +1,7 @@
 // All small pages (document 02, ticket 13): the text of the page with a number, by arithmetic on the number. It is made in a local array of the
 // greatest length, and copied if the lent buffer has room.
+#![tactic(auto)]
+
 ghost use Rattle.std.specs.Prelude.{◌≡◌, [], ◌∷◌, ◌+◌, ◌*◌, ◌≤◌, ◌<◌, length};
 ghost use Rattle.semantics.specs.Fields.{joined, ended_lines};
 ghost use Rattle.semantics.specs.Written.{head_fields, line_texts, text_of};
@@ -11,7 +13,7 @@ ghost use Rattle.small.specs.Answer.{answer_of};
 use print::put_all;
 
 // The number of a refusal, or the text's length.
-#[derive(Drop)]
+#[derive(Clone, Copy)]
 pub enum SmallAnswer {
     Refused(u8),
     Wrote(u8),
