@@ -11,7 +11,7 @@ use Rattle.capi.specs.Codes.{minus}
 
 -- what a call returned, read back
 pub returned : (z : ℤ) → mag z < 2 ^ 31 → to_z w32 (of_z w32 z) ≡ z
-returned z h = to_z-of_z (record { sfits = h })
+returned z h = to_z-of_z {w = w32} {z = z} (record { sfits = h })
 
 -- 0 - k, as the code has it
 pub less : (k : ℕ) → k < 2 ^ 8 → pos 0 -ℤ to_z w32 k ≡ minus k

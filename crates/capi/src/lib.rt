@@ -1,4 +1,6 @@
 // The functions that C calls. Each makes one call of the engine and hands its answer over as numbers.
+#![tactic(auto)]
+
 ghost use Rattle.std.specs.Prelude.{◌≡◌, ◌+◌, ◌≤◌, length, take, drop};
 ghost use Rattle.semantics.specs.ReadPage.{read_of, line_of, start_of};
 ghost use Rattle.semantics.specs.Operation.{open_of, evaluate_of, drive_of, value_of, line_held_of, drive_workspace, closed_workspace};
@@ -9,7 +11,7 @@ ghost use Rattle.semantics.specs.Season.{season_of};
 ghost use Rattle.run.specs.Answers.{status_if, evaluate_answer_of, drive_answer_of};
 ghost use Rattle.stalls.specs.Answers.{turn_answer_of};
 ghost use Rattle.closed.specs.Answer.{closing_told};
-ghost use Rattle.capi.specs.Codes.{minus as Codes·minus, status_code, answer_code, taken_or, line_or, interval_or, open_code, counts_or, read_code, line_told, place_told, closed_code, rounds_or, ClosedCall, LayersCall, PicksCall, rest_told, turn_code, stall_told, first_or, second_or, FollowersCall, small_code, season_code, pair_told, figures_or};
+ghost use Rattle.capi.specs.Codes.{minus, status_code, answer_code, taken_or, line_or, interval_or, open_code, counts_or, read_code, line_told, place_told, closed_code, rounds_or, ClosedCall, LayersCall, PicksCall, rest_told, turn_code, stall_told, first_or, second_or, FollowersCall, small_code, season_code, pair_told, figures_or};
 
 use closed::ClosedAnswer;
 use followers::CountAnswer;
@@ -23,7 +25,7 @@ use stalls::{Stall, TurnAnswer};
 
 // Minus the number of a refusal.
 fn minus(number: u8) -> i32
-    ensures { result ≡ Codes·minus number }
+    ensures { result ≡ minus number }
 {
     -(number as i32)
 }
@@ -89,7 +91,7 @@ fn open_code(
     passes: &mut u32,
 ) -> i32
     ensures code { result ≡ open_code (opening_of answer) }
-    ensures counts { record { reached = reached.exit.now; edges = edges.new; bound = bound.new; passes = passes.new } ≡ counts_or (record { reached = reached.entry.now; edges = edges.old; bound = bound.old; passes = passes.old }) (opening_of answer) }
+    ensures counts { record { reached = reached.new; edges = edges.new; bound = bound.new; passes = passes.new } ≡ counts_or (record { reached = reached.old; edges = edges.old; bound = bound.old; passes = passes.old }) (opening_of answer) }
 {
     match answer {
         OpenAnswer::Refused(k) => minus(k),
@@ -121,7 +123,7 @@ pub extern "C" fn simjorad_open(
 ) -> i32
     ensures code { result ≡ open_code (open_of page.now queries.now run.old).answer }
     ensures area { run.new ≡ (open_of page.now queries.now run.old).run }
-    ensures counts { record { reached = reached.exit.now; edges = edges.new; bound = bound.new; passes = passes.new } ≡ counts_or (record { reached = reached.entry.now; edges = edges.old; bound = bound.old; passes = passes.old }) (open_of page.now queries.now run.old).answer }
+    ensures counts { record { reached = reached.new; edges = edges.new; bound = bound.new; passes = passes.new } ≡ counts_or (record { reached = reached.old; edges = edges.old; bound = bound.old; passes = passes.old }) (open_of page.now queries.now run.old).answer }
 {
     let answer = reach::open_run(page, queries, run);
     open_code(answer, reached, edges, bound, passes)
@@ -217,7 +219,7 @@ pub extern "C" fn simjorad_value(
     high: &mut u16,
 ) -> i32
     ensures code { result ≡ answer_code (value_of page.now run.now condition) }
-    ensures interval { record { low = low.exit.now; high = high.new } ≡ interval_or (record { low = low.entry.now; high = high.old }) (value_of page.now run.now condition) }
+    ensures interval { record { low = low.new; high = high.new } ≡ interval_or (record { low = low.old; high = high.old }) (value_of page.now run.now condition) }
 {
     let answer = run::value(page, run, condition);
     match answer {
@@ -347,7 +349,7 @@ pub extern "C" fn simjorad_open_first(
 ) -> i32
     ensures code { result ≡ open_code (open_stall page.now first queries.now area.old).answer }
     ensures area { area.new ≡ (open_stall page.now first queries.now area.old).run }
-    ensures counts { record { reached = reached.exit.now; edges = edges.new; bound = bound.new; passes = passes.new } ≡ counts_or (record { reached = reached.entry.now; edges = edges.old; bound = bound.old; passes = passes.old }) (open_stall page.now first queries.now area.old).answer }
+    ensures counts { record { reached = reached.new; edges = edges.new; bound = bound.new; passes = passes.new } ≡ counts_or (record { reached = reached.old; edges = edges.old; bound = bound.old; passes = passes.old }) (open_stall page.now first queries.now area.old).answer }
 {
     let answer = stalls::open_stall(page, Stall::First, area, queries);
     open_code(answer, reached, edges, bound, passes)
@@ -366,7 +368,7 @@ pub extern "C" fn simjorad_open_second(
 ) -> i32
     ensures code { result ≡ open_code (open_stall page.now second queries.now area.old).answer }
     ensures area { area.new ≡ (open_stall page.now second queries.now area.old).run }
-    ensures counts { record { reached = reached.exit.now; edges = edges.new; bound = bound.new; passes = passes.new } ≡ counts_or (record { reached = reached.entry.now; edges = edges.old; bound = bound.old; passes = passes.old }) (open_stall page.now second queries.now area.old).answer }
+    ensures counts { record { reached = reached.new; edges = edges.new; bound = bound.new; passes = passes.new } ≡ counts_or (record { reached = reached.old; edges = edges.old; bound = bound.old; passes = passes.old }) (open_stall page.now second queries.now area.old).answer }
 {
     let answer = stalls::open_stall(page, Stall::Second, area, queries);
     open_code(answer, reached, edges, bound, passes)
@@ -501,7 +503,7 @@ pub extern "C" fn simjorad_season(
     place: &mut u32,
 ) -> i32
     ensures code { result ≡ season_code (season_of pairs.now) }
-    ensures figures { record { count = count.exit.now; sum_low = sum_low.new; sum_width = sum_width.new; smallest = smallest.new; largest = largest.new; mean = mean.new; remainder = remainder.new; change = change.new } ≡ figures_or (record { count = count.entry.now; sum_low = sum_low.old; sum_width = sum_width.old; smallest = smallest.old; largest = largest.old; mean = mean.old; remainder = remainder.old; change = change.old }) (season_of pairs.now) }
+    ensures figures { record { count = count.new; sum_low = sum_low.new; sum_width = sum_width.new; smallest = smallest.new; largest = largest.new; mean = mean.new; remainder = remainder.new; change = change.new } ≡ figures_or (record { count = count.old; sum_low = sum_low.old; sum_width = sum_width.old; smallest = smallest.old; largest = largest.old; mean = mean.old; remainder = remainder.old; change = change.old }) (season_of pairs.now) }
     ensures place { place.new ≡ pair_told (season_of pairs.now) }
 {
     let answer = season::season(pairs);
