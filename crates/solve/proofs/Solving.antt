@@ -1,32 +1,31 @@
 -- Both readings of the queries of a page: what a drive from the start leaves, and what is written of it. Assumes nothing.
-use mathlib.Core.Path.{◌≡◌, refl, sym, ◌∙◌, ap, ap₂}
+use mathlib.Core.Path.{◌≡◌, refl, ◌∙◌, ap, ap₂}
 use mathlib.Core.Bool.{Bool, true}
 use mathlib.Core.List.{List, [], ◌∷◌, ◌++◌}
-use mathlib.Core.Option.{none}
 use Prim.Native.Nat.{ℕ, zero, suc, ◌+◌, ◌*◌, ◌-◌, ◌≤◌, ◌<◌}
 use native.Mathlib.Omega.{arith}
 use lib.ListN.{length, get_or, set, take, drop, length-set}
 use lib.Dec.{ltb}
 use lib.Seq.{length-take-le, drop-cons}
 use borrow.Author.Tests.{ltb-true, lt-ltb}
-use Rattle.fixpoint.specs.Interval.{Interval, Assign}
+use Rattle.fixpoint.specs.Interval.{Assign}
 use Rattle.semantics.specs.Area.{page_of, top_of, conditions_of, all_under}
-use Rattle.semantics.specs.Call.{Answer, drive, outcome}
-use Rattle.semantics.specs.Operation.{ends, Left}
+use Rattle.semantics.specs.Call.{Answer, outcome}
+use Rattle.semantics.specs.Operation.{ends}
 use Rattle.semantics.specs.Output.{Answers, AreAnswers}
 use Rattle.semantics.specs.Page.{Reading, K, W, Page}
 use Rattle.semantics.specs.Reading.{IsPlain, IsClosed, closure}
-use Rattle.semantics.specs.RunArea.{run_of, interval_at, worklist_of, reached_of, run_sound}
-use Rattle.semantics.specs.Table.{listed, member}
-use Rattle.semantics.specs.Worklist.{Worklist, start, driven}
+use Rattle.semantics.specs.RunArea.{run_of, interval_at, run_sound}
+use Rattle.semantics.specs.Table.{listed}
+use Rattle.semantics.specs.Worklist.{start, driven}
 use Rattle.semantics.proofs.Demand.{under_listed}
-use Rattle.semantics.proofs.Keeps.{length_ends, ends_listed}
+use Rattle.semantics.proofs.Keeps.{ends_listed}
 use Rattle.semantics.proofs.PlainRuns.{start_sound, start_reached, start_state, plain_held}
 use Rattle.semantics.proofs.Proper.{Proper}
 use Rattle.semantics.proofs.Soundness.{both_true}
 use Rattle.semantics.proofs.Readings.{closed_is, closed_one}
 use Rattle.page.specs.Solvable.{solvable}
-use Rattle.page.proofs.Head.{conditions_is, top_is}
+use Rattle.page.proofs.Head.{conditions_is}
 use Rattle.page.proofs.Solvable.{solvable_proper}
 use Rattle.reach.specs.Marks.{ClosureMarks}
 use Rattle.reach.specs.Opening.{Written}

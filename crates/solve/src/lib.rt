@@ -1,4 +1,6 @@
 // Both readings of a page for all of its Q lines at once: one plain and one closed solving, however many Q lines there are.
+#![tactic(auto)]
+
 ghost use Rattle.std.specs.Prelude.{◌≡◌, true, ◌++◌, ℕ, ◌+◌, ◌*◌, ◌-◌, ◌≤◌, ◌<◌, length, get_or, drop};
 ghost use Rattle.semantics.specs.Area.{page_of, top_of, conditions_of, used_of, all_under, every, line_tests};
 ghost use Rattle.semantics.specs.Operation.{ends};
