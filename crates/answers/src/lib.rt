@@ -1,4 +1,6 @@
 // The lines that the programs print, each written into a slice at a place that moves on, and the output of the program `attach` for a text.
+#![tactic(auto)]
+
 ghost use Rattle.std.specs.Prelude.{◌≡◌, true, [], ◌∷◌, ◌+◌, ◌*◌, ◌-◌, ◌≤◌, ◌<◌, length, get_or, drop};
 ghost use Rattle.semantics.specs.Area.{page_of, top_of, conditions_of, count_of, used_of, every, line_tests};
 ghost use Rattle.semantics.specs.Fields.{number_text, reading_letter};
@@ -81,7 +83,7 @@ fn figures_at(reading: u16, plain: &[u16], closed: &[u16], i: u16) -> Ends
 }
 
 // How far the output is written, and how many answers it has.
-#[derive(Drop)]
+#[derive(Clone, Copy)]
 pub struct Written {
     pub at: usize,
     pub count: u16,
