@@ -1,30 +1,37 @@
 // Standard input, to its end.
-ghost use Rattle.io.specs.Counts.{IsPrefixLen};
+ghost use Rattle.std.specs.Prelude.{take, IfSome};
+ghost use Rattle.std.specs.Counts.{IsPrefixLen};
+ghost use Rattle.std.specs.Io.{StartsWith};
 
-use libc::STDIN_FILENO;
+use fill::read_full;
+use std::io::Read;
 
 // One read of what is not wanted; whether there was any.
-fn skip_some() -> bool {
-    let mut space = io::buffer();
-    0 < libc::read(STDIN_FILENO, &mut space)
+fn skip_some(reader: &mut impl Read) -> bool {
+    let mut space = [0u8; 4096];
+    match reader.read(&mut space) {
+        Ok(n) => n > 0,
+        Err(_) => false,
+    }
 }
 
 // Reads to the end of the input. A proved loop has to end, and nothing says that the input does: the turns are counted down from a
 // number that no run uses up.
-fn skip_rest() {
+fn skip_rest(reader: &mut impl Read) {
     let mut turns = u64::MAX;
-    while turns > 0 && skip_some() {
+    while turns > 0 && skip_some(reader) {
         turns -= 1;
     }
 }
 
 // Puts the input at the front of the buffer, and answers how many bytes that is; what has no room is read and dropped.
-pub fn read_input(buffer: &mut [u8]) -> usize
-    ensures { IsPrefixLen result buffer.new }
+pub fn read_input<R: Read>(reader: &mut R, buffer: &mut [u8]) -> usize
+    ensures bound { IsPrefixLen result buffer.new }
+    ensures bytes { IfSome (R.remaining reader.old) (λ xs. StartsWith xs (take result buffer.new)) }
 {
-    let n = io::read_full(STDIN_FILENO, buffer);
+    let n = read_full(reader, buffer);
     if n == buffer.len() {
-        skip_rest();
+        skip_rest(reader);
     }
     n
 }
