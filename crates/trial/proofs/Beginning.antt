@@ -1,16 +1,16 @@
 -- The beginning of the output: the refused line of a page or a list, or the first line. Assumes nothing.
-use mathlib.Core.Path.{◌≡◌, refl, sym, ◌∙◌, ap, subst}
+use mathlib.Core.Path.{◌≡◌, sym, ◌∙◌, ap, subst}
 use mathlib.Core.Bool.{true}
 use mathlib.Core.List.{List, [], ◌∷◌, ◌++◌}
-use mathlib.Core.Option.{Option, none, some}
+use mathlib.Core.Option.{none, some}
 use Prim.Native.Nat.{ℕ, ◌*◌, ◌≤◌, ◌<◌}
 use native.Mathlib.Omega.{arith}
 use lib.ListN.{length, drop}
 use Rattle.semantics.specs.Area.{sound, page_of, top_of, conditions_of}
 use Rattle.semantics.specs.Output.{top_fields, refusal_fields, printed}
 use Rattle.semantics.specs.Page.{Page}
-use Rattle.semantics.specs.ReadPage.{Refusal, or_else, text_refusal, page_read, refused_page, read_page, read_of}
-use Rattle.semantics.specs.Trials.{trials_of, list_refusal, list_read, TrialsPrintedAs, IsTrialsOutput}
+use Rattle.semantics.specs.ReadPage.{or_else, text_refusal, page_read, refused_page, read_page, read_of}
+use Rattle.semantics.specs.Trials.{list_refusal, list_read, IsTrialsOutput}
 use Rattle.semantics.proofs.Outputs.{read_refused, read_accepted, page_accepted}
 use Rattle.semantics.proofs.TrialLists.{list_small}
 use Rattle.semantics.proofs.UsedLength.{most_used}

@@ -9,7 +9,7 @@ use native.Mathlib.Omega.{arith}
 use lib.ListN.{length, get_or, drop}
 use lib.Seq.{drop-drop, get_or-drop}
 use Rattle.semantics.specs.Page.{Page}
-use Rattle.semantics.specs.Trials.{TrialLine, Trial, trials_of, list_refusal, list_read}
+use Rattle.semantics.specs.Trials.{TrialLine, trials_of, list_refusal, list_read}
 use Rattle.semantics.proofs.TrialLists.{AllTried, AllSmall, accepted_tried}
 use Rattle.semantics.proofs.Trials.{AllOf, BeginsOther, trials_split}
 use Rattle.change.specs.Trial.{trial_at, lines_at}

@@ -1,18 +1,17 @@
 -- The first line, the answers of one trial after another, and the last line are the output. Assumes nothing.
 use mathlib.Core.Path.{◌≡◌, refl, sym, ◌∙◌, ap, ap₂}
-use mathlib.Core.Bool.{true}
 use mathlib.Core.List.{List, [], ◌∷◌, ◌++◌}
 use mathlib.Core.Option.{none}
-use Prim.Native.Nat.{ℕ, suc, ◌+◌, ◌*◌, ◌-◌}
+use Prim.Native.Nat.{ℕ, ◌+◌, ◌*◌, ◌-◌}
 use native.Mathlib.Omega.{arith}
 use lib.ListN.{length, take, drop}
 use lib.Seq.{take_at}
 use Rattle.print.specs.Wrote.{Wrote}
 use Rattle.print.proofs.Writing.{wrote_front}
-use Rattle.semantics.specs.Area.{page_of, top_of}
+use Rattle.semantics.specs.Area.{page_of}
 use Rattle.semantics.specs.Output.{Answers, queries_of, end_fields, top_fields, printed}
 use Rattle.semantics.specs.Page.{Page}
-use Rattle.semantics.specs.ReadPage.{text_refusal, page_read}
+use Rattle.semantics.specs.ReadPage.{page_read}
 use Rattle.semantics.specs.Trials.{Trial, trials_of, list_refusal, list_read, changed_page, AreAnswered, IsTrialsOutput}
 use Rattle.semantics.proofs.Outputs.{answers_exist}
 use Rattle.semantics.proofs.Proper.{Proper}
@@ -21,7 +20,7 @@ use Rattle.semantics.proofs.TrialPages.{changed_proper}
 use Rattle.semantics.proofs.Trials.{TrialsTried, accepted_trials, trial_output, trial_outputs, list_output_lem}
 use Rattle.change.specs.Trial.{lines_at}
 use Rattle.page.proofs.Head.{top_is}
-use Rattle.trial.specs.Parts.{lines_from, TrialPut, AllPut, no_more, one_more, BothBegun}
+use Rattle.trial.specs.Parts.{lines_from, AllPut, no_more, one_more, BothBegun}
 
 -- what is written at the front
 front : {out bytes out' : List ℕ} {size : ℕ} → Wrote out 0 bytes out' size → take size out' ≡ bytes

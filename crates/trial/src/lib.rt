@@ -1,5 +1,7 @@
 // What the program `trials` writes (document 02, ticket 8), part by part: the refused line or the first line, and the answers of each trial.
 // The last line is `answers::put_end`.
+#![tactic(auto)]
+
 ghost use Rattle.std.specs.Prelude.{◌≡◌, true, ◌*◌, ◌≤◌, ◌<◌, length};
 ghost use Rattle.semantics.specs.Area.{sound, page_of, top_of, conditions_of};
 ghost use Rattle.semantics.specs.ReadPage.{or_else, text_refusal, page_read, read_of};
@@ -12,7 +14,7 @@ use print::put_field;
 use reader::ReadAnswer;
 
 // What a page and a list begin with, in so many bytes: the refused line, or the first line, and then the list has so many lines.
-#[derive(Drop)]
+#[derive(Clone, Copy)]
 pub enum Begun {
     Refused(usize),
     Read { size: usize, lines: usize },
@@ -67,7 +69,7 @@ fn trial_end(list: &[u16], from: usize, lines: usize) -> usize
 }
 
 // What a trial writes: it ends before a line of the list, and takes so many bytes for so many answers.
-#[derive(Drop)]
+#[derive(Clone, Copy)]
 pub struct Part {
     pub end: usize,
     pub size: usize,
