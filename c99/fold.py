@@ -156,7 +156,7 @@ class Folding:
 
     def call_into(self, body, i, j, local):
         """A call whose result is only copied to another local writes that local itself."""
-        if j != i + 1 or body[j][0] != 'assign' or body[j][1][2] or body[j][2] != ('rvOpd', ('copy', ('place', local, []))):
+        if j != i + 1 or body[j][0] != 'assign' or body[j][1][2] or body[j][2] != ('opd', ('copy', ('place', local, []))):
             return None
         return body[:i] + [body[i][:3] + (body[j][1],)] + body[j + 1:]
 

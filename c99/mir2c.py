@@ -1,5 +1,5 @@
 #!/usr/bin/env python3
-"""mir2c.py --export PREFIX [--sources CRATES] [--include HEADER] < MIR > C: the program that `rt mir NAME` prints, as one C99 file.
+"""mir2c.py --export PREFIX [--sources CRATES] [--include HEADER] MIR... > C: the program whose MIR proved libraries carry, as one C99 file.
 
 The functions whose name begins with PREFIX are made visible, with a pointer and a count for each slice; all others are static. A word that is
 not known stops the translation. `--words` prints the meaning that is given to each word of the MIR, `--unfolded` leaves fold.py out: one
@@ -8,6 +8,7 @@ statement for each of the MIR.
 mir.py reads the MIR, fold.py puts values into the statement that reads them, words.py says what each word is in C, source.py has names and
 comments. This file has types, functions and the parts of the file."""
 import argparse
+import pathlib
 import re
 import sys
 import textwrap
@@ -140,12 +141,12 @@ class Program:
     def shape(self, t):
         """('fields', types) or ('variants', lists of types) of a declared type."""
         match t:
-            case ('tyNamed', ('pair', name, [])):
+            case ('tyNamed', name):
                 return self.types[name]
         raise Unknown(f'type {t}')
 
     def declared_names(self, t):
-        return self.names.declared(t[1][1], self.shape(t))
+        return self.names.declared(t[1], self.shape(t))
 
     def bare(self, t):
         """Whether an enum is a number alone."""
@@ -181,17 +182,17 @@ class Program:
                 return 'bool'
             case ('tyInt', _):
                 return words.ctype_int(t)
-            case ('tyRef', _, 'imm', to):
+            case ('tyRef', 'imm', to):
                 return f'const {self.ctype(to)} *'
-            case ('tyRef', _, 'mut', to):
+            case ('tyRef', 'mut', to):
                 return f'{self.ctype(to)} *'
-            case ('tyStruct', '&[]', [('tyRef', _, lent, to), ('tyInt', '64')]):
+            case ('tyStruct', '&[]', [('tyRef', lent, to), ('tyInt', '64')]):
                 return self.define(f'slice_{"mut_" * (lent == "mut")}{self.short(to)}', lambda name: [
                     f'typedef struct {{ {self.declare(t[2][0], "at")}; uint64_t length; }} {name};'])
-            case ('tyArray', to, ('lenLit', n)):
+            case ('tyArray', to, n):
                 return self.define(f'array_{self.short(to)}_{n}', lambda name: [
                     f'typedef struct {{ {self.ctype(to)} e[{n}]; }} {name};'])
-            case ('tyNamed', ('pair', symbol, [])):
+            case ('tyNamed', symbol):
                 return self.define(c_name(symbol), lambda name: self.declaration(t, name))
         raise Unknown(f'type {t}')
 
@@ -320,7 +321,7 @@ class Writer:
 
     def pointee(self, text, t):
         match t:
-            case ('tyRef', _, _, to):
+            case ('tyRef', _, to):
                 return to
             case 'tyPtr':
                 if text[0] not in self.pointer_types():
@@ -371,8 +372,8 @@ class Writer:
         """The places whose address becomes a `&mut`."""
         match x:
             case ('assign', ('place', base, []), ('addrOf', p)):
-                return [p] if self.types[int(base)][:1] + self.types[int(base)][2:3] == ('tyRef', 'mut') else []
-            case ('value', ('addrOf', p), ('tyRef', _, 'mut', _)):
+                return [p] if self.types[int(base)][:2] == ('tyRef', 'mut') else []
+            case ('value', ('addrOf', p), ('tyRef', 'mut', _)):
                 return [p]
         return [p for part in x if isinstance(part, (tuple, list)) for p in self.lent_mut(part)]
 
@@ -422,21 +423,21 @@ class Export:
 
     def parameter(self, t, name):
         match t:
-            case ('tyStruct', '&[]', [('tyRef', _, lent, to), _]):
+            case ('tyStruct', '&[]', [('tyRef', lent, to), _]):
                 self.parameters += [self.program.declare(t[2][0], name), f'size_t {name}_length']
                 none = f'none_{self.program.short(to)}'
                 if f'{self.program.ctype(to)} {none} = 0;' not in self.before:
                     self.before.append(f'{self.program.ctype(to)} {none} = 0;')
                 self.arguments.append(f'({self.program.ctype(t)}){{ {name} ? {name} : &{none}, {name}_length }}')
-            case ('tyRef', _, 'mut', ('tyInt', '64')):
+            case ('tyRef', 'mut', ('tyInt', '64')):
                 self.parameters.append(f'size_t *{name}')
                 self.before.append(f'uint64_t wide_{name} = *{name};')
                 self.arguments.append(f'&wide_{name}')
                 self.after.append(f'*{name} = (size_t)wide_{name};')
-            case ('tyRef', _, 'mut', ('tyInt', '32')) if name in self.program.names.signed(self.function.name):
+            case ('tyRef', 'mut', ('tyInt', '32')) if name in self.program.names.signed(self.function.name):
                 self.parameters.append(f'int32_t *{name}')
                 self.arguments.append(f'(uint32_t *){name}')
-            case ('tyRef', _, 'mut', ('tyInt', _)):
+            case ('tyRef', 'mut', ('tyInt', _)):
                 self.parameters.append(self.program.declare(t, name))
                 self.arguments.append(name)
             case ('tyInt', w):
@@ -494,7 +495,7 @@ def sites_of(bodies):
 def array_bytes(function):
     """The bytes of the arrays that a function holds."""
     arrays = [function.locals[i] for i in function.slots if function.locals[i][0] == 'tyArray']
-    return sum(int(t[2][1]) * (1 if t[1] == 'tyBool' else words.width(t[1]) // 8) for t in arrays)
+    return sum(int(t[2]) * (1 if t[1] == 'tyBool' else words.width(t[1]) // 8) for t in arrays)
 
 
 def apart(bodies, functions):
@@ -528,11 +529,12 @@ def shared(bodies):
     return {name for name, found in sites.items() if len(found) == 2 and all(looped for _, looped in found) and length(name) > LONG}
 
 
-def translate(text, prefix, sources, include, folded):
-    functions, types = mir.load(text)
-    exports = [name for name in functions if name.split('::')[-1].startswith(prefix)]
+def translate(texts, prefix, sources, include, folded):
+    functions = mir.Program(texts)
+    exports = [name for name in functions.names() if name.split('::')[-1].startswith(prefix)]
     order = needed(functions, exports)
-    program = Program({name: functions[name] for name in order}, types, source.Source(sources), folded, exports)
+    reached = {name: functions[name] for name in order}
+    program = Program(reached, mir.types_of(reached.values()), source.Source(sources), folded, exports)
     bodies, visible = [], []
     for name in order:
         writer = Writer(program, functions[name])
@@ -551,13 +553,14 @@ def main():
     arguments.add_argument('--include', metavar='HEADER', default='')
     arguments.add_argument('--unfolded', action='store_true')
     arguments.add_argument('--words', action='store_true')
+    arguments.add_argument('mir', metavar='MIR', nargs='*', type=pathlib.Path)
     given = arguments.parse_args()
     if given.words:
         for text in dict.fromkeys(function.__doc__ for function in words.WORDS.values()):
             print(text)
         return
     try:
-        sys.stdout.write(translate(sys.stdin.read(), given.export, given.sources, given.include, not given.unfolded))
+        sys.stdout.write(translate([path.read_text() for path in given.mir], given.export, given.sources, given.include, not given.unfolded))
     except Unknown as unknown:
         raise SystemExit(f'mir2c: {unknown}')
 

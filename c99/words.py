@@ -205,7 +205,7 @@ def pointer(f, x):
             return address(f, p)
         case ('value', ('op2', 'offset', base, count), _):
             return offset(f, base, count)
-        case ('value', ('rvOpd', inner), _):
+        case ('value', ('opd', inner), _):
             return pointer(f, inner)
     text = operand(f, x)
     return Pointer(bound(text, ATOM), None, f.pointee(text, operand_type(f, x)))
@@ -246,9 +246,9 @@ def rvalue(f, x, t):
     return meaning('value', x)(f, x, t)
 
 
-@word('value rvOpd')
+@word('value opd')
 def _(f, x, t):
-    """rvOpd A: the operand A itself"""
+    """opd A: the operand A itself"""
     return operand(f, x[1])
 
 
@@ -279,7 +279,7 @@ def _(f, x, t):
     these elements"""
     if t[0] == 'tyStruct':
         return slice_of(f, x[1], t)
-    if t[0] == 'tyArray' and t[2] == ('lenLit', str(len(x[1]))):
+    if t[0] == 'tyArray' and t[2] == str(len(x[1])):
         return f'({f.ctype(t)}){{ {{ {", ".join(operand(f, a)[0] for a in x[1])} }} }}', ATOM
     if t[0] != 'tyNamed':
         raise Unknown(f'an aggregate of the type {t}')
@@ -297,14 +297,14 @@ def slice_of(f, parts, t):
             whole = ('place', b, steps)
             if (b, steps) == (c, others) and f.ctype(place_type(f, whole)) == f.ctype(t):
                 return place(f, whole)
-    to = t[2][0][3]
+    to = t[2][0][2]
     return f'({f.ctype(t)}){{ {pointer(f, parts[0]).at(f, to).value()[0]}, {operand(f, parts[1])[0]} }}', ATOM
 
 
 @word('value repeat')
 def _(f, x, t):
     """repeat A N: an array of N times A; here A is zero, as everything that C sets to 0"""
-    if t[0] != 'tyArray' or t[2] != ('lenLit', x[2]) or x[1] not in ('false', ('int', x[1][1], '0')):
+    if t[0] != 'tyArray' or t[2] != x[2] or x[1] not in ('false', ('int', x[1][1], '0')):
         raise Unknown(f'repeat {x[1]} at the type {t}')
     return f'({f.ctype(t)}){{ {{ {operand(f, x[1])[0]} }} }}', ATOM
 
@@ -353,6 +353,12 @@ def _(op, a, b, t):
     """sub S: the difference; exact (proved), so signed numbers have the same bits modulo 2^W"""
     unsigned(op, 'signed')
     return narrowed(f'{a} - {b}', t)
+
+
+@word('op2 wrapSub')
+def _(op, a, b, t):
+    """wrapSub: the difference modulo 2^W"""
+    return f'({ctype_int(t)})({a} - {b})', UNARY
 
 
 @word('op2 mul')
@@ -483,16 +489,13 @@ def _(f, x):
     """call F A... P: the function F on the operands A, its result put at the place P"""
     text = call(f, x)
     if x[3][1] == 'none' or place_type(f, x[3]) == 'tyUnit':
-        f.line(f'{text};' if f.program.result(x[1][1][1]) == 'void' else f'(void){text};')
+        f.line(f'{text};' if f.program.result(x[1]) == 'void' else f'(void){text};')
     else:
         f.line(f'{place(f, x[3])[0]} = {text};')
 
 
 def call(f, x):
-    match x[1]:
-        case ('direct', ('fnRef', name)):
-            return f'{f.program.function_name(name)}({", ".join(operand(f, a)[0] for a in x[2])})'
-    raise Unknown(f'call {x[1]}')
+    return f'{f.program.function_name(x[1])}({", ".join(operand(f, a)[0] for a in x[2])})'
 
 
 @word('statement return')
@@ -517,7 +520,7 @@ def _(f, x):
 
 @word('statement switch')
 def _(f, x):
-    """switch A ARMS: the arm that lists the number A, else the default; with noDefault one arm does (proved), so the last needs no test"""
+    """switch A ARMS: the arm that lists the number A, else the default; with no default one arm does (proved), so the last needs no test"""
     names = f.program.tags(operand_type_of_tag(f, x[1]))
     arms = [([names[int(v)] if names else v for v in values], body) for values, body in x[2]]
     if x[3] is not None:

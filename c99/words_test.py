@@ -1,6 +1,7 @@
 #!/usr/bin/env python3
 """The operations of the MIR at every width, through the translator and a C compiler, against their meaning here; and what it must refuse.
 The last line is `N passed, M failed`. CC names the compiler (default gcc)."""
+import json
 import os
 import pathlib
 import subprocess
@@ -11,14 +12,14 @@ import mir2c
 from mir import Unknown
 
 WIDTHS = (8, 16, 32, 64)
-TWO = {'(add unsigned)': lambda a, b, w: a + b, '(sub unsigned)': lambda a, b, w: a - b, '(mul unsigned)': lambda a, b, w: a * b,
-       '(div unsigned)': lambda a, b, w: a // b if b else -1, '(rem unsigned)': lambda a, b, w: a % b if b else -1,
-       'shl': lambda a, b, w: (a << b) % 2 ** w if b < w else -1, '(shr unsigned)': lambda a, b, w: a >> b if b < w else -1,
-       'and': lambda a, b, w: a & b, 'or': lambda a, b, w: a | b, 'xor': lambda a, b, w: a ^ b}
-COMPARE = {'(lt unsigned)': lambda a, b, w: a < b, '(le unsigned)': lambda a, b, w: a <= b, 'eq': lambda a, b, w: a == b,
-           'ne': lambda a, b, w: a != b, '(lt signed)': lambda a, b, w: signed(a, w) < signed(b, w)}
-COUNT = {'leadingZeros': lambda a, w: w - a.bit_length(), 'trailingZeros': lambda a, w: (a & -a).bit_length() - 1 if a else w,
-         'countOnes': lambda a, w: bin(a).count('1')}
+TWO = {'Add Unsigned': lambda a, b, w: a + b, 'Sub Unsigned': lambda a, b, w: a - b, 'Mul Unsigned': lambda a, b, w: a * b,
+       'Div Unsigned': lambda a, b, w: a // b if b else -1, 'Rem Unsigned': lambda a, b, w: a % b if b else -1,
+       'Shl': lambda a, b, w: (a << b) % 2 ** w if b < w else -1, 'Shr Unsigned': lambda a, b, w: a >> b if b < w else -1,
+       'And': lambda a, b, w: a & b, 'Or': lambda a, b, w: a | b, 'Xor': lambda a, b, w: a ^ b, 'WrapSub': lambda a, b, w: (a - b) % 2 ** w}
+COMPARE = {'Lt Unsigned': lambda a, b, w: a < b, 'Le Unsigned': lambda a, b, w: a <= b, 'Eq': lambda a, b, w: a == b,
+           'Ne': lambda a, b, w: a != b, 'Lt Signed': lambda a, b, w: signed(a, w) < signed(b, w)}
+COUNT = {'LeadingZeros': lambda a, w: w - a.bit_length(), 'TrailingZeros': lambda a, w: (a & -a).bit_length() - 1 if a else w,
+         'CountOnes': lambda a, w: bin(a).count('1')}
 
 
 def signed(a, w):
@@ -26,60 +27,76 @@ def signed(a, w):
     return a if a < 2 ** (w - 1) else a - 2 ** w
 
 
-def chain(parts, cons='lcons', nil='lnil'):
-    return f'({cons} {parts[0]} {chain(parts[1:], cons, nil)})' if parts else nil
-
-
 def function(name, types, parameters, body):
     """A function of the MIR; types: of the locals, body: its statements."""
-    listed = chain([f'(local {t} {"memorySlot" if t.startswith("(tyArray ") else "valueLocal"})' for t in types])
-    for statement in reversed(body):
-        code = f'(seq {statement} {code})' if statement is not body[-1] else f'(seq {statement} return)'
-    return f'(fn-def "t::{name}" (fnItem 0 lnil {parameters} {listed} {code}))'
+    listed = [{'ty': t, 'home': 'MemorySlot' if 'Array' in t else 'ValueLocal'} for t in types]
+    code = [word for statement in body for word in ('Seq', statement)] + ['Return']
+    return [f't::{name}', {'params': parameters, 'generics': {'types': [], 'bounds': [], 'impls': []}, 'types': [], 'locals': listed, 'body': code}]
 
 
 def number(w):
-    return f'(tyInt {w})'
+    return {'Int': w}
+
+
+def constant(w, n):
+    return {'Int': {'width': w, 'value': n}}
+
+
+def place(n, *steps):
+    return {'local': n, 'steps': list(steps)}
 
 
 def copy(n):
-    return f'(copy (place {n} lnil))'
+    return {'Copy': place(n)}
 
 
 def assign(n, value):
-    return f'(assign (place {n} lnil) {value})'
+    return {'Assign': [place(n), value]}
+
+
+def op1(op, a):
+    return {'Op1': [op, a]}
+
+
+def op2(op, a, b):
+    """An operation on two operands; one that reads its numbers as signed or unsigned says so in a second word."""
+    word, *sign = op.split()
+    return {'Op2': [{word: sign[0]} if sign else word, a, b]}
+
+
+def cast(sign, n):
+    return op1({'Cast': [sign, 'Unsigned', 64]}, copy(n))
 
 
 def widened(n, source):
     """Local n of 64 bits becomes what a narrower local holds."""
-    return assign(n, f'(op1 (cast unsigned unsigned 64) {copy(source)})')
+    return assign(n, cast('Unsigned', source))
 
 
 def operations():
     """Triples: a name, the function, and what it must answer for two numbers, -1 where that is undefined."""
     for w in WIDTHS:
         for op, meaning in TWO.items():
-            body = [assign(3, f'(op2 {op} {copy(1)} {copy(2)})'), widened(0, 3)]
+            body = [assign(3, op2(op, copy(1), copy(2))), widened(0, 3)]
             yield f'{op} {w}', [number(64)] + [number(w)] * 3, body, w, lambda a, b, w, m=meaning: m(a, b, w) if m(a, b, w) < 2 ** w else -1
         for op, meaning in COMPARE.items():
-            body = [assign(3, f'(op2 {op} {copy(1)} {copy(2)})'), widened(0, 3)]
-            yield f'{op} {w}', [number(64), number(w), number(w), 'tyBool'], body, w, lambda a, b, w, m=meaning: int(m(a, b, w))
+            body = [assign(3, op2(op, copy(1), copy(2))), widened(0, 3)]
+            yield f'{op} {w}', [number(64), number(w), number(w), 'Bool'], body, w, lambda a, b, w, m=meaning: int(m(a, b, w))
         for op, meaning in COUNT.items():
-            body = [assign(3, f'(op1 {op} {copy(1)})'), widened(0, 3)]
+            body = [assign(3, op1(op, copy(1))), widened(0, 3)]
             yield f'{op} {w}', [number(64), number(w), number(w), number(32)], body, w, lambda a, b, w, m=meaning: m(a, w)
-        body = [assign(0, f'(op1 (cast signed unsigned 64) {copy(1)})')]
-        yield f'cast signed unsigned {w}', [number(64), number(w), number(w)], body, w, lambda a, b, w: signed(a, w)
-        body = [assign(3, f'(op1 not {copy(1)})'), widened(0, 3)]
+        yield f'cast signed unsigned {w}', [number(64), number(w), number(w)], [assign(0, cast('Signed', 1))], w, lambda a, b, w: signed(a, w)
+        body = [assign(3, op1('Not', copy(1))), widened(0, 3)]
         yield f'not {w}', [number(64)] + [number(w)] * 3, body, w, lambda a, b, w: 2 ** w - 1 - a
-        array = f'(tyArray {number(w)} (lenLit 3))'
-        types = [number(64), number(w), number(w), array, f'(tyRef erased imm {array})', f'(tyRef erased imm {number(w)})', number(w)]
+        array = {'Array': [number(w), {'Lit': 3}]}
+        lent = [{'Ref': ['Erased', 'Imm', array]}, {'Ref': ['Erased', 'Imm', number(w)]}]
+        types = [number(64), number(w), number(w), array, *lent, number(w)]
         for k, meaning in enumerate((lambda a, b, w: b, lambda a, b, w: a, lambda a, b, w: 7)):
-            body = [assign(3, f'(aggregate {chain([copy(2), copy(1), f"(int {w} 7)"])})'), assign(4, '(addrOf (place 3 lnil))'),
-                    assign(5, f'(op2 offset {copy(4)} (int 64 {k * w // 8}))'),
-                    assign(6, f'(rvOpd (copy (place 5 (lcons (deref {number(w)}) lnil))))'), widened(0, 6)]
+            body = [assign(3, {'Aggregate': [copy(2), copy(1), constant(w, 7)]}), assign(4, {'AddrOf': place(3)}),
+                    assign(5, op2('Offset', copy(4), constant(64, k * w // 8))),
+                    assign(6, {'Opd': {'Copy': place(5, {'Deref': number(w)})}}), widened(0, 6)]
             yield f'element {k} of {w}', types, body, w, meaning
-        constant = 2 ** (w - 1) + 1
-        body = [assign(3, f'(op1 not (int {w} {constant}))'), assign(3, f'(op2 and {copy(3)} {copy(1)})'), widened(0, 3)]
+        body = [assign(3, op1('Not', constant(w, 2 ** (w - 1) + 1))), assign(3, op2('And', copy(3), copy(1))), widened(0, 3)]
         yield f'constant {w}', [number(64)] + [number(w)] * 3, body, w, lambda a, b, w: (2 ** w - 1 - (2 ** (w - 1) + 1)) & a
 
 
@@ -91,12 +108,8 @@ def seconds(w):
     return sorted({0, 1, 3, w - 1, w, 2 ** (w - 1), 2 ** w - 1})
 
 
-def program(functions):
-    return f'program {chain(functions)} (fnRef "t::none")'
-
-
 def translated(functions):
-    return mir2c.translate(program(functions), 'op_', '', '', True)
+    return mir2c.translate([json.dumps(functions)], 'op_', '', '', True)
 
 
 def run_all(cases):
@@ -134,20 +147,25 @@ int main(void)
     return len(cases) - len(wrong), len(wrong)
 
 
+def call(name, *operands):
+    return {'Call': [{'Fn': [f't::{name}', {'types': [], 'dicts': []}]}, list(operands), place(3)]}
+
+
 def refused():
     """How many of the programs that must be refused are."""
-    bad = {'an unknown operation': [assign(3, f'(op2 (shr signed) {copy(1)} {copy(2)})')],
-           'an unknown statement': ['(jump 1)'],
-           'an unknown value': [assign(3, f'(blend {copy(1)})')],
-           'another signed comparison': [assign(3, f'(op2 (le signed) {copy(1)} {copy(2)})')],
-           'a cast between signed numbers': [assign(3, f'(op1 (cast signed signed 64) {copy(1)})')],
-           'an array of another length': [assign(4, f'(aggregate {chain([copy(1)])})')],
-           'a recursion': [f'(call (direct (fnRef "t::op_0")) (lcons {copy(1)} (lcons {copy(2)} lnil)) (place 3 lnil))'],
-           'an unknown function': [f'(call (direct (fnRef "t::gone")) (lcons {copy(1)} lnil) (place 3 lnil))']}
+    bad = {'an unknown operation': [assign(3, op2('Shr Signed', copy(1), copy(2)))],
+           'an unknown statement': [{'Jump': 1}],
+           'an unknown value': [assign(3, {'Blend': copy(1)})],
+           'another signed comparison': [assign(3, op2('Le Signed', copy(1), copy(2)))],
+           'a cast between signed numbers': [assign(3, op1({'Cast': ['Signed', 'Signed', 64]}, copy(1)))],
+           'an array of another length': [assign(4, {'Aggregate': [copy(1)]})],
+           'a recursion': [call('op_0', copy(1), copy(2))],
+           'an unknown function': [call('gone', copy(1))],
+           'a call at a type': [{'Call': [{'Fn': ['t::op_0', {'types': ['Bool'], 'dicts': []}]}, [copy(1), copy(2)], place(3)]}]}
     passed = 0
     for name, body in bad.items():
         try:
-            translated([function('op_0', [number(32)] * 4 + [f'(tyArray {number(32)} (lenLit 2))'], 2, body + [assign(0, f'(rvOpd {copy(3)})')])])
+            translated([function('op_0', [number(32)] * 4 + [{'Array': [number(32), {'Lit': 2}]}], 2, body + [assign(0, {'Opd': copy(3)})])])
             print(f'{name} is not refused')
         except Unknown:
             passed += 1
