@@ -12,6 +12,7 @@ import pathlib
 import re
 import sys
 import textwrap
+import types
 
 import fold
 import mir
@@ -108,7 +109,8 @@ HELPER_NAMES = {'leadingZeros': 'leading_zeros', 'trailingZeros': 'trailing_zero
 
 
 def c_name(symbol):
-    return re.sub(r'\W+', '_', symbol)
+    """A name of Rattle in C; that of a tuple is `(,)` there."""
+    return 'tuple' if symbol[0] == '(' else re.sub(r'\W+', '_', symbol)
 
 
 def wrapped(text, indent=''):
@@ -129,21 +131,71 @@ def comment(text):
 class Program:
     """The types, in the order in which C needs them, and what is known of the functions."""
 
-    def __init__(self, functions, types, names, folded, exports):
-        self.functions, self.types, self.names = functions, types, names
+    def __init__(self, functions, declared, names, folded, exports):
+        self.functions, self.types, self.names, self.c_names, self.used, self.shapes, self.constants, self.pointers, self.made = functions, declared, names, {}, set(), {}, {}, {}, set()
+        for function in functions.values():
+            function.body = self.without_empty(function)
         self.bodies = {name: fold.fold(function) if folded else function.body for name, function in functions.items()}
         self.shared = shared(self.bodies)
-        self.once = once(self.bodies, functions, exports)
-        self.once |= PARTS & set(self.bodies)
-        self.apart = (apart(self.bodies, functions) | BESIDE & set(self.bodies)) - self.once
+        bytes_of = {name: self.array_bytes(function) for name, function in functions.items()}
+        self.once = once(self.bodies, bytes_of, exports) | self.of_symbols(PARTS)
+        self.apart = (apart(self.bodies, bytes_of) | self.of_symbols(BESIDE)) - self.once
         self.defined, self.helpers = {}, {}
+
+    def of_symbols(self, symbols):
+        """The functions of these names in Rattle, at whatever arguments."""
+        return {name for name, function in self.functions.items() if function.symbol in symbols}
+
+    def array_bytes(self, function):
+        """The bytes of the arrays that a function holds, those in its structs too."""
+        return sum(self.bytes_in_arrays(function.locals[i]) for i in function.slots)
+
+    def bytes_in_arrays(self, t):
+        match t:
+            case ('tyArray', to, n):
+                return int(n) * (mir.size_of(to) or self.bytes_in_arrays(to))
+            case ('tyNamed', *_) if self.shape(t)[0] == 'fields':
+                return sum(map(self.bytes_in_arrays, self.shape(t)[1]))
+        return 0
 
     def shape(self, t):
         """('fields', types) or ('variants', lists of types) of a declared type."""
         match t:
-            case ('tyNamed', name):
-                return self.types[name]
+            case ('tyNamed', name, arguments) if name in self.types:
+                if t not in self.shapes:
+                    self.shapes[t] = mir.at(self.types[name], arguments, ())
+                return self.shapes[t]
         raise Unknown(f'type {t}')
+
+    def empty(self, t):
+        """Whether a type has one value only, as that of a closure that captures nothing: C has no such type, so it is left out. So is a pointer to one."""
+        match t:
+            case 'tyUnit':
+                return True
+            case ('tyRef', _, to):
+                return self.empty(to)
+            case ('tyNamed', *_):
+                return self.shape(t)[0] == 'fields' and all(map(self.empty, self.shape(t)[1]))
+        return False
+
+    def without_empty(self, function):
+        """A body without what is done to values of types that are left out; as operands of something else they are all `unit`."""
+        f = types.SimpleNamespace(program=self, types=function.locals)
+
+        def operand(x):
+            return 'unit' if x[0] in ('copy', 'move') and self.empty(words.place_type(f, x[1])) else x
+
+        def change(x):
+            match x:
+                case ('assign', place, _) if self.empty(words.place_type(f, place)):
+                    return []
+                case ('assign', place, ('aggregate', operands)):
+                    return [('assign', place, ('aggregate', list(map(operand, operands))))]
+                case ('call', callee, operands, place):
+                    return [('call', callee, list(map(operand, operands)), place)]
+            return [x]
+
+        return mir.changed(function.body, change)
 
     def declared_names(self, t):
         return self.names.declared(t[1], self.shape(t))
@@ -151,7 +203,7 @@ class Program:
     def bare(self, t):
         """Whether an enum is a number alone."""
         shape = self.shape(t)
-        return shape[0] == 'variants' and not any(shape[1])
+        return shape[0] == 'variants' and all(self.empty(x) for fields in shape[1] for x in fields)
 
     def field(self, t, variant, k):
         """How C names a field behind a value, and its type."""
@@ -174,6 +226,7 @@ class Program:
     def variant(self, t, k, values):
         """A value of an enum: its tag alone, or by the function that makes the variant."""
         tag = self.tags(t)[k]
+        self.made.add(tag)
         return (tag, words.ATOM) if self.bare(t) else (f'new_{tag}({", ".join(values)})', words.ATOM)
 
     def ctype(self, t):
@@ -192,8 +245,8 @@ class Program:
             case ('tyArray', to, n):
                 return self.define(f'array_{self.short(to)}_{n}', lambda name: [
                     f'typedef struct {{ {self.ctype(to)} e[{n}]; }} {name};'])
-            case ('tyNamed', symbol):
-                return self.define(c_name(symbol), lambda name: self.declaration(t, name))
+            case ('tyNamed', symbol, arguments):
+                return self.define(self.c_name(t, symbol, arguments), lambda name: self.declaration(t, name))
         raise Unknown(f'type {t}')
 
     def declare(self, t, name):
@@ -202,6 +255,34 @@ class Program:
 
     def short(self, t):
         return re.sub(r'^uint(\d+)_t$', r'u\1', self.ctype(t))
+
+    def c_name(self, x, symbol, arguments):
+        """The name in C of a function or of a declared type, with the types that it is made for."""
+        if x not in self.c_names:
+            name = first = '_'.join([c_name(symbol), *(self.brief(t) for t in arguments if t != 'tyUnit')])
+            while name in self.used:
+                name = f'{first}_{int(name[len(first) + 1:] or 1) + 1}'
+            self.used.add(name)
+            self.c_names[x] = name
+        return self.c_names[x]
+
+    def brief(self, t):
+        """A type in a name: of a declared one its last word, of a closure the function that it stands in."""
+        match t:
+            case ('tyNamed', symbol, arguments):
+                closure = re.search(r'::fn::(\w+(?:::\w+)*?)::[^:]*\+Self', symbol)
+                return c_name(closure[1]) if closure else '_'.join([c_name(symbol.split('::')[-1]), *map(self.brief, arguments)])
+            case ('tyRef', _, to):
+                return self.brief(to)
+            case ('tyStruct', '&[]', [ref, _]):
+                return f'slice_{self.brief(ref)}'
+            case ('tyArray', to, n):
+                return f'array_{self.brief(to)}_{n}'
+            case ('tyInt', w):
+                return f'u{w}'
+            case str(name):
+                return name.removeprefix('ty').lower()
+        raise Unknown(f'type {t}')
 
     def define(self, name, lines):
         """Enters a type's definition, behind those that it needs."""
@@ -213,16 +294,24 @@ class Program:
     def declaration(self, t, name):
         shape, names = self.shape(t), self.declared_names(t)
         if shape[0] == 'fields':
-            inner = ' '.join(f'{self.declare(x, n)};' for n, x in zip(names, shape[1]))
+            inner = ' '.join(f'{self.declare(x, n)};' for n, x in zip(names, shape[1]) if not self.empty(x))
             return [f'typedef struct {{ {inner} }} {name};']
         tags = f'enum {{ {", ".join(f"{name}_{n}" for n, _ in names)} }};'
         if self.bare(t):
             return [f'typedef uint8_t {name};', tags]
-        variants = [(n, list(zip(fields, types))) for (n, fields), types in zip(names, shape[1])]
+        variants = [(n, [(f, x) for f, x in zip(fields, types) if not self.empty(x)]) for (n, fields), types in zip(names, shape[1])]
         inner = ' '.join('struct { ' + ' '.join(f'{self.declare(x, f)};' for f, x in fields) + f' }} {n};' for n, fields in variants if fields)
         out = [f'typedef struct {{ uint8_t tag; union {{ {inner} }} as; }} {name};', tags]
         for n, fields in variants:
-            out += self.maker(name, n, fields)
+            out.append((f'{name}_{n}', self.maker(name, n, fields)))
+        return out
+
+    def definitions(self):
+        """The lines of the types and constants; of the functions that make variants, those that are called."""
+        out = []
+        for lines in self.defined.values():
+            listed = [line for x in lines for line in ([x] if isinstance(x, str) else x[1] if x[0] in self.made else [])]
+            out += listed + ([''] if len(listed) > 1 else [])
         return out
 
     def maker(self, name, n, fields):
@@ -230,6 +319,35 @@ class Program:
         out = [f'static inline {name} new_{name}_{n}({", ".join(self.declare(x, f) for f, x in fields) or "void"})', '{',
                f'    {name} made;', f'    made.tag = {name}_{n};']
         return out + [f'    made.as.{n}.{f} = {f};' for f, x in fields] + ['    return made;', '}']
+
+    def constant(self, t, x):
+        """The name of an object that holds a constant."""
+        text = f'static const {self.ctype(t)} %s = {self.initial(t, x)};'
+        name = self.constants.setdefault(text, f'constant_{len(self.constants) + 1}')
+        self.defined[name] = wrapped(text % name)
+        return name
+
+    def initial(self, t, x):
+        """How C writes a constant of a type."""
+        match t:
+            case 'tyBool' | ('tyInt', _) if isinstance(x, str):
+                return x if t == 'tyBool' or int(x) < 2 ** 31 else f'UINT{t[1]}_C({x})'
+            case ('tyArray', to, n) if int(n) == len(x):
+                return f'{{ {{ {", ".join(self.initial(to, part) for part in x)} }} }}'
+            case ('tyNamed', *_):
+                shape, names = self.shape(t), self.declared_names(t)
+                if shape[0] == 'fields':
+                    return self.initial_fields(names, shape[1], x)
+                k = int(x[0])
+                if self.bare(t):
+                    return self.tags(t)[k]
+                inner = self.initial_fields(names[k][1], shape[1][k], x[1:])
+                return f'{{ .tag = {self.tags(t)[k]}' + (f', .as = {{ .{names[k][0]} = {inner} }} }}' if inner else ' }')
+        raise Unknown(f'a constant of the type {t}')
+
+    def initial_fields(self, names, types, parts):
+        listed = [f'.{n} = {self.initial(t, part)}' for n, t, part in zip(names, types, parts) if not self.empty(t)]
+        return listed and f'{{ {", ".join(listed)} }}'
 
     def helper(self, op, w):
         for needed_one in ('leadingZeros', op) if op == 'trailingZeros' else (op,):
@@ -239,11 +357,14 @@ class Program:
     def function_name(self, symbol):
         if symbol not in self.functions:
             raise Unknown(f'function {symbol}')
-        return c_name(symbol)
+        return self.c_name(symbol, self.functions[symbol].symbol, self.functions[symbol].arguments)
 
     def result(self, symbol):
         t = self.functions[symbol].locals[0]
-        return 'void' if t == 'tyUnit' else self.ctype(t)
+        if t == 'tyPtr':
+            to, written = self.pointers[symbol][0]
+            return f'{"" if written else "const "}{self.ctype(to)} *'
+        return 'void' if self.empty(t) else self.ctype(t)
 
 
 class Label:
@@ -260,16 +381,18 @@ class Writer:
         self.program, self.function, self.types = program, function, function.locals
         self.body = program.bodies[function.name]
         self.lines, self.depth, self.labels, self.breakable, self.count = [], 1, [], [], 0
-        self.comment, given = program.names.function(function.name)
+        self.comment, given = program.names.function(function.symbol)
         self.given = given if len(given) == function.parameters else []
         self.pointers = {}
+        ends = {i: self.pointer_types().get(self.name(str(i))) for i, t in enumerate(self.types[:function.parameters + 1]) if t == 'tyPtr'}
+        program.pointers[function.name] = {i: at for i, at in ends.items() if at}
 
     def ctype(self, t):
         return self.program.ctype(t)
 
     def name(self, local):
         i = int(local)
-        return self.given[i - 1] if 0 < i <= len(self.given) else f'x{local}'
+        return self.given[i - 1] if 0 < i <= len(self.given) and self.given[i - 1] else f'x{local}'
 
     def line(self, text):
         self.lines += wrapped(text, '    ' * self.depth)
@@ -281,7 +404,7 @@ class Writer:
 
     def returns(self, statement):
         """Writes a statement that sets the result and is followed by the return; says whether it was one."""
-        if self.types[0] == 'tyUnit':
+        if self.program.empty(self.types[0]):
             return False
         match statement:
             case ('assign', ('place', '0', []), value):
@@ -330,15 +453,25 @@ class Writer:
         raise Unknown(f'{text[0]} is no pointer')
 
     def pointer_types(self):
-        """For each local that is a bare pointer what it points at and whether that is written: by what is done through it."""
+        """For each local that is a bare pointer what it points at and whether that is written: by what is done through it, here or in a function that
+        it is handed to, else by what it is set to."""
         if not self.pointers:
-            for p, written in self.uses(self.body):
+            for p, written in self.uses(self.function.body):
                 match p:
                     case ('place', str(base), [('deref', to), *_]) if self.types[int(base)] == 'tyPtr':
                         self.points(base, to, written)
-            for derived, base in self.derived(self.body):
-                if self.name(derived) in self.pointers:
-                    self.points(base, *self.pointers[self.name(derived)])
+            for base, at in self.handed(self.function.body):
+                self.points(base, *at)
+            derived = list(self.derived(self.function.body))
+            for _ in derived:
+                for a, b in derived:
+                    if self.name(a) in self.pointers:
+                        self.points(b, *self.pointers[self.name(a)])
+            for a, b in derived:
+                if self.name(b) in self.pointers:
+                    self.points(a, *self.pointers[self.name(b)])
+            for local, t in self.set_to(self.function.body):
+                self.pointers.setdefault(self.name(local), (t[2], t[1] == 'mut'))
         return self.pointers
 
     def points(self, local, to, written):
@@ -348,14 +481,42 @@ class Writer:
         self.pointers[self.name(local)] = (to, old[1] or written)
 
     def derived(self, body):
-        """Pairs of bare pointers of which the first is an offset from the second."""
+        """Pairs of bare pointers of which the first is an offset from the second, or the same."""
         for x in body:
             match x:
-                case ('assign', ('place', local, []), ('op2', 'offset', ('copy', ('place', str(base), [])), _)):
-                    if self.types[int(base)] == 'tyPtr':
+                case (('assign', ('place', local, []), ('op2', 'offset', ('copy', ('place', str(base), [])), _)) |
+                      ('assign', ('place', local, []), ('opd', ('copy' | 'move', ('place', str(base), []))))):
+                    if self.types[int(base)] == self.types[int(local)] == 'tyPtr':
                         yield local, base
             for inner in mir.inner_lists(x):
                 yield from self.derived(inner)
+
+    def handed(self, body):
+        """Bare pointers that are a function's argument or result, with what they point at there."""
+        for x in body:
+            match x:
+                case ('call', name, operands, place):
+                    locals_of = [place] + [operand[1] if operand[0] in ('copy', 'move') else None for operand in operands]
+                    for k, at in self.program.pointers.get(name, {}).items():
+                        match locals_of[k]:
+                            case ('place', str(local), []) if self.types[int(local)] == 'tyPtr':
+                                yield local, at
+            for inner in mir.inner_lists(x):
+                yield from self.handed(inner)
+
+    def set_to(self, body):
+        """Bare pointers, with the type of reference that they are set to."""
+        for x in body:
+            match x:
+                case ('assign', ('place', str(local), []), ('addrOf', p)) if self.types[int(local)] == 'tyPtr':
+                    through = p[2] and p[2][-1][0] == 'deref' and words.place_type(self, ('place', p[1], p[2][:-1]))
+                    yield local, ('tyRef', through[1] if through and through[0] == 'tyRef' else 'mut', words.place_type(self, p))
+                case ('assign', ('place', str(local), []), ('opd', ('copy' | 'move', p))) if self.types[int(local)] == 'tyPtr':
+                    t = words.place_type(self, p)
+                    if t[0] == 'tyRef':
+                        yield local, t
+            for inner in mir.inner_lists(x):
+                yield from self.set_to(inner)
 
     def uses(self, body):
         """The places in statements, and whether something is written there or lent to be written."""
@@ -392,13 +553,14 @@ class Writer:
             self.lines.pop()
         used = set(re.findall(r'(?<!\.)\b[A-Za-z_]\w*', '\n'.join(self.lines)))
         count = self.function.parameters
-        parameters = ', '.join(self.declare(i) for i in range(1, 1 + count)) or 'void'
-        unread = [self.name(str(i)) for i in range(1, 1 + count) if self.name(str(i)) not in used]
+        held = [i for i in range(1, 1 + count) if not self.program.empty(self.types[i])]
+        parameters = ', '.join(map(self.declare, held)) or 'void'
+        unread = [self.name(str(i)) for i in held if self.name(str(i)) not in used]
         unread = [f'    (void){name}; /* only the contract speaks of it */' for name in unread]
         mine = [i for i in range(len(self.types)) if (i == 0 or i > count) and f'x{i}' in used]
         of = self.function.name
         kind = 'APART' if of in self.program.apart else 'ONCE' if of in self.program.once else 'SHARED' if of in self.program.shared else 'inline'
-        head = f'static {kind} {self.program.result(self.function.name)} {c_name(self.function.name)}({parameters})'
+        head = f'static {kind} {self.program.result(of)} {self.program.function_name(of)}({parameters})'
         return comment(self.comment) + wrapped(head) + ['{'] + self.declarations(mine) + unread + self.lines + ['}', '']
 
     def declarations(self, mine):
@@ -452,7 +614,7 @@ class Export:
         answer = {('tyInt', '32'): 'int32_t', ('tyInt', '64'): 'size_t'}.get(self.function.locals[0])
         if not answer:
             raise Unknown(f'{self.function.name}: an exported result of the type {self.function.locals[0]}')
-        call = f'{c_name(self.function.name)}({", ".join(self.arguments)})'
+        call = f'{self.program.function_name(self.function.name)}({", ".join(self.arguments)})'
         signed = 'answer <= INT32_MAX ? (int32_t)answer : -(int32_t)(UINT32_MAX - answer) - 1'
         body = self.before + [f'{self.program.ctype(self.function.locals[0])} answer = {call};'] + self.after
         body.append(f'return {signed if answer == "int32_t" else "(size_t)answer"};')
@@ -483,6 +645,20 @@ def needed(functions, exports):
     return order
 
 
+def acting(functions, order, exports):
+    """The functions without those that do nothing, as letting go of a value that owns nothing, and those that are never called (proved), and without
+    the calls of these."""
+    idle, never = set(), set()
+    for name in order:
+        function = functions[name]
+        function.body = mir.reachable(mir.without_calls(function.body, idle), never)
+        if function.body == mir.UNREACHABLE:
+            never.add(name)
+        elif function.locals[0] == 'tyUnit' and name not in exports and not mir.acts(function.body):
+            idle.add(name)
+    return [name for name in order if name not in idle | never]
+
+
 def sites_of(bodies):
     """Where each function is called: the callers, each with whether that call stands in a loop."""
     sites = {}
@@ -492,16 +668,9 @@ def sites_of(bodies):
     return sites
 
 
-def array_bytes(function):
-    """The bytes of the arrays that a function holds."""
-    arrays = [function.locals[i] for i in function.slots if function.locals[i][0] == 'tyArray']
-    return sum(int(t[2]) * (1 if t[1] == 'tyBool' else words.width(t[1]) // 8) for t in arrays)
-
-
-def apart(bodies, functions):
+def apart(bodies, bytes_of):
     """The functions that keep their frame to themselves: see LARGE."""
     sites = sites_of(bodies)
-    bytes_of = {name: array_bytes(functions[name]) for name in bodies}
 
     def in_loop(name):
         found = sites.get(name, [])
@@ -510,10 +679,10 @@ def apart(bodies, functions):
     return {name for name in bodies if bytes_of[name] >= LARGE and not in_loop(name)}
 
 
-def once(bodies, functions, exports):
+def once(bodies, bytes_of, exports):
     """The functions with arrays that a visible function calls once, and no other place calls, and those visible ones: see SMALL."""
     found = {name: sites[0][0] for name, sites in sites_of(bodies).items()
-             if LARGE <= array_bytes(functions[name]) < SMALL and len(sites) == 1 and not sites[0][1] and sites[0][0] in exports}
+             if LARGE <= bytes_of[name] < SMALL and len(sites) == 1 and not sites[0][1] and sites[0][0] in exports}
     return {*found, *found.values()}
 
 
@@ -532,7 +701,7 @@ def shared(bodies):
 def translate(texts, prefix, sources, include, folded):
     functions = mir.Program(texts)
     exports = [name for name in functions.names() if name.split('::')[-1].startswith(prefix)]
-    order = needed(functions, exports)
+    order = acting(functions, needed(functions, exports), exports)
     reached = {name: functions[name] for name in order}
     program = Program(reached, mir.types_of(reached.values()), source.Source(sources), folded, exports)
     bodies, visible = [], []
@@ -541,9 +710,8 @@ def translate(texts, prefix, sources, include, folded):
         bodies += writer.text()
         if name in exports:
             visible += Export(program, functions[name], writer).text()
-    defined = [line for lines in program.defined.values() for line in lines + ([''] if len(lines) > 1 else [])]
     head = HEAD + (f'#include "{include}"\n' if include else '')
-    return '\n'.join([head, CHECKS, APART, ONCE, SHARED, *defined, '', *program.helpers.values(), *bodies, *visible]).rstrip() + '\n'
+    return '\n'.join([head, CHECKS, APART, ONCE, SHARED, *program.definitions(), '', *program.helpers.values(), *bodies, *visible]).rstrip() + '\n'
 
 
 def main():

@@ -7,6 +7,11 @@ KEYWORDS = set('''auto break case char const continue default do double else enu
 restrict return short signed sizeof static struct switch typedef union unsigned void volatile while bool true false'''.split())
 
 
+# the library's enums, whose source is not at hand
+LIBRARY = {'core::option::Option': ['None', 'Some'], 'core::result::Result': ['Ok', 'Err'], 'core::ops::ControlFlow': ['Continue', 'Break'],
+           'core::cmp::Ordering': ['Less', 'Equal', 'Greater']}
+
+
 def safe(name):
     """A name that C does not use itself."""
     return name + '_' if name in KEYWORDS else name
@@ -30,6 +35,27 @@ def field_names(text):
     return [safe(re.sub(r'^pub ', '', part).split(':')[0].strip()) for part in split(text)]
 
 
+def parameters_at(text, start):
+    """The parameters of a function, behind its type parameters, whose list may begin at a place of the text."""
+    depth, begin = 0, None
+    for i in range(start, len(text)):
+        if text[i] == '(' and depth == 0:
+            begin = i + 1
+        if text[i] in '([{<':
+            depth += 1
+        elif text[i] in ')]}' or text[i] == '>' and text[i - 1] not in '-=':
+            depth -= 1
+            if depth == 0 and begin is not None:
+                return text[begin:i]
+    return ''
+
+
+def bare_name(pattern):
+    """The name that a parameter's pattern gives, as `x` in `&x`, `mut x` or `&'a mut self`; of another pattern none."""
+    name = re.sub(r"^&?(?:'\w+ )?(?:mut )?", '', pattern)
+    return name if re.fullmatch(r'\w+', name) else ''
+
+
 class Source:
     def __init__(self, folder):
         self.files = {}
@@ -38,16 +64,23 @@ class Source:
             self.files[path.parts[-3], module] = path.read_text()
 
     def text(self, symbol):
-        crate, *middle = symbol.split('::')[:-1]
+        crate, *middle = symbol.split('::')[:-1] or ['']
         module = next((part for part in middle if part.islower()), '')
         return self.files.get((crate, module), '')
 
+    def block(self, symbol):
+        """The text of the impl that a method's name names, as that of `impl T` or of `impl Trait for T`, else the whole file."""
+        text, within = self.text(symbol), symbol.split('::')[-2:-1]
+        found = [m[3] for m in re.finditer(r'^impl(?:<[^{\n]*?>)? (?:(\w+)[^{\n]* for )?(\w+)[^{\n]*\{\n(.*?)^\}', text, re.M | re.S)
+                 if within and within[0].startswith(m[2] + (m[1] or '')) and bool(m[1]) == (within[0] != m[2])]
+        return '\n'.join(found) or text
+
     def head(self, symbol):
         """The comment above a function and the text of its parameters, if there is one such function."""
-        name = re.escape(symbol.split('::')[-1])
-        found = re.findall(r'((?:^ *//[^\n]*\n)*)(?:^ *#\[[^\n]*\n)*^ *(?:pub )?(?:extern "C" )?fn ' + name + r'\(([^)]*)\)',
-                           self.text(symbol), re.M)
-        return found[0] if len(found) == 1 else ('', '')
+        name, text = re.escape(symbol.split('::')[-1]), self.block(symbol)
+        found = list(re.finditer(r'((?:^ *//[^\n]*\n)*)(?:^ *#\[[^\n]*\n)*^ *(?:pub(?:\([^)]*\))? )?(?:const )?(?:extern "C" )?fn ' + name + r'(?=[<(])',
+                                 text, re.M))
+        return (found[0][1], parameters_at(text, found[0].end())) if len(found) == 1 else ('', '')
 
     def signed(self, symbol):
         """The out-parameters of 32 bits that are signed: the MIR does not say so, and the C compiler holds the header against it."""
@@ -57,11 +90,13 @@ class Source:
         """The comment above a function, and the names of its parameters."""
         comment, parameters = self.head(symbol)
         words = ' '.join(line.strip().lstrip('/').strip() for line in comment.splitlines())
-        return words.replace('*/', '* /'), [name.lstrip('&').removeprefix('mut ') for name in field_names(parameters)]
+        return words.replace('*/', '* /'), [bare_name(name) for name in field_names(parameters)]
 
     def declared(self, symbol, shape):
         """The names of a type's fields, or of its variants with their fields."""
-        found = re.findall(r'^(?:pub )?(?:struct|enum) ' + symbol.split('::')[-1] + r' \{\n(.*?)^\}', self.text(symbol), re.M | re.S)
+        if symbol in LIBRARY:
+            return [(name, self.fields('', types, 1)) for name, types in zip(LIBRARY[symbol], shape[1])]
+        found = re.findall(r'^(?:pub )?(?:struct|enum) ' + re.escape(symbol.split('::')[-1]) + r'(?:<[^{\n]*>)? \{\n(.*?)^\}', self.text(symbol), re.M | re.S)
         inner = re.sub(r'//[^\n]*', '', found[0]) if len(found) == 1 else ''
         return self.fields(inner, shape[1]) if shape[0] == 'fields' else self.variants(inner, shape[1])
 

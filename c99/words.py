@@ -4,7 +4,7 @@ A value is given as (text, level): how tightly the text binds, ATOM for a name o
 for the rest. All integers are unsigned in C, of the width that the MIR says. The MIR's operations are undefined where the exact result does not
 fit the width; the proofs show that this does not happen. So an 8 or 16 bit operation, which C does in `int` (32 bits or more), is exact, and
 converting its result back keeps it."""
-from mir import Unknown, inner_lists
+from mir import Unknown, inner_lists, size_of
 
 ATOM, UNARY, BINARY = 3, 2, 1
 WORDS = {}
@@ -55,6 +55,11 @@ def operand(f, x):
     return meaning('operand', x)(f, x)
 
 
+def operands(f, listed):
+    """The texts of operands, without those that C leaves out."""
+    return [operand(f, x)[0] for x in listed if not f.program.empty(operand_type(f, x))]
+
+
 def operand_type(f, x):
     match x:
         case 'true' | 'false':
@@ -63,6 +68,8 @@ def operand_type(f, x):
             return 'tyUnit'
         case ('int', w, _):
             return ('tyInt', w)
+        case ('sizeOf', _):
+            return ('tyInt', '64')
         case ('value', _, t):
             return t
         case ('copy' | 'move', p):
@@ -89,6 +96,12 @@ def _(f, x):
     if not 0 <= number < 2 ** width(('tyInt', x[1])):
         raise Unknown(f'{x[2]} of {x[1]} bits')
     return (str(number), ATOM) if number < 2 ** 31 else (f'UINT{x[1]}_C({number})', ATOM)
+
+
+@word('operand sizeOf')
+def _(f, x):
+    """sizeOf T: the bytes of a T; only offsets from pointers to a T are reckoned with it"""
+    return f'(uint64_t)sizeof({f.ctype(x[1])})', UNARY
 
 
 @word('operand copy', 'operand move')
@@ -207,6 +220,8 @@ def pointer(f, x):
             return offset(f, base, count)
         case ('value', ('opd', inner), _):
             return pointer(f, inner)
+        case ('value', ('static', t, constant), _):
+            return Pointer(f.program.constant(t, constant), None, t, named=True)
     text = operand(f, x)
     return Pointer(bound(text, ATOM), None, f.pointee(text, operand_type(f, x)))
 
@@ -220,23 +235,29 @@ def address(f, p):
 
 
 def offset(f, base, count):
-    """offset P N: N bytes behind P. What lies there is a number or a bool, at a multiple of its size, so it is an element"""
+    """offset P N: N bytes behind P, a multiple of the size of what lies there, so it is an element"""
     start = pointer(f, base)
     if start.to[0] == 'tyArray':
         start = start.at(f, start.to[1])
-    size = 1 if start.to == 'tyBool' else width(start.to) // 8
     if start.index is not None:
         start = Pointer(f'({start.value()[0]})', None, start.to)
-    return Pointer(start.base, elements(f, count, size), start.to)
+    return Pointer(start.base, elements(f, count, start.to), start.to)
 
 
-def elements(f, count, size):
-    """A count of bytes as one of elements."""
+def elements(f, count, to):
+    """A count of bytes as one of elements of a type."""
+    size = size_of(to)
     match count:
-        case ('int', '64', n) if int(n) % size == 0:
+        case ('int', '64', '0'):
+            return '0'
+        case ('int', '64', n) if size and int(n) % size == 0:
             return str(int(n) // size)
-        case ('value', ('op2', ('mul', 'unsigned'), n, ('int', '64', s)), _) if int(s) == size:
+        case ('value', ('op2', ('mul', 'unsigned'), n, ('int', '64', s)), _) if size and int(s) == size:
             return operand(f, n)[0]
+        case ('value', ('op2', ('mul', 'unsigned'), n, ('sizeOf', t)), _) if t == to:
+            return operand(f, n)[0]
+    if not size:
+        return f'{bound(operand(f, count), UNARY)} / {operand(f, ("sizeOf", to))[0]}'
     return operand(f, count)[0] if size == 1 else f'{bound(operand(f, count), UNARY)} / {size}'
 
 
@@ -256,6 +277,12 @@ def _(f, x, t):
 def _(f, x, t):
     """addrOf P: where the place P is"""
     return address(f, x[1]).value()
+
+
+@word('value static')
+def _(f, x, t):
+    """static T C: where the constant C, a T, lies, which nobody writes"""
+    return pointer(f, ('value', x, t)).value()
 
 
 @word('value op1')
@@ -286,8 +313,8 @@ def _(f, x, t):
     if f.program.shape(t)[0] == 'variants':
         if x[1][0][:2] != ('int', '8'):
             raise Unknown(f'a variant numbered {x[1][0]}')
-        return f.program.variant(t, int(x[1][0][2]), [operand(f, a)[0] for a in x[1][1:]])
-    return f'({f.ctype(t)}){{ {", ".join(operand(f, a)[0] for a in x[1])} }}', ATOM
+        return f.program.variant(t, int(x[1][0][2]), operands(f, x[1][1:]))
+    return f'({f.ctype(t)}){{ {", ".join(operands(f, x[1]))} }}', ATOM
 
 
 def slice_of(f, parts, t):
@@ -461,7 +488,7 @@ def run(f, body):
 def goes_on(statement):
     """Whether what stands behind a statement can be reached."""
     match statement:
-        case ('return',) | ('exit', _) | ('loop', _):
+        case ('return',) | ('unreachable',) | ('exit', _) | ('loop', _):
             return False
         case ('block', body):
             return leaves(body, 0) or all(map(goes_on, body))
@@ -477,10 +504,15 @@ def leaves(body, n):
 @word('statement assign')
 def _(f, x):
     """assign P V: the value V is put at the place P"""
-    t, where = place_type(f, x[1]), place(f, x[1])
+    t = place_type(f, x[1])
+    if f.program.empty(t):
+        return
+    where = place(f, x[1])
+    if t == 'tyPtr' and f.program.empty(f.pointee(where, t)):
+        return
     if t == 'tyPtr':
         f.line(f'{where[0]} = {pointer(f, ("value", x[2], t)).at(f, f.pointee(where, t)).value()[0]};')
-    elif t != 'tyUnit':
+    else:
         f.line(f'{where[0]} = {rvalue(f, x[2], t)[0]};')
 
 
@@ -488,20 +520,34 @@ def _(f, x):
 def _(f, x):
     """call F A... P: the function F on the operands A, its result put at the place P"""
     text = call(f, x)
-    if x[3][1] == 'none' or place_type(f, x[3]) == 'tyUnit':
+    if x[3][1] == 'none' or f.program.empty(place_type(f, x[3])):
         f.line(f'{text};' if f.program.result(x[1]) == 'void' else f'(void){text};')
     else:
         f.line(f'{place(f, x[3])[0]} = {text};')
 
 
 def call(f, x):
-    return f'{f.program.function_name(x[1])}({", ".join(operand(f, a)[0] for a in x[2])})'
+    pointers = f.program.pointers[x[1]]
+    listed = [argument(f, a, pointers.get(k)) for k, a in enumerate(x[2], 1) if not f.program.empty(operand_type(f, a))]
+    return f'{f.program.function_name(x[1])}({", ".join(listed)})'
+
+
+def argument(f, x, points):
+    """An operand that is handed to a function; points: what a bare pointer points at there."""
+    return pointer(f, x).at(f, points[0]).value()[0] if points else operand(f, x)[0]
 
 
 @word('statement return')
 def _(f, x):
     """return: the function ends, with what its local 0 holds"""
-    f.line('return;' if f.types[0] == 'tyUnit' else f'return {f.name("0")};')
+    f.line('return;' if f.program.empty(f.types[0]) else f'return {f.name("0")};')
+
+
+@word('statement unreachable')
+def _(f, x):
+    """unreachable: never reached (proved); most such branches are left out, and elsewhere it is an endless loop"""
+    f.line('for (;;) {')
+    f.line('}')
 
 
 @word('statement if')
