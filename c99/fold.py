@@ -165,9 +165,12 @@ class Folding:
         if assignment[0] != 'assign':
             return True
         value, place = assignment[2], target(statement)
-        memory = any(in_memory(p) or p[1] in self.slots for p in places(value))
-        writes_memory = statement[0] == 'call' or in_memory(place) or place[1] in self.slots
+        memory = any(map(self.lies_in_memory, places(value)))
+        writes_memory = statement[0] == 'call' or self.lies_in_memory(place)
         return place[1] in read_locals(value) or (memory and writes_memory)
+
+    def lies_in_memory(self, place):
+        return in_memory(place) or isinstance(place[1], str) and place[1] in self.slots
 
     def put(self, statement, local, value):
         match statement:

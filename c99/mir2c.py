@@ -170,10 +170,10 @@ class Program:
     def empty(self, t):
         """Whether a type has one value only, as that of a closure that captures nothing: C has no such type, so it is left out. So is a pointer to one."""
         match t:
-            case 'tyUnit':
+            case 'tyUnit' | ('tyArray', _, '0'):
                 return True
             case ('tyRef', _, to):
-                return self.empty(to)
+                return to[0] != 'tyArray' and self.empty(to)
             case ('tyNamed', *_):
                 return self.shape(t)[0] == 'fields' and all(map(self.empty, self.shape(t)[1]))
         return False
@@ -235,19 +235,24 @@ class Program:
                 return 'bool'
             case ('tyInt', _):
                 return words.ctype_int(t)
-            case ('tyRef', 'imm', to):
-                return f'const {self.ctype(to)} *'
-            case ('tyRef', 'mut', to):
-                return f'{self.ctype(to)} *'
+            case ('tyRef', lent, to):
+                return self.pointer(to, lent == 'mut')
             case ('tyStruct', '&[]', [('tyRef', lent, to), ('tyInt', '64')]):
                 return self.define(f'slice_{"mut_" * (lent == "mut")}{self.short(to)}', lambda name: [
                     f'typedef struct {{ {self.declare(t[2][0], "at")}; uint64_t length; }} {name};'])
             case ('tyArray', to, n):
                 return self.define(f'array_{self.short(to)}_{n}', lambda name: [
-                    f'typedef struct {{ {self.ctype(to)} e[{n}]; }} {name};'])
+                    f'typedef struct {{ {self.ctype(to)} e[{n if n != "0" else "1"}]; }} {name};'])
             case ('tyNamed', symbol, arguments):
                 return self.define(self.c_name(t, symbol, arguments), lambda name: self.declaration(t, name))
         raise Unknown(f'type {t}')
+
+    def pointer(self, to, written):
+        """The type of a pointer, to what is written or is constant."""
+        text = self.ctype(to)
+        if text.endswith('*'):
+            return f'{text}*' if written else f'{text}const *'
+        return f'{text} *' if written else f'const {text} *'
 
     def declare(self, t, name):
         text = self.ctype(t)
@@ -272,10 +277,10 @@ class Program:
             case ('tyNamed', symbol, arguments):
                 closure = re.search(r'::fn::(\w+(?:::\w+)*?)::[^:]*\+Self', symbol)
                 return c_name(closure[1]) if closure else '_'.join([c_name(symbol.split('::')[-1]), *map(self.brief, arguments)])
-            case ('tyRef', _, to):
-                return self.brief(to)
-            case ('tyStruct', '&[]', [ref, _]):
-                return f'slice_{self.brief(ref)}'
+            case ('tyRef', lent, to):
+                return f'{"mut" if lent == "mut" else "ref"}_{self.brief(to)}'
+            case ('tyStruct', '&[]', [('tyRef', lent, to), _]):
+                return f'slice_{"mut_" * (lent == "mut")}{self.brief(to)}'
             case ('tyArray', to, n):
                 return f'array_{self.brief(to)}_{n}'
             case ('tyInt', w):
@@ -332,6 +337,8 @@ class Program:
         match t:
             case 'tyBool' | ('tyInt', _) if isinstance(x, str):
                 return x if t == 'tyBool' or int(x) < 2 ** 31 else f'UINT{t[1]}_C({x})'
+            case ('tyArray', to, '0'):
+                return '{ { 0 } }'
             case ('tyArray', to, n) if int(n) == len(x):
                 return f'{{ {{ {", ".join(self.initial(to, part) for part in x)} }} }}'
             case ('tyNamed', *_):
@@ -362,8 +369,7 @@ class Program:
     def result(self, symbol):
         t = self.functions[symbol].locals[0]
         if t == 'tyPtr':
-            to, written = self.pointers[symbol][0]
-            return f'{"" if written else "const "}{self.ctype(to)} *'
+            return self.pointer(*self.pointers[symbol][0])
         return 'void' if self.empty(t) else self.ctype(t)
 
 
@@ -543,8 +549,7 @@ class Writer:
     def declare(self, i):
         t, name = self.types[i], self.name(str(i))
         if t == 'tyPtr':
-            to, written = self.pointer_types()[name]
-            return f'{"" if written else "const "}{self.ctype(to)} *{name}'
+            return f'{self.program.pointer(*self.pointer_types()[name])}{name}'
         return self.program.declare(t, name)
 
     def text(self):

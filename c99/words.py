@@ -231,6 +231,9 @@ def address(f, p):
     if p[2] and p[2][-1][0] == 'deref':
         shorter = ('copy', ('place', p[1], p[2][:-1])) if p[2][:-1] or isinstance(p[1], str) else p[1]
         return pointer(f, shorter).at(f, p[2][-1][1])
+    t = place_type(f, p)
+    if t[0] == 'tyArray' and t[2] == '0':               # it is left out; a slice of it outlives the function
+        return Pointer(f'(({f.ctype(t)} *)&{f.program.constant(t, [])})', None, t)
     return Pointer(bound(place(f, p), ATOM), None, place_type(f, p), named=True)
 
 
@@ -386,6 +389,18 @@ def _(op, a, b, t):
 def _(op, a, b, t):
     """wrapSub: the difference modulo 2^W"""
     return f'({ctype_int(t)})({a} - {b})', UNARY
+
+
+@word('op2 wrapAdd')
+def _(op, a, b, t):
+    """wrapAdd: the sum modulo 2^W"""
+    return f'({ctype_int(t)})({a} + {b})', UNARY
+
+
+@word('op2 wrapMul')
+def _(op, a, b, t):
+    """wrapMul: the product modulo 2^W; never done in a signed int"""
+    return f'({ctype_int(t)})((uint{max(32, width(t))}_t){a} * {b})', UNARY
 
 
 @word('op2 mul')
