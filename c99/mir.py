@@ -74,14 +74,11 @@ def dictionary_of(x):
 
 def callee_of(x):
     """What a call names: ('fn', NAME, TYPES, DICTIONARIES), or a method of a bound: ('method', DICTIONARY, INDEX, TYPES, DICTIONARIES)."""
-    word, parts = only(x, 'callee')
-    *first, given = parts
-    arguments = (tuple(map(type_of, given['types'])), tuple(map(dictionary_of, given['dicts'])))
-    match word, first:
-        case 'Fn', [str(name)]:
-            return ('fn', name, *arguments)
-        case 'Method', [bound, index]:
-            return ('method', dictionary_of(bound), index, *arguments)
+    match only(x, 'callee'):
+        case ('Fn', [str(name), {'types': types, 'dicts': dicts}]):
+            return ('fn', name, tuple(map(type_of, types)), tuple(map(dictionary_of, dicts)))
+        case ('Method', [bound, int(index), {'types': types, 'dicts': dicts}]):
+            return ('method', dictionary_of(bound), index, tuple(map(type_of, types)), tuple(map(dictionary_of, dicts)))
     raise Unknown(f'callee {json.dumps(x)[:100]}')
 
 

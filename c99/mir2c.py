@@ -132,7 +132,9 @@ class Program:
     """The types, in the order in which C needs them, and what is known of the functions."""
 
     def __init__(self, functions, declared, names, folded, exports):
-        self.functions, self.types, self.names, self.c_names, self.used, self.shapes, self.constants, self.pointers, self.made = functions, declared, names, {}, set(), {}, {}, {}, set()
+        self.functions, self.types, self.names = functions, declared, names
+        self.c_names, self.shapes, self.constants, self.used, self.made = {}, {}, {}, set(), set()
+        self.pointers = {}      # of each function that is written: where its parameters and its result point that are bare pointers
         for function in functions.values():
             function.body = self.without_empty(function)
         self.bodies = {name: fold.fold(function) if folded else function.body for name, function in functions.items()}
@@ -168,7 +170,8 @@ class Program:
         raise Unknown(f'type {t}')
 
     def empty(self, t):
-        """Whether a type has one value only, as that of a closure that captures nothing: C has no such type, so it is left out. So is a pointer to one."""
+        """Whether a type has one value only, as that of a closure that captures nothing: C has no such type, so it is left out, as is a pointer
+        to one."""
         match t:
             case 'tyUnit' | ('tyArray', _, '0'):
                 return True
@@ -310,6 +313,13 @@ class Program:
         for n, fields in variants:
             out.append((f'{name}_{n}', self.maker(name, n, fields)))
         return out
+
+    def filled(self, t):
+        """The function that makes an array of one value again and again."""
+        array = self.ctype(t)
+        return self.define(f'filled_{array}', lambda name: [
+            f'static inline {array} {name}({self.declare(t[1], "x")})', '{', f'    {array} made;', f'    for (uint32_t i = 0; i < {t[2]}; i++)',
+            '        made.e[i] = x;', '    return made;', '}'])
 
     def definitions(self):
         """The lines of the types and constants; of the functions that make variants, those that are called."""
@@ -453,9 +463,7 @@ class Writer:
             case ('tyRef', _, to):
                 return to
             case 'tyPtr':
-                if text[0] not in self.pointer_types():
-                    raise Unknown(f'{self.function.name}: what {text[0]} points at')
-                return self.pointer_types()[text[0]][0]
+                return self.pointed(text[0])[0]
         raise Unknown(f'{text[0]} is no pointer')
 
     def pointer_types(self):
@@ -479,6 +487,11 @@ class Writer:
             for local, t in self.set_to(self.function.body):
                 self.pointers.setdefault(self.name(local), (t[2], t[1] == 'mut'))
         return self.pointers
+
+    def pointed(self, name):
+        if name not in self.pointer_types():
+            raise Unknown(f'{self.function.name}: what {name} points at')
+        return self.pointer_types()[name]
 
     def points(self, local, to, written):
         old = self.pointers.setdefault(self.name(local), (to, written))
@@ -549,7 +562,7 @@ class Writer:
     def declare(self, i):
         t, name = self.types[i], self.name(str(i))
         if t == 'tyPtr':
-            return f'{self.program.pointer(*self.pointer_types()[name])}{name}'
+            return f'{self.program.pointer(*self.pointed(name))}{name}'
         return self.program.declare(t, name)
 
     def text(self):

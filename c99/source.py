@@ -78,8 +78,8 @@ class Source:
     def head(self, symbol):
         """The comment above a function and the text of its parameters, if there is one such function."""
         name, text = re.escape(symbol.split('::')[-1]), self.block(symbol)
-        found = list(re.finditer(r'((?:^ *//[^\n]*\n)*)(?:^ *#\[[^\n]*\n)*^ *(?:pub(?:\([^)]*\))? )?(?:const )?(?:extern "C" )?fn ' + name + r'(?=[<(])',
-                                 text, re.M))
+        found = list(re.finditer(r'((?:^ *//[^\n]*\n)*)(?:^ *#\[[^\n]*\n)*^ *(?:pub(?:\([^)]*\))? )?(?:const )?(?:extern "C" )?fn ' +
+                                 name + r'(?=[<(])', text, re.M))
         return (found[0][1], parameters_at(text, found[0].end())) if len(found) == 1 else ('', '')
 
     def signed(self, symbol):
@@ -96,7 +96,8 @@ class Source:
         """The names of a type's fields, or of its variants with their fields."""
         if symbol in LIBRARY:
             return [(name, self.fields('', types, 1)) for name, types in zip(LIBRARY[symbol], shape[1])]
-        found = re.findall(r'^(?:pub )?(?:struct|enum) ' + re.escape(symbol.split('::')[-1]) + r'(?:<[^{\n]*>)? \{\n(.*?)^\}', self.text(symbol), re.M | re.S)
+        name = re.escape(symbol.split('::')[-1])
+        found = re.findall(r'^(?:pub )?(?:struct|enum) ' + name + r'(?:<[^{\n]*>)? \{\n(.*?)^\}', self.text(symbol), re.M | re.S)
         inner = re.sub(r'//[^\n]*', '', found[0]) if len(found) == 1 else ''
         return self.fields(inner, shape[1]) if shape[0] == 'fields' else self.variants(inner, shape[1])
 

@@ -333,9 +333,11 @@ def slice_of(f, parts, t):
 
 @word('value repeat')
 def _(f, x, t):
-    """repeat A N: an array of N times A; here A is zero, as everything that C sets to 0"""
-    if t[0] != 'tyArray' or t[2] != x[2] or x[1] not in ('false', ('int', x[1][1], '0')):
+    """repeat A N: an array of N times A; where A is zero, everything that C sets to 0"""
+    if t[0] != 'tyArray' or t[2] != x[2]:
         raise Unknown(f'repeat {x[1]} at the type {t}')
+    if x[1] not in ('false', ('int', x[1][1], '0')):
+        return f'{f.program.filled(t)}({operand(f, x[1])[0]})', ATOM
     return f'({f.ctype(t)}){{ {{ {operand(f, x[1])[0]} }} }}', ATOM
 
 
@@ -459,6 +461,15 @@ def _(op, a, b, t):
     return bitwise('^', a, b, t)
 
 
+def compared(sign, a, b, t):
+    """A comparison. The largest number of 8 or 16 bits less another stays in int there, where it is exact: gcc reads a cast of it as one of ~."""
+    def plain(text):
+        cast = f'({ctype_int(t)})' if t[0] == 'tyInt' and width(t) < 32 else None
+        return text.removeprefix(cast) if cast and text.startswith(f'{cast}({2 ** width(t) - 1} - ') else text
+
+    return f'{plain(a)} {sign} {plain(b)}', BINARY
+
+
 @word('op2 lt')
 def _(op, a, b, t):
     """lt S: less; of signed numbers with the top bit the other way, which puts the negative ones below the others"""
@@ -466,26 +477,26 @@ def _(op, a, b, t):
     if op[1] == 'signed':
         top = f'UINT{width(t)}_C({1 << int(width(t)) - 1})'
         return f'({a} ^ {top}) < ({b} ^ {top})', BINARY
-    return f'{a} < {b}', BINARY
+    return compared('<', a, b, t)
 
 
 @word('op2 le')
 def _(op, a, b, t):
     """le unsigned: less or equal"""
     unsigned(op)
-    return f'{a} <= {b}', BINARY
+    return compared('<=', a, b, t)
 
 
 @word('op2 eq')
 def _(op, a, b, t):
     """eq: equal"""
-    return f'{a} == {b}', BINARY
+    return compared('==', a, b, t)
 
 
 @word('op2 ne')
 def _(op, a, b, t):
     """ne: not equal"""
-    return f'{a} != {b}', BINARY
+    return compared('!=', a, b, t)
 
 
 # ---- statements -------------------------------------------------------------------------------------------------------------
