@@ -2,10 +2,10 @@
 use Rattle.value.specs.Table.{side}
 use Rattle.settle.specs.Scratch.{room_at}
 use Rattle.settle.proofs.Settling.{Settling}
-use Rattle.settle.proofs.settle_sweeping.Given as goal
+use Rattle.settle.proofs.Figures.settle_sweeping.Given as goal
 
 abbrev pub invariant-loop-changed : goal.invariant-loop-changed
-invariant-loop-changed l = Settling (side l.end) l.a l.marks l.initial.scratch l.scratch l.changed
+invariant-loop-changed l = Settling (side l.self.end) l.a l.marks l.initial.scratch l.scratch l.changed
 
 abbrev pub decreases-loop-changed : goal.decreases-loop-changed
-decreases-loop-changed l = room_at (side l.end) l.a l.scratch
+decreases-loop-changed l = room_at (side l.self.end) l.a l.scratch
