@@ -2,10 +2,10 @@
 """mir2c.py --export PREFIX [--sources CRATES] [--include HEADER] MIR... > C: the program whose MIR proved libraries carry, as one C99 file.
 
 The functions whose name begins with PREFIX are made visible, with a pointer and a count for each slice; all others are static. A word that is
-not known stops the translation. `--words` prints the meaning that is given to each word of the MIR, `--unfolded` leaves fold.py out: one
-statement for each of the MIR.
+not known stops the translation. `--words` prints the meaning that is given to each word of the MIR, `--unfolded` leaves spare.py and fold.py out:
+one statement for each of the MIR.
 
-mir.py reads the MIR, fold.py puts values into the statement that reads them, words.py says what each word is in C, source.py has names and
+mir.py reads the MIR, spare.py leaves out copies, fold.py puts values into the statement that reads them, words.py says what each word is in C, source.py has names and
 comments. This file has types, functions and the parts of the file."""
 import argparse
 import pathlib
@@ -17,6 +17,7 @@ import types
 import fold
 import mir
 import source
+import spare
 import words
 from mir import Unknown
 
@@ -24,15 +25,19 @@ HEAD = '''/*
  * Made from the proved program by a translator; not written by hand.
  *
  * C99. Needs of the host memcpy and memset only, which compilers call for copies and for zeros. Nothing here is recursive, and no static
- * object is written. Every number has the width that the proof gives it; lengths and indices have 64 bits there, and here too: the
- * count of a slice comes from a size_t, which fits, and an index is below a count (proved), so it fits a size_t again.
+ * object is written. Every number has the width that the proof gives it; lengths and indices have 64 bits there, and here too. The
+ * count of a slice comes from a size_t or is that of an array or of a part (proved), so a slice keeps it as a size_t, and it is read
+ * as 64 bits; an index is below a count (proved), so it fits a size_t again.
  */
 #include <stdbool.h>
 #include <stddef.h>
 #include <stdint.h>
 '''
 
-CHECKS = '''#if SIZE_MAX > UINT64_MAX
+CHECKS = '''#if defined(__GNUC__) && !defined(__clang__)
+#pragma GCC diagnostic ignored "-Wmaybe-uninitialized" /* parts of a variant that it is not are copied along, and never read (proved) */
+#endif
+#if SIZE_MAX > UINT64_MAX
 #error "a size_t does not fit 64 bits"
 #endif
 typedef char int_has_32_bits_or_more[sizeof(int) >= 4 ? 1 : -1];
@@ -59,10 +64,14 @@ ONCE = '''#ifdef __GNUC__
 '''
 
 # The count of rounds of the closed reading is the call that takes the most stack. What its loop calls with arrays is a part of it (their frames
-# would each keep the slices at hand once more), and what runs beside these calls keeps its frame to itself.
-PARTS = {'stages::support', 'stages::advance', 'stages::follow', 'stages::take_highs', 'settle::raise_head'}
-BESIDE = {'page::page_sound', 'reach::mark_closure', 'closed::write_answers', 'settle::settle', 'stages::begin', 'stages::lower_tops',
-          'stages::note_all', 'stages::take_all'}
+# would each keep the slices at hand once more), and what runs beside these calls keeps its frame to itself. The iterator over the lines of a page
+# is a part of each loop over it, so that its numbers are locals there, and what the library has is a part of its callers: a statement or a few. Some
+# functions of the reader are parts for the same reason: what they answer is locals then.
+PARTS = {'page::defaults_ok', 'stages::support', 'stages::advance', 'stages::follow', 'stages::take_highs', 'settle::Figures::raise',
+         'rounds::round', 'page::Lines::of', 'page::Lines::checked', 'page::LinesIterator::next', 'fields::digits', 'fields::digits_from',
+         'lines::parse_pair', 'reader::write::checked_pair'}
+BESIDE = {'page::page_sound', 'reach::mark_closure', 'settle::settle', 'settle::wake', 'rounds::all_waiting', 'stages::begin',
+          'stages::lower_tops', 'stages::note_all', 'stages::note_waiting', 'stages::take_all', 'stages::look_again'}
 
 # a function of more statements than this, with those that only it calls, is not inlined by gcc -O2 if it is called in two places
 LONG = 64
@@ -219,7 +228,7 @@ class Program:
         if shape[0] == 'variants' and variant is not None:
             if k == 0:
                 return '' if self.bare(t) else '.tag', ('tyInt', '8')
-            return f'.as.{names[variant][0]}.{names[variant][1][k - 1]}', shape[1][variant][k - 1]
+            return f'.{names[variant][0]}.{names[variant][1][k - 1]}', shape[1][variant][k - 1]
         raise Unknown(f'field {k} of the type {t}, variant {variant}')
 
     def tags(self, t):
@@ -242,7 +251,7 @@ class Program:
                 return self.pointer(to, lent == 'mut')
             case ('tyStruct', '&[]', [('tyRef', lent, to), ('tyInt', '64')]):
                 return self.define(f'slice_{"mut_" * (lent == "mut")}{self.short(to)}', lambda name: [
-                    f'typedef struct {{ {self.declare(t[2][0], "at")}; uint64_t length; }} {name};'])
+                    f'typedef struct {{ {self.declare(t[2][0], "at")}; size_t length; }} {name};'])
             case ('tyArray', to, n):
                 return self.define(f'array_{self.short(to)}_{n}', lambda name: [
                     f'typedef struct {{ {self.ctype(to)} e[{n if n != "0" else "1"}]; }} {name};'])
@@ -309,7 +318,8 @@ class Program:
             return [f'typedef uint8_t {name};', tags]
         variants = [(n, [(f, x) for f, x in zip(fields, types) if not self.empty(x)]) for (n, fields), types in zip(names, shape[1])]
         inner = ' '.join('struct { ' + ' '.join(f'{self.declare(x, f)};' for f, x in fields) + f' }} {n};' for n, fields in variants if fields)
-        out = [f'typedef struct {{ uint8_t tag; union {{ {inner} }} as; }} {name};', tags]
+        # no union: gcc keeps the parts of a struct apart and drops what is copied along, but a union whole in memory
+        out = [f'typedef struct {{ uint8_t tag; {inner} }} {name};', tags]
         for n, fields in variants:
             out.append((f'{name}_{n}', self.maker(name, n, fields)))
         return out
@@ -330,10 +340,10 @@ class Program:
         return out
 
     def maker(self, name, n, fields):
-        """The function that makes a variant."""
-        out = [f'static inline {name} new_{name}_{n}({", ".join(self.declare(x, f) for f, x in fields) or "void"})', '{',
+        """The function that makes a variant. What another variant has and this one has not is not set."""
+        out = [f'static ONCE {name} new_{name}_{n}({", ".join(self.declare(x, f) for f, x in fields) or "void"})', '{',
                f'    {name} made;', f'    made.tag = {name}_{n};']
-        return out + [f'    made.as.{n}.{f} = {f};' for f, x in fields] + ['    return made;', '}']
+        return out + [f'    made.{n}.{f} = {f};' for f, x in fields] + ['    return made;', '}']
 
     def constant(self, t, x):
         """The name of an object that holds a constant."""
@@ -359,7 +369,7 @@ class Program:
                 if self.bare(t):
                     return self.tags(t)[k]
                 inner = self.initial_fields(names[k][1], shape[1][k], x[1:])
-                return f'{{ .tag = {self.tags(t)[k]}' + (f', .as = {{ .{names[k][0]} = {inner} }} }}' if inner else ' }')
+                return f'{{ .tag = {self.tags(t)[k]}' + (f', .{names[k][0]} = {inner} }}' if inner else ' }')
         raise Unknown(f'a constant of the type {t}')
 
     def initial_fields(self, names, types, parts):
@@ -577,7 +587,8 @@ class Writer:
         unread = [f'    (void){name}; /* only the contract speaks of it */' for name in unread]
         mine = [i for i in range(len(self.types)) if (i == 0 or i > count) and f'x{i}' in used]
         of = self.function.name
-        kind = 'APART' if of in self.program.apart else 'ONCE' if of in self.program.once else 'SHARED' if of in self.program.shared else 'inline'
+        part = of in self.program.once or self.function.symbol.startswith(spare.LIBRARY)
+        kind = 'APART' if of in self.program.apart else 'ONCE' if part else 'SHARED' if of in self.program.shared else 'inline'
         head = f'static {kind} {self.program.result(of)} {self.program.function_name(of)}({parameters})'
         return comment(self.comment) + wrapped(head) + ['{'] + self.declarations(mine) + unread + self.lines + ['}', '']
 
@@ -720,6 +731,10 @@ def translate(texts, prefix, sources, include, folded):
     functions = mir.Program(texts)
     exports = [name for name in functions.names() if name.split('::')[-1].startswith(prefix)]
     order = acting(functions, needed(functions, exports), exports)
+    if folded:
+        spare.spare(functions, order)
+        reached = set(needed(functions, exports))
+        order = [name for name in order if name in reached]
     reached = {name: functions[name] for name in order}
     program = Program(reached, mir.types_of(reached.values()), source.Source(sources), folded, exports)
     bodies, visible = [], []

@@ -4,6 +4,8 @@ A value is given as (text, level): how tightly the text binds, ATOM for a name o
 for the rest. All integers are unsigned in C, of the width that the MIR says. The MIR's operations are undefined where the exact result does not
 fit the width; the proofs show that this does not happen. So an 8 or 16 bit operation, which C does in `int` (32 bits or more), is exact, and
 converting its result back keeps it."""
+import re
+
 from mir import Unknown, inner_lists, size_of
 
 ATOM, UNARY, BINARY = 3, 2, 1
@@ -169,8 +171,10 @@ def folded_base(f, base, steps):
 
 @word('step field')
 def _(f, text, t, variant, step):
-    """field K: the field K of a struct; of a variant field 0 is the tag, then its own fields from 1"""
+    """field K: the field K of a struct; of a variant field 0 is the tag, then its own fields from 1; the count of a slice has 64 bits"""
     name, _ = f.program.field(t, variant, int(step[1]))
+    if name == '.length':
+        return (f'(uint64_t){bound(text, ATOM)}{name}', UNARY)
     return (f'{bound(text, ATOM)}{name}', ATOM)
 
 
@@ -321,14 +325,18 @@ def _(f, x, t):
 
 
 def slice_of(f, parts, t):
-    """A slice: a pointer to its first element and the count of its elements."""
+    """A slice: a pointer to its first element and the count of its elements, which is that of a lent slice, an array or a part of one of these
+    (proved), so that it fits a size_t."""
     match parts:
         case [('value', ('addrOf', ('place', b, [*steps, ('field', '0'), ('deref', _)])), _), ('copy', ('place', c, [*others, ('field', '1')]))]:
             whole = ('place', b, steps)
             if (b, steps) == (c, others) and f.ctype(place_type(f, whole)) == f.ctype(t):
                 return place(f, whole)
     to = t[2][0][2]
-    return f'({f.ctype(t)}){{ {pointer(f, parts[0]).at(f, to).value()[0]}, {operand(f, parts[1])[0]} }}', ATOM
+    count = operand(f, parts[1])
+    count = count[0] if parts[1][0] == 'int' else count[0].removeprefix('(uint64_t)') if re.fullmatch(r'\(uint64_t\)\w+\.length', count[0]) else \
+        f'(size_t){bound(count, UNARY)}'
+    return f'({f.ctype(t)}){{ {pointer(f, parts[0]).at(f, to).value()[0]}, {count} }}', ATOM
 
 
 @word('value repeat')

@@ -9,18 +9,15 @@ use std::io::Read;
 // One read of what is not wanted; whether there was any.
 fn skip_some(reader: &mut impl Read) -> bool {
     let mut space = [0u8; 4096];
-    match reader.read(&mut space) {
-        Ok(n) => n > 0,
-        Err(_) => false,
-    }
+    reader.read(&mut space).is_ok_and(|n| n > 0)
 }
 
-// Reads to the end of the input. A proved loop has to end, and nothing says that the input does: the turns are counted down from a
-// number that no run uses up.
+// Reads to the end of the input. A proved loop has to end, and nothing says that the input does: the turns have a number that no run uses up.
 fn skip_rest(reader: &mut impl Read) {
-    let mut turns = u64::MAX;
-    while turns > 0 && skip_some(reader) {
-        turns -= 1;
+    for _ in 0..u64::MAX {
+        if !skip_some(reader) {
+            break;
+        }
     }
 }
 

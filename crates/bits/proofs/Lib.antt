@@ -2,3 +2,5 @@
 pub mod Bits
 -- sets of conditions as bits
 pub mod Sets
+-- the ones of words
+pub mod Ones

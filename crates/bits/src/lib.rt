@@ -1,102 +1,129 @@
 // Sets of up to 512 conditions as eight words of 64 bits.
 #![tactic(auto)]
 
-ghost use Rattle.std.specs.Prelude.{◌≡◌, ◌<◌, length};
-ghost use Rattle.bits.specs.Words.{has, Inserted, InsertedNew, Removed, Absorbed, LowestIn, AnyIn};
+ghost use Rattle.std.specs.Prelude.{◌≡◌, ◌↔◌, ◌<◌, ℕ, false, not, length, IsTrue};
+ghost use Rattle.fixpoint.specs.Sum.{count};
+ghost use Rattle.bits.specs.Words.{has, Inserted, Removed, Absorbed};
+ghost use Rattle.bits.specs.Sets.{Nobody, LowestIn, AnyIn};
 
-// Puts c into the set.
-pub fn insert(words: &mut [u64], c: u16)
-    requires { (length words.old ≡ 8) × (c < 512) }
-    ensures { Inserted c words.old words.new }
-{
-    let i = c as usize;
-    words[i / 64] |= 1u64 << (i % 64);
+// The bit c % 64 of the word c / 64 tells whether c is in the set.
+#[derive(Clone, Copy, PartialEq, Eq)]
+pub struct Set {
+    words: [u64; 8],
+    ghost eight: { length words ≡ 8 },
 }
 
-// Whether c is in the set.
-pub fn contains(words: &[u64], c: u16) -> bool
-    requires { (length words.now ≡ 8) × (c < 512) }
-    ensures { result ≡ has words.now c }
-{
-    let i = c as usize;
-    (words[i / 64] >> (i % 64)) % 2 == 1
-}
+impl Set {
+    // The set of nobody.
+    pub fn empty() -> Self
+        ensures { (c : ℕ) → has result.words c ≡ false }
+    {
+        Set { words: [0; 8] }
+    }
 
-// Puts c into the set; answers 1 if it is new and 0 if it was there.
-pub fn insert_new(words: &mut [u64], c: u16) -> u32
-    requires { (length words.old ≡ 8) × (c < 512) }
-    ensures { InsertedNew c words.old words.new result }
-{
-    let i = c as usize;
-    let old = words[i / 64];
-    words[i / 64] = old | 1u64 << (i % 64);
-    1 - ((old >> (i % 64)) % 2) as u32
-}
+    // Puts c into the set; whether it is new.
+    pub fn insert(&mut self, c: u16) -> bool
+        requires { c < 512 }
+        ensures set { Inserted c self.old.words self.new.words }
+        ensures new { result ≡ not (has self.old.words c) }
+    {
+        let i = c as usize;
+        let old = self.words[i / 64];
+        self.words[i / 64] = old | 1u64 << (i % 64);
+        (old >> (i % 64)) % 2 == 0
+    }
 
-// Takes c out of the set.
-pub fn remove(words: &mut [u64], c: u16)
-    requires { (length words.old ≡ 8) × (c < 512) }
-    ensures { Removed c words.old words.new }
-{
-    let i = c as usize;
-    words[i / 64] &= !(1u64 << (i % 64));
-}
+    // Whether c is in the set.
+    pub fn contains(&self, c: u16) -> bool
+        requires { c < 512 }
+        ensures { result ≡ has self.now.words c }
+    {
+        let i = c as usize;
+        (self.words[i / 64] >> (i % 64)) % 2 == 1
+    }
 
-// Puts `named` into the set `reached`, and those of it that were not there into `waiting`.
-pub fn absorb(named: &[u64], reached: &mut [u64], waiting: &mut [u64])
-    requires { (length named.now ≡ 8) × (length reached.old ≡ 8) × (length waiting.old ≡ 8) }
-    ensures { Absorbed named.now reached.old waiting.old reached.new waiting.new }
-{
-    let mut k: usize = 0;
-    while k < 8 {
-        let x = named[k];
-        let y = reached[k];
-        reached[k] = y | x;
-        waiting[k] |= x & !y;
-        k += 1;
+    // Takes c out of the set.
+    pub fn remove(&mut self, c: u16)
+        requires { c < 512 }
+        ensures { Removed c self.old.words self.new.words }
+    {
+        let i = c as usize;
+        self.words[i / 64] &= !(1u64 << (i % 64));
+    }
+
+    // Puts `named` into the set, and those of it that are new into `waiting`.
+    pub fn absorb(&mut self, named: &Set, waiting: &mut Set)
+        ensures { Absorbed named.now.words self.old.words waiting.old.words self.new.words waiting.new.words }
+    {
+        for (k, &x) in named.words.iter().enumerate() {
+            let y = self.words[k];
+            self.words[k] = y | x;
+            waiting.words[k] |= x & !y;
+        }
+    }
+
+    // The lowest of the set.
+    pub fn lowest(&self) -> Option<u16>
+        ensures { LowestIn self.now.words result }
+    {
+        'search: {
+            for (w, &x) in self.words.iter().enumerate() {
+                if x != 0 {
+                    break 'search Some((64 * w) as u16 + x.trailing_zeros() as u16);
+                }
+            }
+            None
+        }
+    }
+
+    // One of the set: the next from `from` down in its word, else the highest of that word, else of the next word that has one.
+    pub fn any_from(&self, from: u16) -> Option<u16>
+        requires { from < 512 }
+        ensures { AnyIn self.now.words result }
+    {
+        let first = from as usize / 64;
+        let y = self.words[first] & (u64::MAX >> (63 - from % 64));
+        if y != 0 {
+            return Some((64 * first) as u16 + (63 - y.leading_zeros() as u16));
+        }
+        for passed in 0..8 {
+            let w = (first + passed) % 8;
+            let z = self.words[w];
+            if z != 0 {
+                return Some((64 * w) as u16 + (63 - z.leading_zeros() as u16));
+            }
+        }
+        None
+    }
+
+    // How many are in the set.
+    pub fn len(&self) -> u32
+        ensures { result ≡ count 512 (has self.now.words) }
+    {
+        let mut ones = 0;
+        for x in self.words {
+            ones += x.count_ones();
+        }
+        ones
+    }
+
+    // Whether nobody is in the set.
+    pub fn is_empty(&self) -> bool
+        ensures { IsTrue result ↔ Nobody self.now.words }
+    {
+        let mut all = 0;
+        for x in self.words {
+            all |= x;
+        }
+        all == 0
     }
 }
 
-// The lowest of the set, or 512.
-pub fn lowest_in(words: &[u64]) -> u16
-    requires { length words.now ≡ 8 }
-    ensures { LowestIn words.now result }
-{
-    let mut w: usize = 0;
-    let c = loop {
-        if 8 <= w {
-            break 512;
-        }
-        let x = words[w];
-        if x != 0 {
-            break (64 * w) as u16 + u64::trailing_zeros(x) as u16;
-        }
-        w += 1;
-    };
-    c
-}
-
-// One of the set, or 512: the next from `from` down in its word, else the highest of that word, else of the next word that has one.
-pub fn any_in(words: &[u64], from: u16) -> u16
-    requires { (length words.now ≡ 8) × (from < 512) }
-    ensures { AnyIn words.now result }
-{
-    let mut w = from as usize / 64;
-    let y = words[w] & (0xffff_ffff_ffff_ffff >> (63 - from % 64));
-    if y != 0 {
-        return (64 * w) as u16 + (63 - u64::leading_zeros(y) as u16);
+// The set that eight words say.
+impl From<[u64; 8]> for Set {
+    fn from(words: [u64; 8]) -> Self
+        ensures { result.words ≡ words }
+    {
+        Set { words }
     }
-    let mut passed: usize = 0;
-    let c = loop {
-        if 8 <= passed {
-            break 512;
-        }
-        let x = words[w];
-        if x != 0 {
-            break (64 * w) as u16 + (63 - u64::leading_zeros(x) as u16);
-        }
-        w = (w + 1) % 8;
-        passed += 1;
-    };
-    c
 }

@@ -1,7 +1,7 @@
 -- The largest ends over the lines of a condition that are seen, in any order: what a scan and a loop over a group have in common. Assumes nothing.
 use mathlib.Core.Path.{◌≡◌, refl, sym, ◌∙◌, ap, subst}
 use mathlib.Core.Logic.{◌⊎◌, inl, inr, ⊎_elim}
-use mathlib.Core.Bool.{Bool, true, false, true≢false}
+use mathlib.Core.Bool.{true}
 use mathlib.Core.List.{List, [], ◌∷◌}
 use Prim.Native.Nat.{ℕ, ◌+◌, ◌≤◌, ◌<◌, max}
 use native.Mathlib.Decide.{ℕ_discrete}
@@ -17,13 +17,15 @@ use Rattle.page.specs.Places.{place_of, LineIn, LineOf}
 use Rattle.page.specs.Lines.{step_at, EntryIn, Next}
 use Rattle.page.proofs.Scanning.{entry_here}
 use Rattle.page.proofs.LineNumbers.{scanning_at, shape, line_of, adds_one}
+use Rattle.std.specs.Prelude.{Option, None, Some}
+use Rattle.value.specs.declared.Ends.{Ends}
 use Rattle.value.specs.Table.{end_of, EndTable}
 use Rattle.value.specs.LineEnds.{LineEnd}
 use Rattle.value.proofs.BodyEnds.{body_some, body_has, body_none}
 use Rattle.value.proofs.Defaults.{bodyless_in}
 use Rattle.ends.specs.Mirror.{mirrored}
 use Rattle.index.specs.Groups.{LinesByHead}
-use Rattle.body.specs.Body.{Taken, Largest, BestOf, Body}
+use Rattle.body.specs.Body.{so_far, Taken, Largest, BestOf, Body}
 use Rattle.page.specs.Solvable.{solvable}
 use Rattle.page.proofs.Solvable.{solvable_used}
 
@@ -84,20 +86,18 @@ module _ (e : End) (a values : List ℕ) (c : ℕ) where
 
 -- both ends, and whether a line is found
 module _ (a values : List ℕ) (c : ℕ) where
-  pub record Gathering (Seen : ℕ → Type 0) (found : Bool) (low high : ℕ) : Type 0 where
-    pub low_end : Seeing lower a values c Seen low
-    pub high_end : Seeing upper a (mirrored (top_of a) values) c Seen high
-    pub none : found ≡ false → (p : ℕ) → Seen p → LineOf a c p → ⊥
-    pub some : found ≡ true → (p : ℕ) × LineOf a c p
+  pub record Gathering (Seen : ℕ → Type 0) (best : Option Ends) : Type 0 where
+    pub low_end : Seeing lower a values c Seen (so_far best).low
+    pub high_end : Seeing upper a (mirrored (top_of a) values) c Seen (so_far best).high
+    pub none : best ≡ None → (p : ℕ) → Seen p → LineOf a c p → ⊥
+    pub some : {e : Ends} → best ≡ Some e → (p : ℕ) × LineOf a c p
 
-  pub gathering_none : (Seen : ℕ → Type 0) {found : Bool} {low high : ℕ} → ((p : ℕ) → Seen p → ⊥) → (found ≡ false) × (low ≡ 0) × (high ≡ 0) → Gathering Seen found low high
-  gathering_none Seen s q =
-      rw (q.1, q.2)
-      (record { low_end = seeing_none _ _ _ _ Seen s; high_end = seeing_none _ _ _ _ Seen s; none = λ e p h o. s p h; some = λ e. absurd (true≢false (sym e ∙ q.0)) })
+  pub gathering_none : (Seen : ℕ → Type 0) → ((p : ℕ) → Seen p → ⊥) → Gathering Seen None
+  gathering_none Seen s = record { low_end = seeing_none _ _ _ _ Seen s; high_end = seeing_none _ _ _ _ Seen s; none = λ e p h o. s p h; some = λ {e} q. cc }
 
   -- a line that is not looked at, since it is of another head
-  pub gathering_skip : {Seen : ℕ → Type 0} (Seen' : ℕ → Type 0) {found : Bool} {low high : ℕ} → Gathering Seen found low high → {at : ℕ} → (get_or a at 0 ≡ c → ⊥)
-      → ((p : ℕ) → Seen' p → Seen p ⊎ (p ≡ at)) → Gathering Seen' found low high
+  pub gathering_skip : {Seen : ℕ → Type 0} (Seen' : ℕ → Type 0) {best : Option Ends} → Gathering Seen best → {at : ℕ} → (get_or a at 0 ≡ c → ⊥)
+      → ((p : ℕ) → Seen' p → Seen p ⊎ (p ≡ at)) → Gathering Seen' best
   gathering_skip Seen' g {at} n s =
       record {
         low_end = seeing_passed _ _ _ _ g.low_end Seen' (λ o. n o.head) refl s;
@@ -106,31 +106,26 @@ module _ (a values : List ℕ) (c : ℕ) where
         some = g.some;
       }
 
-  pub gathering_next : solvable a ≡ true → {Seen : ℕ → Type 0} (Seen' : ℕ → Type 0) {found found' : Bool} {low high low' high' at : ℕ} → Gathering Seen found low high
-      → Taken a values c at found low high found' low' high' → ((p : ℕ) → Seen' p → Seen p ⊎ (p ≡ at)) → Gathering Seen' found' low' high'
+  pub gathering_next : solvable a ≡ true → {Seen : ℕ → Type 0} (Seen' : ℕ → Type 0) {best best' : Option Ends} {at : ℕ} → Gathering Seen best → Taken a values c at best best'
+      → ((p : ℕ) → Seen' p → Seen p ⊎ (p ≡ at)) → Gathering Seen' best'
   gathering_next ok Seen' g (inl t) s =
       record {
-        low_end = seeing_passed _ _ _ _ g.low_end Seen' t.not_here t.low_same s;
-        high_end = seeing_passed _ _ _ _ g.high_end Seen' t.not_here t.high_same s;
-        none = λ e p h o. ⊎_elim (λ k. g.none (sym t.found_same ∙ e) p k o) (λ k. t.not_here (rw k at o)) (s p h);
-        some = λ e. g.some (sym t.found_same ∙ e);
+        low_end = seeing_passed _ _ _ _ g.low_end Seen' t.not_here (ap (λ (o : Option Ends). (so_far o).low) t.same) s;
+        high_end = seeing_passed _ _ _ _ g.high_end Seen' t.not_here (ap (λ (o : Option Ends). (so_far o).high) t.same) s;
+        none = λ e p h o. ⊎_elim (λ k. g.none (sym t.same ∙ e) p k o) (λ k. t.not_here (rw k at o)) (s p h);
+        some = λ e. g.some (sym t.same ∙ e);
       }
   gathering_next ok Seen' {at = at} g (inr t) s =
       record {
-        low_end = seeing_taken _ _ _ _ g.low_end ok Seen' t.here t.low_is t.low_most s;
-        high_end = seeing_taken _ _ _ _ g.high_end ok Seen' t.here t.high_is t.high_most s;
-        none = λ e p h o. true≢false (sym t.found ∙ e);
+        low_end = seeing_taken _ _ _ _ g.low_end ok Seen' t.here t.low_is (ap (λ (o : Option Ends). (so_far o).low) t.most) s;
+        high_end = seeing_taken _ _ _ _ g.high_end ok Seen' t.here t.high_is (ap (λ (o : Option Ends). (so_far o).high) t.most) s;
+        none = λ e p h o. let q = t.most in cc;
         some = λ e. (at, t.here);
       }
 
-  pub gathering_last : {Seen : ℕ → Type 0} {found : Bool} {low high : ℕ} → Gathering Seen found low high → ((p : ℕ) → LineOf a c p → Seen p) → BestOf a values c found low high
-  gathering_last g s =
-      record {
-        low_end = seeing_last _ _ _ _ g.low_end s;
-        high_end = seeing_last _ _ _ _ g.high_end s;
-        none = λ e p o. g.none e p (s p o) o;
-        some = g.some;
-      }
+  pub gathering_last : {Seen : ℕ → Type 0} (best : Option Ends) → Gathering Seen best → ((p : ℕ) → LineOf a c p → Seen p) → BestOf a values c best
+  gathering_last None g s = λ p o. g.none refl p (s p o) o
+  gathering_last (Some e) g s = record { low_end = seeing_last _ _ _ _ g.low_end s; high_end = seeing_last _ _ _ _ g.high_end s; some = g.some refl }
 
 -- the places of the lines passed by a scan, and of those of a group passed
 abbrev pub Passed : List ℕ → ℕ → ℕ → Type 0
@@ -160,17 +155,17 @@ pub grouped_all : (a first places : List ℕ) (c i : ℕ) → LinesByHead a firs
 grouped_all a first places c i g l h p o = let w = g.every c p l o in (w.0, w.1, omega (arith, w.2), w.3)
 
 -- the body value, where a line is found and where none is
-module _ (a values : List ℕ) (c : ℕ) (ok : solvable a ≡ true) {found : Bool} {low high : ℕ} (b : BestOf a values c found low high) where
-  module _ (some : found ≡ true) where
+module _ (a values : List ℕ) (c : ℕ) (ok : solvable a ≡ true) where
+  module _ {best : Ends} (b : BestOf a values c (Some best)) where
     most : (e : End) (table : List ℕ) {best : ℕ} → Largest e a table c best → (I : Assign) → EndTable e (top_of a) (conditions_of a) I table → best ≡ end_of e (T (page_of a) I c)
     most e table {best} v I t =
-        let o = (b.some some).1 in
+        let o = b.some.1 in
         let w = adds_one (top_of a) I c a o in
         let d = subst (λ (k : ℕ). line_body (top_of a) I c (line_at (drop k a)) ≡ w.0 ∷ []) o.place w.1 in
         let h = body_some e a ok I c best (λ j l p q. v.covers I t (place_of a j) (line_of (top_of a) I c a j l q) p q) o.number o.in_count w.0 d in
         omega (arith, v.reached I t)
 
-    pub body_found : Body a values c low high
+    pub body_found : Body a values c best.low best.high
     body_found =
         record {
           low_in = b.low_end.grade;
@@ -178,12 +173,12 @@ module _ (a values : List ℕ) (c : ℕ) (ok : solvable a ≡ true) {found : Boo
           is = λ I t u. pair_eq (most lower values b.low_end I t) (most upper (mirrored (top_of a) values) b.high_end I u);
         }
 
-  pub body_empty : found ≡ false → {l h : ℕ} → record { low = l; high = h } ≡ bodyless (page_of a) c → Body a values c l h
-  body_empty e q =
+  pub body_empty : BestOf a values c None → {l h : ℕ} → record { low = l; high = h } ≡ bodyless (page_of a) c → Body a values c l h
+  body_empty b q =
       record {
         low_in = omega (arith, ap (λ (i : Interval). i.low) q, bodyless_in a c lower);
         high_in = omega (arith, ap (λ (i : Interval). i.high) q, bodyless_in a c upper);
-        is = λ I t u. q ∙ sym (body_none a ok I c (λ j l. ⊎_elim (λ z. z) (λ z. absurd (b.none e (place_of a j) (line_of (top_of a) I c a j l z.1))) (shape (top_of a) I c (line_at (drop (place_of a j) a)))));
+        is = λ I t u. q ∙ sym (body_none a ok I c (λ j l. ⊎_elim (λ z. z) (λ z. absurd (b (place_of a j) (line_of (top_of a) I c a j l z.1))) (shape (top_of a) I c (line_at (drop (place_of a j) a)))));
       }
 
 -- the cursor stands where the line of its number begins

@@ -1,9 +1,9 @@
 -- The search for the first line of a condition with a low end, in the code's own terms. Assumes nothing.
 use mathlib.Core.Path.{◌≡◌, sym, ◌∙◌, ap, subst}
 use mathlib.Core.Logic.{⊎_elim, inl, inr}
-use mathlib.Core.Bool.{Bool, true, false, cond, true≢false}
+use mathlib.Core.Bool.{Bool, true, false, cond}
 use mathlib.Core.List.{List, [], ◌∷◌}
-use Prim.Native.Nat.{ℕ, suc, ◌+◌, ◌≤◌, ◌<◌}
+use Prim.Native.Nat.{ℕ, suc, ◌+◌, ◌≤◌, ◌<◌, max}
 use native.Mathlib.Numerals.{add-one}
 use native.Mathlib.Omega.{arith}
 use lib.Dec.{eqb}
@@ -17,6 +17,8 @@ use Rattle.page.specs.Places.{place_of, LineIn}
 use Rattle.page.specs.Lines.{Next}
 use Rattle.page.proofs.Scanning.{lines_left, lines_first, lines_none}
 use Rattle.page.proofs.LineNumbers.{lines_from, shape, line_of}
+use Rattle.std.specs.Prelude.{Option, None, Some}
+use Rattle.value.specs.declared.Ends.{Ends}
 use Rattle.value.specs.Table.{EndTable}
 use Rattle.value.specs.LineEnds.{LineEnd}
 use Rattle.body.specs.Body.{Taken}
@@ -45,16 +47,19 @@ module _ (a : List ℕ) (low : ℕ) where
     low_of_none n = sym (ap (has_low low) (adds_nothing n))
 
   -- by taking the line in alone
-  module _ {values : List ℕ} {at : ℕ} (h : LineIn a at) {found₀ : Bool} {low₀ high₀ : ℕ} (z : (found₀ ≡ false) × (low₀ ≡ 0) × (high₀ ≡ 0)) {found : Bool} {low' high' : ℕ} where
-    pub low_taken : Taken a values (get_or a at 0) at found₀ low₀ high₀ found low' high' → found ≡ true → (I : Assign) → EndTable lower (top_of a) (conditions_of a) I values
-        → eqb low' low ≡ has_low low (line_body (top_of a) I (get_or a at 0) (line_at (drop at a)))
-    low_taken (inl t) e I s = absurd (true≢false (sym e ∙ t.found_same ∙ z.0))
-    low_taken (inr t) e I s = let q : low' ≡ t.low_end = omega (arith, t.low_most, z.1) in ap (λ (y : ℕ). eqb y low) q ∙ low_of_line t.low_is I s
+  -- whether the ends told, if any are, have this low end
+  abbrev pub low_told : Option Ends → Bool
+  low_told None = false
+  low_told (Some e) = eqb e.low low
 
-    pub low_passed : Taken a values (get_or a at 0) at found₀ low₀ high₀ found low' high' → found ≡ false → (I : Assign)
-        → false ≡ has_low low (line_body (top_of a) I (get_or a at 0) (line_at (drop at a)))
-    low_passed (inl t) e I = low_of_none h (get_or a at 0) I (λ q b. t.not_here (here_line h q b))
-    low_passed (inr t) e I = absurd (true≢false (sym t.found ∙ e))
+  module _ {values : List ℕ} {at : ℕ} (h : LineIn a at) where
+    pub low_of_taken : {one : Option Ends} → Taken a values (get_or a at 0) at None one → (I : Assign) → EndTable lower (top_of a) (conditions_of a) I values
+        → low_told one ≡ has_low low (line_body (top_of a) I (get_or a at 0) (line_at (drop at a)))
+    low_of_taken (inl t) I s = ap low_told t.same ∙ low_of_none h (get_or a at 0) I (λ q b. t.not_here (here_line h q b))
+    low_of_taken (inr t) I s = ap low_told t.most ∙ ap (λ (y : ℕ). eqb y low) (max_none t.low_end) ∙ low_of_line t.low_is I s
+      where
+        max_none : (x : ℕ) → max 0 x ≡ x
+        max_none x = omega arith
 
 module _ (a values : List ℕ) (c low : ℕ) where
   -- k lines are passed and none of them is it: the search goes on with the line at `at`

@@ -1,7 +1,7 @@
 // Both ends of the body value T of a condition, over its lines: by the index, or by a scan where there is none. Which line holds the low end.
 #![tactic(auto)]
 
-ghost use Rattle.std.specs.Prelude.{◌≡◌, true, false, ◌<◌, get_or, drop};
+ghost use Rattle.std.specs.Prelude.{◌≡◌, true, ◌<◌, get_or, drop};
 ghost use Rattle.fixpoint.specs.Interval.{Assign};
 ghost use Rattle.semantics.specs.Area.{top_of, conditions_of, line_at};
 ghost use Rattle.semantics.specs.Body.{line_body};
@@ -18,82 +18,57 @@ ghost use Rattle.page.specs.Solvable.{solvable};
 
 use value::Ends;
 
-// The largest ends over the lines of a condition that are seen, and whether there is one.
-#[derive(Clone, Copy)]
-pub struct Best {
-    pub found: bool,
-    pub low: u16,
-    pub high: u16,
-}
-
-fn no_line() -> Best
-    ensures { (result.found ≡ false) × (result.low ≡ 0) × (result.high ≡ 0) }
-{
-    Best {
-        found: false,
-        low: 0,
-        high: 0,
-    }
-}
-
-// The line at `at` is taken in if it is an F or R line.
-fn take_line(a: &[u16], at: usize, values: &[u8], best: Best) -> Best
+// The largest ends over the lines seen, `best`, and the line at `at`, which counts if it is an F or R line.
+fn take_line(a: &[u16], at: usize, values: &[u8], best: Option<Ends>) -> Option<Ends>
     requires { (solvable a.now ≡ true) × Mirrored (top_of a.now) (conditions_of a.now) values.now × LineIn a.now at }
-    ensures { Taken a.now values.now (get_or a.now at 0) at best.found best.low best.high result.found result.low result.high }
+    ensures { Taken a.now values.now (get_or a.now at 0) at best result }
 {
-    let k = a[at + 1];
-    match k {
+    match a[at + 1] {
         0..=5 => {
             let x = ends::line_ends(a, at, values);
-            Best {
-                found: true,
-                low: value::maximum(best.low, x.low),
-                high: value::maximum(best.high, x.high),
-            }
+            let best = best.unwrap_or(Ends { low: 0, high: 0 });
+            Some(Ends {
+                low: best.low.max(x.low),
+                high: best.high.max(x.high),
+            })
         }
         _ => best,
     }
 }
 
 // The lines of c, by a scan of the page.
-fn by_scan(a: &[u16], values: &[u8], c: u16) -> Best
+fn by_scan(a: &[u16], values: &[u8], c: u16) -> Option<Ends>
     requires { (solvable a.now ≡ true) × Mirrored (top_of a.now) (conditions_of a.now) values.now }
-    ensures { BestOf a.now values.now c result.found result.low result.high }
+    ensures { BestOf a.now values.now c result }
 {
-    let count = a[2];
-    let mut line = page::Cursor::first(a);
-    let mut best = no_line();
-    while line.passed < count {
-        let at = line.at;
+    let mut best = None;
+    for at in page::Lines::of(a) {
         if a[at] == c {
             best = take_line(a, at, values, best);
         }
-        line = line.next(a);
     }
     best
 }
 
 // The lines of c, by its group.
-fn by_group(a: &[u16], first: &[u16], places: &[u16], values: &[u8], c: u16) -> Best
+fn by_group(a: &[u16], first: &[u16], places: &[u16], values: &[u8], c: u16) -> Option<Ends>
     requires { (solvable a.now ≡ true) × Mirrored (top_of a.now) (conditions_of a.now) values.now × LinesByHead a.now first.now places.now × (c < conditions_of a.now) }
-    ensures { BestOf a.now values.now c result.found result.low result.high }
+    ensures { BestOf a.now values.now c result }
 {
     let group = c as usize;
-    let mut i = first[group] as usize;
-    let end = first[group + 1] as usize;
-    let mut best = no_line();
-    while i < end {
-        best = take_line(a, places[i] as usize, values, best);
-        i += 1;
+    let mut best = None;
+    for &at in &places[first[group] as usize..first[group + 1] as usize] {
+        best = take_line(a, at as usize, values, best);
     }
     best
 }
 
-fn best_of(a: &[u16], lines: &[u16], values: &[u8], c: u16) -> Best
+// The largest ends over the lines of c.
+fn best_of(a: &[u16], lines: &[u16], values: &[u8], c: u16) -> Option<Ends>
     requires { (solvable a.now ≡ true) × Mirrored (top_of a.now) (conditions_of a.now) values.now × MaybeLines a.now lines.now × (c < conditions_of a.now) }
-    ensures { BestOf a.now values.now c result.found result.low result.high }
+    ensures { BestOf a.now values.now c result }
 {
-    if lines.len() == 0 {
+    if lines.is_empty() {
         return by_scan(a, values, c);
     }
     let base = a[1] as usize + 1;
@@ -107,14 +82,10 @@ pub fn body(a: &[u16], lines: &[u16], values: &[u8], c: u16) -> Ends
     requires { (solvable a.now ≡ true) × Mirrored (top_of a.now) (conditions_of a.now) values.now × MaybeLines a.now lines.now × (c < conditions_of a.now) }
     ensures { Body a.now values.now c result.low result.high }
 {
-    let best = best_of(a, lines, values, c);
-    if best.found {
-        return Ends {
-            low: best.low,
-            high: best.high,
-        };
+    match best_of(a, lines, values, c) {
+        Some(best) => best,
+        None => value::bodyless(a, c),
     }
-    value::bodyless(a, c)
 }
 
 // Whether the line at `at` is an F or R line with this low end.
@@ -122,28 +93,24 @@ fn has_low(a: &[u16], at: usize, values: &[u8], low: u16) -> bool
     requires { (solvable a.now ≡ true) × Mirrored (top_of a.now) (conditions_of a.now) values.now × LineIn a.now at }
     ensures { (I : Assign) → EndTable lower (top_of a.now) (conditions_of a.now) I values.now → result ≡ has_low low (line_body (top_of a.now) I (get_or a.now at 0) (line_at (drop at a.now))) }
 {
-    let one = take_line(a, at, values, no_line());
-    if one.found {
-        return one.low == low;
+    match take_line(a, at, values, None) {
+        Some(one) => one.low == low,
+        None => false,
     }
-    false
 }
 
-// The number of the first F or R line of c with this low end, 0 if there is none. Every line of the page counts, and the G line is line 1.
+// The number of the first F or R line of c with this low end. Every line of the page counts, and the G line is line 1. No line has the number 0,
+// which stands for none, as in what the operations tell.
 pub fn first_line(a: &[u16], values: &[u8], c: u16, low: u16) -> u16
     requires { (solvable a.now ≡ true) × Mirrored (top_of a.now) (conditions_of a.now) values.now }
     ensures { FirstLine a.now values.now c low result }
 {
-    let count = a[2];
-    let mut line = page::Cursor::first(a);
-    while line.passed < count {
-        let here = line.at;
-        if a[here] == c {
-            if has_low(a, here, values, low) {
-                return line.passed + 2;
-            }
+    let mut lines = page::Lines::of(a);
+    // a `while let`: the scan counts the lines passed, and `enumerate` would count them once more
+    while let Some(at) = lines.next() {
+        if a[at] == c && has_low(a, at, values, low) {
+            return lines.passed + 1;
         }
-        line = line.next(a);
     }
     0
 }

@@ -13,15 +13,12 @@ ghost use Rattle.stalls.specs.Answers.{turn_answer_of};
 ghost use Rattle.closed.specs.Answer.{closing_told};
 ghost use Rattle.capi.specs.Codes.{minus, status_code, answer_code, taken_or, line_or, interval_or, open_code, counts_or, read_code, line_told, place_told, closed_code, rounds_or, ClosedCall, LayersCall, PicksCall, rest_told, turn_code, stall_told, first_or, second_or, FollowersCall, small_code, season_code, pair_told, figures_or};
 
-use closed::ClosedAnswer;
-use followers::CountAnswer;
-use layers::Verdict;
-use picks::Checked;
-use reach::OpenAnswer;
-use run::{DriveAnswer, EvaluateAnswer};
-use season::SeasonAnswer;
-use small::SmallAnswer;
-use stalls::{Stall, TurnAnswer};
+use layers::LayersError;
+use picks::PickError;
+use reach::Opened;
+use refusal::Refusal;
+use run::{Drove, Told};
+use stalls::{Stall, TurnError, Turned};
 
 // Minus the number of a refusal.
 fn minus(number: u8) -> i32
@@ -50,21 +47,16 @@ pub extern "C" fn simjorad_read(
     ensures line { line.new ≡ line_told (read_of text.now area.old).answer }
     ensures place { place.new ≡ place_told (read_of text.now area.old).answer }
 {
-    let answer = reader::read_page(text, area);
-    match answer {
-        reader::ReadAnswer::Refused {
-            number,
-            line: bad,
-            place: field,
-        } => {
-            *line = bad as u32;
-            *place = field as u32;
-            minus(number as u8)
-        }
-        reader::ReadAnswer::Read(used) => {
+    match reader::read_page(text, area) {
+        Ok(used) => {
             *line = 0;
             *place = 0;
             used as i32
+        }
+        Err(refusal) => {
+            *line = refusal.line as u32;
+            *place = refusal.place as u32;
+            minus(refusal.cause.number() as u8)
         }
     }
 }
@@ -84,7 +76,7 @@ pub extern "C" fn simjorad_show_line(text: &[u8], number: usize, start: &mut usi
 
 // What an opening answers: 0, or minus a refusal; the counts are told unless it is refused.
 fn open_code(
-    answer: OpenAnswer,
+    answer: Result<Opened, Refusal>,
     reached: &mut u32,
     edges: &mut u32,
     bound: &mut u32,
@@ -94,19 +86,14 @@ fn open_code(
     ensures counts { record { reached = reached.new; edges = edges.new; bound = bound.new; passes = passes.new } ≡ counts_or (record { reached = reached.old; edges = edges.old; bound = bound.old; passes = passes.old }) (opening_of answer) }
 {
     match answer {
-        OpenAnswer::Refused(k) => minus(k),
-        OpenAnswer::Opened {
-            reached: r,
-            edges: e,
-            bound: b,
-            passes: k,
-        } => {
-            *reached = r;
-            *edges = e;
-            *bound = b;
-            *passes = k;
+        Ok(opened) => {
+            *reached = opened.reached;
+            *edges = opened.edges;
+            *bound = opened.bound;
+            *passes = opened.passes;
             0
         }
+        Err(no_run) => minus(no_run.number()),
     }
 }
 
@@ -130,13 +117,13 @@ pub extern "C" fn simjorad_open(
 }
 
 // What an evaluation answers: 1 changed, 0 unchanged, or minus a refusal.
-fn evaluate_code(answer: EvaluateAnswer) -> i32
+fn evaluate_code(answer: Result<Told, Refusal>) -> i32
     ensures { result ≡ answer_code (evaluate_answer_of answer) }
 {
     match answer {
-        EvaluateAnswer::Refused(k) => minus(k),
-        EvaluateAnswer::Unchanged(_) => 0,
-        EvaluateAnswer::Changed(_) => 1,
+        Ok(told) if told.changed => 1,
+        Ok(_) => 0,
+        Err(no_evaluation) => minus(no_evaluation.number()),
     }
 }
 
@@ -151,23 +138,18 @@ pub extern "C" fn simjorad_evaluate(page: &[u16], run: &mut [u16], condition: u3
 }
 
 // What a drive answers: 1 rest, 0 spent, or minus a refusal; the count and the line are told unless it is refused.
-fn drive_code(answer: DriveAnswer, taken: &mut u32, line: &mut u32) -> i32
+fn drive_code(answer: Result<Drove, Refusal>, taken: &mut u32, line: &mut u32) -> i32
     ensures code { result ≡ answer_code (drive_answer_of answer) }
     ensures count { taken.new ≡ taken_or taken.old (drive_answer_of answer) }
     ensures line { line.new ≡ line_or line.old (drive_answer_of answer) }
 {
     match answer {
-        DriveAnswer::Refused(k) => minus(k),
-        DriveAnswer::Rest { taken: k, line: l } => {
-            *taken = k;
-            *line = l as u32;
-            1
+        Ok(drove) => {
+            *taken = drove.taken;
+            *line = drove.line as u32;
+            rest_code(drove.rest)
         }
-        DriveAnswer::Spent { taken: k, line: l } => {
-            *taken = k;
-            *line = l as u32;
-            0
-        }
+        Err(no_drive) => minus(no_drive.number()),
     }
 }
 
@@ -221,18 +203,13 @@ pub extern "C" fn simjorad_value(
     ensures code { result ≡ answer_code (value_of page.now run.now condition) }
     ensures interval { record { low = low.new; high = high.new } ≡ interval_or (record { low = low.old; high = high.old }) (value_of page.now run.now condition) }
 {
-    let answer = run::value(page, run, condition);
-    match answer {
-        run::ValueAnswer::Refused(k) => minus(k),
-        run::ValueAnswer::Held {
-            low: l,
-            high: h,
-            rest,
-        } => {
-            *low = l;
-            *high = h;
-            rest_code(rest)
+    match run::value(page, run, condition) {
+        Ok(held) => {
+            *low = held.low;
+            *high = held.high;
+            rest_code(held.rest)
         }
+        Err(no_value) => minus(no_value.number()),
     }
 }
 
@@ -241,24 +218,23 @@ pub extern "C" fn simjorad_value(
 pub extern "C" fn simjorad_line(page: &[u16], run: &[u16], condition: u32) -> i32
     ensures { result ≡ answer_code (line_held_of page.now run.now condition) }
 {
-    let answer = run::line_held(page, run, condition);
-    match answer {
-        run::LineAnswer::Refused(k) => minus(k),
-        run::LineAnswer::Held(l) => l as i32,
+    match run::line_held(page, run, condition) {
+        Ok(line) => line as i32,
+        Err(no_line) => minus(no_line.number()),
     }
 }
 
 // What a closed reading answers: 0, or minus a refusal; the count of rounds goes to `rounds`.
-fn closed_code(answer: ClosedAnswer, rounds: &mut u32) -> i32
+fn closed_code(answer: Result<u32, Refusal>, rounds: &mut u32) -> i32
     ensures code { result ≡ closed_code (closing_told answer) }
     ensures rounds { rounds.new ≡ rounds_or rounds.old (closing_told answer) }
 {
     match answer {
-        ClosedAnswer::Refused(k) => minus(k),
-        ClosedAnswer::Done(k) => {
+        Ok(k) => {
             *rounds = k;
             0
         }
+        Err(no_reading) => minus(no_reading.number()),
     }
 }
 
@@ -299,15 +275,14 @@ pub extern "C" fn simjorad_closed_indexed(
 pub extern "C" fn simjorad_layers(page: &[u16], layers: &mut [u16], condition: &mut u32) -> i32
     ensures { LayersCall result condition.new page.now layers.old layers.new }
 {
-    let answer = layers::check_layers(page, layers);
     *condition = 0;
-    match answer {
-        Verdict::Refused(k) => minus(k),
-        Verdict::Loops(c) => {
+    match layers::check_layers(page, layers) {
+        Ok(()) => 0,
+        Err(LayersError::Refused(refusal)) => minus(refusal.number()),
+        Err(LayersError::Loop(c)) => {
             *condition = c as u32;
             minus(30)
         }
-        Verdict::Layered => 0,
     }
 }
 
@@ -322,17 +297,16 @@ pub extern "C" fn simjorad_check_picks(
 ) -> i32
     ensures { PicksCall result place.new page.now queries.now picks.now figures.now }
 {
-    let answer = picks::check_picks(page, queries, picks, figures);
     *place = 0;
-    match answer {
-        Checked::Refused(k) => minus(k),
-        Checked::NotWaiting(bad) => {
+    match picks::check_picks(page, queries, picks, figures) {
+        Ok(()) => 0,
+        Err(PickError::Refused(refusal)) => minus(refusal.number()),
+        Err(PickError::NotWaiting(bad)) => {
             *place = bad;
             minus(50)
         }
-        Checked::NotAtRest => minus(51),
-        Checked::WrongFigures => minus(52),
-        Checked::Accepted => 0,
+        Err(PickError::NotAtRest) => minus(51),
+        Err(PickError::WrongFigures) => minus(52),
     }
 }
 
@@ -394,7 +368,7 @@ pub extern "C" fn simjorad_evaluate_second(page: &[u16], area: &mut [u16], condi
     evaluate_code(answer)
 }
 
-// 1 if a stall rests, 0 if not.
+// 1 if a stall rests, 0 if not: beside `rest_code`, since C has a uint32_t here.
 fn rest_told(rest: bool) -> u32
     ensures { result ≡ rest_told (status_if rest) }
 {
@@ -406,7 +380,7 @@ fn rest_told(rest: bool) -> u32
 
 // What a turn answers: 0, or minus a refusal with the stall, 0 where there is none; the counts are told unless it is refused.
 fn turn_code(
-    answer: TurnAnswer,
+    answer: Result<Turned, TurnError>,
     taken_first: &mut u32,
     rest_first: &mut u32,
     taken_second: &mut u32,
@@ -419,15 +393,15 @@ fn turn_code(
     ensures stall { stall.new ≡ stall_told (turn_answer_of answer) }
 {
     match answer {
-        TurnAnswer::Refused { number, stall: s } => {
-            *stall = s as u32;
-            minus(number)
+        Err(no_turn) => {
+            *stall = no_turn.stall.map_or(0, |s| s.number() as u32);
+            minus(no_turn.cause.number())
         }
-        TurnAnswer::Turned { first, second } => {
-            *taken_first = first.taken;
-            *rest_first = rest_told(first.rest);
-            *taken_second = second.taken;
-            *rest_second = rest_told(second.rest);
+        Ok(turn) => {
+            *taken_first = turn.first.taken;
+            *rest_first = rest_told(turn.first.rest);
+            *taken_second = turn.second.taken;
+            *rest_second = rest_told(turn.second.rest);
             *stall = 0;
             0
         }
@@ -468,10 +442,9 @@ pub extern "C" fn simjorad_turn(
 pub extern "C" fn simjorad_followers(page: &[u16], condition: u32) -> i32
     ensures { FollowersCall result page.now condition }
 {
-    let answer = followers::count_followers(page, condition);
-    match answer {
-        CountAnswer::Refused(k) => minus(k),
-        CountAnswer::Counted(k) => k as i32,
+    match followers::count_followers(page, condition) {
+        Ok(count) => count as i32,
+        Err(refusal) => minus(refusal.number()),
     }
 }
 
@@ -481,10 +454,9 @@ pub extern "C" fn simjorad_small_page(number: u32, buffer: &mut [u8]) -> i32
     ensures code { result ≡ small_code (small_of number buffer.old).answer }
     ensures buffer { buffer.new ≡ (small_of number buffer.old).buffer }
 {
-    let answer = small::small_page(number, buffer);
-    match answer {
-        SmallAnswer::Refused(k) => minus(k),
-        SmallAnswer::Wrote(n) => n as i32,
+    match small::small_page(number, buffer) {
+        Ok(n) => n as i32,
+        Err(error) => minus(error.number()),
     }
 }
 
@@ -506,14 +478,13 @@ pub extern "C" fn simjorad_season(
     ensures figures { record { count = count.new; sum_low = sum_low.new; sum_width = sum_width.new; smallest = smallest.new; largest = largest.new; mean = mean.new; remainder = remainder.new; change = change.new } ≡ figures_or (record { count = count.old; sum_low = sum_low.old; sum_width = sum_width.old; smallest = smallest.old; largest = largest.old; mean = mean.old; remainder = remainder.old; change = change.old }) (season_of pairs.now) }
     ensures place { place.new ≡ pair_told (season_of pairs.now) }
 {
-    let answer = season::season(pairs);
     *place = 0;
-    match answer {
-        SeasonAnswer::Refused { number, place: bad } => {
-            *place = bad;
-            minus(number)
+    match season::season(pairs) {
+        Err(no_figures) => {
+            *place = no_figures.place();
+            minus(no_figures.number())
         }
-        SeasonAnswer::Told(f) => {
+        Ok(f) => {
             let signed = f.change;
             *count = f.count;
             *sum_low = f.lows;

@@ -101,12 +101,12 @@ module _ (a : List ℕ) (ts : List TrialLine) (ok : sound a ≡ true) where
       ap (λ (ds : List ℕ). top_of a ∷ conditions_of a ∷ length lines ∷ used ∷ ((ds ++ line_codes lines) ++ drop used area)) (changed_numbers (page_of a) ts)
 
   module _ {area₀ area₁ area₂ area₃ : List ℕ} {m r₁ e₂ k₂ e₃ k₃ : ℕ} (f : m ≡ first_line a) (w₁ : Wrote area₀ 0 (take m a) area₁ r₁)
-      (w₂ : LinesWrote area₁ (first_line a) 0 (kept_lines ts (page_of a).lines) area₂ e₂ k₂) (w₃ : LinesWrote area₂ e₂ k₂ (tried_facts ts (conditions_of a) 0) area₃ e₃ k₃) where
+      (w₂ : LinesWrote area₁ r₁ 0 (kept_lines ts (page_of a).lines) area₂ e₂ k₂) (w₃ : LinesWrote area₂ e₂ k₂ (tried_facts ts (conditions_of a) 0) area₃ e₃ k₃) where
     behind_head : r₁ ≡ first_line a
     behind_head = let b = bounds a ok in omega (arith, w₁.behind, f, length-take-le m a (omega (arith, f, b.first, b.inside)))
 
     all_lines : LinesWrote area₁ (first_line a) 0 lines area₃ e₃ k₃
-    all_lines = lines_then w₂ w₃
+    all_lines = rw behind_head at (lines_then w₂ w₃)
 
     written : Wrote area₀ 0 (take m a ++ line_codes lines) area₃ e₃
     written = wrote_then w₁ (rw behind_head all_lines.codes)
@@ -117,8 +117,8 @@ module _ (a : List ℕ) (ts : List TrialLine) (ok : sound a ≡ true) where
         wrote_front written
         ∙ ap₂ {C = List ℕ} (λ h k. (h ++ line_codes lines) ++ drop k area₀) (ap (λ (k : ℕ). take k a) f ∙ head_numbers a ok) e
 
-    pub changed : set (set area₃ 2 k₃) 3 e₃ ≡ area_of (changed_page (page_of a) ts) ++ drop (used_of (area_of (changed_page (page_of a) ts))) area₀
-    changed =
+    pub changed : (area : List ℕ) → area ≡ area₃ → set (set area 2 k₃) 3 e₃ ≡ area_of (changed_page (page_of a) ts) ++ drop (used_of (area_of (changed_page (page_of a) ts))) area₀
+    changed area same =
         let k : k₃ ≡ length lines = omega (arith, all_lines.counted) in
-        ap (λ (l : List ℕ). set (set l 2 k₃) 3 e₃) front
+        ap (λ (l : List ℕ). set (set l 2 k₃) 3 e₃) (same ∙ front)
         ∙ ap₂ {C = List ℕ} (λ k e. top_of a ∷ conditions_of a ∷ k ∷ e ∷ rest area₀ e) k all_lines.codes.behind ∙ sym (changed_area_lem area₀)

@@ -1,24 +1,27 @@
 -- What the lines of a trial give a condition, line by line. Assumes nothing.
-use mathlib.Core.Path.{◌≡◌, refl, sym, ◌∙◌, ap}
-use mathlib.Core.List.{List}
+use mathlib.Core.Path.{◌≡◌, refl, sym, ◌∙◌, ap, ap₂}
+use mathlib.Core.List.{List, [], ◌∷◌, ◌++◌}
 use mathlib.Core.Option.{Option, none, some}
-use Prim.Native.Nat.{ℕ, suc, ◌+◌, ◌*◌, ◌-◌, ◌/◌, ◌≤◌, ◌<◌}
+use Prim.Native.Nat.{ℕ, suc, ◌/◌, ◌<◌}
 use native.Mathlib.Omega.{arith}
-use lib.ListN.{length, get_or, drop}
-use lib.Seq.{get_or-drop, drop-drop}
+use lib.ListN.{length, get_or, drop, length-append}
 use borrow.Author.Tests.{eq-eqb, ne_eqb}
 use Rattle.fixpoint.specs.Interval.{Interval}
 use Rattle.semantics.specs.ReadPage.{or_else}
-use Rattle.semantics.specs.Trials.{interval_for, tried}
-use Rattle.change.specs.Trial.{trial_at, lines_at, lines_in}
+use Rattle.semantics.specs.Trials.{TrialLine, interval_for, tried}
+use Rattle.std.specs.Prelude as code
+use Rattle.std.specs.Prelude.{None, Some, is_some}
+use Rattle.std.specs.Option.{option_or}
+use Rattle.change.specs.declared.Ends.{Ends}
+use Rattle.change.specs.Trial.{trial_at, lines_at, lines_in, given_of, is_given}
 
 -- a line of another condition gives nothing, one of the condition its interval
-module _ (p : List ℕ) (at c : ℕ) where
-  pub line_other : (get_or p (at + 1) 0 ≡ c → ⊥) → none ≡ interval_for (trial_at (drop at p)) c
-  line_other n = rw (get_or-drop at p 1 0, ne_eqb (get_or p (at + 1) 0) c n)
+module _ (line : List ℕ) (c : ℕ) where
+  pub line_other : (get_or line 1 0 ≡ c → ⊥) → none ≡ interval_for (trial_at line) c
+  line_other n = rw (ne_eqb (get_or line 1 0) c n)
 
-  pub line_same : get_or p (at + 1) 0 ≡ c → some (record { low = get_or p (at + 2) 0; high = get_or p (at + 3) 0 }) ≡ interval_for (trial_at (drop at p)) c
-  line_same e = rw (get_or-drop at p 1 0, get_or-drop at p 2 0, get_or-drop at p 3 0, eq-eqb (get_or p (at + 1) 0) c e)
+  pub line_same : get_or line 1 0 ≡ c → some (record { low = get_or line 2 0; high = get_or line 3 0 }) ≡ interval_for (trial_at line) c
+  line_same e = rw (eq-eqb (get_or line 1 0) c e)
 
 else_nothing : (o : Option Interval) → o ≡ or_else o none
 else_nothing none = refl
@@ -28,36 +31,48 @@ else_assoc : (o p q : Option Interval) → or_else (or_else o p) q ≡ or_else o
 else_assoc none p q = refl
 else_assoc (some r) p q = refl
 
+-- the numbers of a line with others behind it
+front_at : (line rest : List ℕ) → length line ≡ 4 → (drop 4 (line ++ rest) ≡ rest) × (trial_at (line ++ rest) ≡ trial_at line)
+front_at (t ∷ c ∷ l ∷ h ∷ []) rest e = (refl, refl)
+front_at [] rest e = absurd (omega arith)
+front_at (t ∷ []) rest e = absurd (omega arith)
+front_at (t ∷ c ∷ []) rest e = absurd (omega arith)
+front_at (t ∷ c ∷ l ∷ []) rest e = absurd (omega arith)
+front_at (t ∷ c ∷ l ∷ h ∷ x ∷ xs) rest e = absurd (omega arith)
+
 module _ (p : List ℕ) (c : ℕ) where
-  -- the lines still to come give c what the whole trial gives it, and where they give nothing, it is what the k lines passed give
-  pub record Giving (k : ℕ) (given : Option Interval) : Type 0 where
-    pub in_count : k ≤ length p / 4
-    pub is : tried (lines_in p) c ≡ or_else (tried (lines_at (length p / 4 - k) (drop (4 * k) p)) c) given
+  -- the lines still to come give c what the whole trial gives it, and where they give nothing, it is what those passed give
+  pub record Giving (rest : List ℕ) (given : Option Interval) : Type 0 where
+    pub is : tried (lines_in p) c ≡ or_else (tried (lines_in rest) c) given
 
-  pub giving_first : Giving 0 none
-  giving_first =
-      let e : length p / 4 - 0 ≡ length p / 4 = omega arith in
-      record { in_count = omega arith; is = rw e (else_nothing (tried (lines_in p) c)) }
+  pub giving_first : Giving p none
+  giving_first = record { is = else_nothing (tried (lines_in p) c) }
 
-  module _ {k : ℕ} {given : Option Interval} (s : Giving k given) where
-    lines_cons : k < length p / 4
-        → tried (lines_at (length p / 4 - k) (drop (4 * k) p)) c ≡ or_else (tried (lines_at (length p / 4 - (k + 1)) (drop (4 * (k + 1)) p)) c) (interval_for (trial_at (drop (4 * k) p)) c)
+  module _ {rest : List ℕ} {given : Option Interval} (s : Giving rest given) where
+    pub giving_next : (line : List ℕ) {rest' : List ℕ} → rest ≡ line ++ rest' → length line ≡ 4 → {g r : Option Interval} → g ≡ interval_for (trial_at line) c → r ≡ or_else g given → Giving rest' r
     unfolding lines_at tried
-    lines_cons l =
-        let e : length p / 4 - k ≡ suc (length p / 4 - (k + 1)) = omega arith in
-        let d : 4 * (k + 1) ≡ 4 * k + 4 = omega arith in
-        ap (λ (m : ℕ). tried (lines_at m (drop (4 * k) p)) c) e ∙ rw (d, drop-drop 4 (4 * k) p)
-
-    pub giving_next : k < length p / 4 → {g r : Option Interval} → g ≡ interval_for (trial_at (drop (4 * k) p)) c → r ≡ or_else g given → Giving (k + 1) r
-    giving_next l {g} {r} f h =
-        let rest = tried (lines_at (length p / 4 - (k + 1)) (drop (4 * (k + 1)) p)) c in
+    giving_next line {rest'} e l {g} {r} f h =
+        let w = front_at line rest' l in
+        let n : length rest / 4 ≡ suc (length rest' / 4) = omega (arith, ap length e, length-append line rest') in
+        let cons : lines_in rest ≡ trial_at line ∷ lines_in rest' =
+        ap₂ {C = List TrialLine} (λ (k : ℕ) (q : List ℕ). lines_at k q) n e
+        ∙ ap₂ {C = List TrialLine} (λ (t : TrialLine) (q : List ℕ). t ∷ lines_at (length rest' / 4) q) w.1 w.0 in
         record {
-          in_count = omega arith;
-          is = s.is ∙ ap (λ (o : Option Interval). or_else o given) (lines_cons l) ∙ else_assoc rest (interval_for (trial_at (drop (4 * k) p)) c) given ∙ rw (h, f);
+          is = s.is ∙ ap (λ (ls : List TrialLine). or_else (tried ls c) given) cons
+              ∙ else_assoc (tried (lines_in rest') c) (interval_for (trial_at line) c) given ∙ rw (h, f);
         }
 
-    pub giving_last : length p / 4 ≤ k → given ≡ tried (lines_in p) c
+    pub giving_last : length rest < 4 → given ≡ tried (lines_in p) c
     unfolding lines_at tried
     giving_last l =
-        let e : length p / 4 - k ≡ 0 = omega arith in
-        sym (s.is ∙ ap (λ (m : ℕ). or_else (tried (lines_at m (drop (4 * k) p)) c) given) e)
+        let e : length rest / 4 ≡ 0 = omega arith in
+        sym (s.is ∙ ap (λ (m : ℕ). or_else (tried (lines_at m rest) c) given) e)
+
+-- in the code's words: the later one's, if it gives anything; and whether something is given
+pub given_or : (later earlier : code.Option Ends) → given_of (option_or later earlier) ≡ or_else (given_of later) (given_of earlier)
+given_or None earlier = refl
+given_or (Some ends) earlier = refl
+
+pub given_some : (o : code.Option Ends) → is_some o ≡ is_given (given_of o)
+given_some None = refl
+given_some (Some ends) = refl

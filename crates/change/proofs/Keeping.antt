@@ -18,12 +18,13 @@ use Rattle.semantics.proofs.Soundness.{every_true, sound_parts}
 use Rattle.semantics.proofs.ExactAreas.{line_back}
 use Rattle.semantics.proofs.UsedLength.{used_most}
 use Rattle.page.specs.Graded.{SoundEntry}
-use Rattle.page.specs.Lines.{step_at, EntryIn, Next}
+use Rattle.page.specs.Lines.{step_at, EntryIn, Next, Scanning}
 use Rattle.page.proofs.Scan.{rule_kind_lem, fact_kind_lem, over_five, line_at_lem, span_at, entry_in}
-use Rattle.page.proofs.Scanning.{Scanning, lines_left, scanning_begun, lines_first, entry_sound, scanning_next, scanning_moved, lines_moved, lines_none}
+use Rattle.page.proofs.Scanning.{lines_left, scanning_begun, lines_first, entry_sound, scanning_next, scanning_moved, lines_moved, lines_none}
 use Rattle.change.specs.Trial.{is_given, goes}
-use Rattle.change.specs.Written.{LinesWrote, LinesKept}
-use Rattle.change.proofs.Lines.{one_code, lines_then, lines_length_lem, lines_as}
+use Rattle.change.specs.Written.{PutsLines, LinesKept}
+use Rattle.change.specs.declared.Entries.{Entries}
+use Rattle.change.proofs.Lines.{one_code, lines_length_lem, puts_then, puts_as}
 use Rattle.change.proofs.Lines as written
 
 -- which entries go
@@ -105,46 +106,46 @@ bounds a e =
       most = used_most a e;
     }
 
-module _ (a : List ℕ) (ts : List TrialLine) (area₀ : List ℕ) where
-  -- the scan stands at `at`, behind k lines; those of them that stay are written up to `end`, `count` of them
-  pub record Keeping (at k : ℕ) (area : List ℕ) (end count : ℕ) : Type 0 where
+module _ (a : List ℕ) (ts : List TrialLine) (t₀ : Entries) where
+  -- the scan stands at `at`, behind k lines; those of them that stay are written
+  pub record Keeping (at k : ℕ) (t : Entries) : Type 0 where
     pub scanning : Scanning a at k
     pub lines : count_of a ≤ 1024
     pub kept : List Line
     pub rest : kept_lines ts (page_of a).lines ≡ kept ++ kept_lines ts (lines_left a at k)
-    pub wrote : LinesWrote area₀ (first_line a) 0 kept area end count
-    pub size : length area ≡ length area₀
-    pub long : used_of a ≤ length area₀
-    pub short : end ≤ at
-    pub few : count ≤ k
+    pub puts : PutsLines t₀ kept t
+    pub size : length t.area.now ≡ length t₀.area.now
+    pub long : used_of a ≤ length t₀.area.now
+    pub short : t.end ≤ at
+    pub few : t.count ≤ k
 
-  pub keeping_first : {at k : ℕ} → sound a ≡ true → used_of a ≤ length area₀ → (at ≡ first_line a) × (k ≡ 0) → Keeping at k area₀ at 0
-  keeping_first {at} {k} e l f =
+  pub keeping_first : {at k : ℕ} → sound a ≡ true → used_of a ≤ length t₀.area.now → (t₀.end ≡ first_line a) × (t₀.count ≡ 0) → (at ≡ first_line a) × (k ≡ 0) → Keeping at k t₀
+  keeping_first {at} {k} e l g f =
       let b = bounds a e in
       rw (f.0, f.1) record {
         scanning = scanning_begun a b.first b.inside (sound_parts a e).lines;
         lines = b.lines;
         kept = [];
         rest = ap (kept_lines ts) (sym (lines_first a));
-        wrote = written.lines_none area₀ (first_line a) 0 (omega (arith, b.first));
+        puts = record { same = refl; wrote = written.lines_none t₀.area.now t₀.end t₀.count (omega (arith, b.first, g.0)) };
         size = refl;
         long = l;
-        short = omega arith;
-        few = omega arith;
+        short = omega (arith, g.0);
+        few = omega (arith, g.1);
       }
 
-  module _ {at k : ℕ} {area : List ℕ} {end count : ℕ} (s : Keeping at k area end count) where
+  module _ {at k : ℕ} {t : Entries} (s : Keeping at k t) where
     module _ (l : k < count_of a) where
       pub entry_tested : SoundEntry (top_of a) (conditions_of a) (used_of a - at) a at
       entry_tested = entry_sound a s.scanning l
 
-      pub entry_room : end + step_at a at ≤ length area
+      pub entry_room : t.end + step_at a at ≤ length t.area.now
       entry_room = omega (arith, s.short, s.size, s.long, (scanning_next a s.scanning l).in_used)
 
-      pub keeping_next : {at' k' : ℕ} {area' : List ℕ} {end' count' : ℕ} → Next a at k at' k'
-          → LinesWrote area end count (kept_line ts (line_at (drop at a))) area' end' count' → Keeping at' k' area' end' count'
+      pub keeping_next : {at' k' : ℕ} {t' : Entries} → Next a at k at' k' → PutsLines t (kept_line ts (line_at (drop at a))) t' → Keeping at' k' t'
       unfolding kept_lines
-      keeping_next {at'} {k'} {area'} {end'} {count'} m w =
+      keeping_next {at'} {k'} {t'} m p =
+          let w = p.wrote in
           let line = line_at (drop at a) in
           let short = kept_short ts line in
           record {
@@ -153,18 +154,18 @@ module _ (a : List ℕ) (ts : List TrialLine) (area₀ : List ℕ) where
             kept = s.kept ++ kept_line ts line;
             rest = s.rest ∙ ap (λ (ls : List Line). s.kept ++ kept_lines ts ls) (lines_moved a s.scanning l m)
                 ∙ sym (append_assoc s.kept (kept_line ts line) (kept_lines ts (lines_left a at' k')));
-            wrote = lines_then s.wrote w;
+            puts = puts_then s.puts p;
             size = lines_length_lem w ∙ s.size;
             long = s.long;
             short = omega (arith, s.short, m.place, w.codes.behind, short.1, entry_size a at entry_tested);
             few = omega (arith, s.few, m.count, w.counted, short.0);
           }
 
-    pub keeping_done : count_of a ≤ k → LinesKept a ts area₀ area end count
+    pub keeping_done : count_of a ≤ k → LinesKept a ts t₀ t
     unfolding kept_lines
     keeping_done l =
         record {
-          wrote = lines_as (sym (s.rest ∙ ap (λ (ls : List Line). s.kept ++ kept_lines ts ls) (lines_none a at k l) ∙ append-nil s.kept)) s.wrote;
+          puts = puts_as (sym (s.rest ∙ ap (λ (ls : List Line). s.kept ++ kept_lines ts ls) (lines_none a at k l) ∙ append-nil s.kept)) s.puts;
           short = omega (arith, s.short, s.scanning.in_used);
           few = omega (arith, s.few, s.scanning.in_count, s.lines);
         }

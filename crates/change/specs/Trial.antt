@@ -1,12 +1,13 @@
 -- The lines of a trial as numbers, four for each line, and what they give a condition. Assumes nothing.
 use Rattle.std.specs.Prelude.{Bool, true, false, List, [], ◌∷◌, ℕ, zero, suc, ◌/◌, length, get_or, drop}
+use Rattle.std.specs.Prelude as code
+use Rattle.std.specs.Prelude.{None, Some}
 use Rattle.std.proofs.Math.Option.{Option, none, some}
 use Rattle.fixpoint.specs.Interval.{Interval}
 use Rattle.semantics.specs.Page.{Line, fact, rule, query, default}
 use Rattle.semantics.specs.Area.{page_of, area_of}
 use Rattle.semantics.specs.Trials.{TrialLine, tried, changed_page}
-use Rattle.change.specs.declared.Given.{Given}
-use Rattle.change.specs.declared.Given.TheVariants.{Nothing, Fact}
+use Rattle.change.specs.declared.Ends.{Ends}
 
 -- the line at the front: trial, condition, low, high
 abbrev pub trial_at : List ℕ → TrialLine
@@ -26,9 +27,9 @@ abbrev pub changed_area : (a lines : List ℕ) → List ℕ
 changed_area a lines = area_of (changed_page (page_of a) (lines_in lines))
 
 -- what is given
-abbrev pub given_of : Given → Option Interval
-given_of Nothing = none
-given_of (Fact low high) = some (record { low = low; high = high })
+abbrev pub given_of : code.Option Ends → Option Interval
+given_of None = none
+given_of (Some ends) = some (record { low = ends.low; high = ends.high })
 
 -- something is given
 abbrev pub is_given : Option Interval → Bool

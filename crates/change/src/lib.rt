@@ -3,58 +3,45 @@
 // and each condition the lines of the trial are looked through: no table of conditions is kept.
 #![tactic(auto)]
 
-ghost use Rattle.std.specs.Prelude.{◌≡◌, true, ◌++◌, ◌+◌, ◌*◌, ◌-◌, ◌≤◌, ◌<◌, length, drop};
-ghost use Rattle.semantics.specs.Area.{sound, line_at, top_of, conditions_of, used_of};
-ghost use Rattle.semantics.specs.ReadPage.{or_else};
+ghost use Rattle.std.specs.Prelude.{◌≡◌, true, ◌++◌, ◌+◌, ◌-◌, ◌≤◌, ◌<◌, length, drop};
+ghost use Rattle.semantics.specs.Area.{sound, line_at, top_of, conditions_of, used_of, first_line};
 ghost use Rattle.semantics.specs.Trials.{interval_for, tried, kept_line, fact_if};
-ghost use Rattle.print.specs.Wrote.{Wrote};
 ghost use Rattle.page.specs.Lines.{step_at};
 ghost use Rattle.page.specs.Graded.{SoundEntry};
 ghost use Rattle.change.specs.Trial.{trial_at, lines_in, changed_area, given_of, goes};
-ghost use Rattle.change.specs.Written.{LinesWrote, FactsFit, LinesKept, FactsWrote};
+ghost use Rattle.change.specs.Written.{PutsEntry, PutsLines, FactsFit, LinesKept, FactsWrote};
 
-use page::{Cursor, span_of};
+use page::span_of;
+use print::put_all;
 
-// What the lines of a trial give a condition: nothing, or an interval.
+// The interval that a line of a trial gives a condition. Not the `Ends` of `value`: this crate stands on page and print alone.
 #[derive(Clone, Copy)]
-enum Given {
-    Nothing,
-    Fact(u16, u16),
+struct Ends {
+    low: u16,
+    high: u16,
 }
 
-// What line k of the trial gives c.
-fn line_gives(lines: &[u16], k: usize, c: u16) -> Given
-    requires { 4 * k + 4 ≤ length lines.now }
-    ensures { given_of result ≡ interval_for (trial_at (drop (4 * k) lines.now)) c }
+// What a line of the trial gives c.
+fn line_gives(line: &[u16], c: u16) -> Option<Ends>
+    requires { 4 ≤ length line.now }
+    ensures { given_of result ≡ interval_for (trial_at line.now) c }
 {
-    let at = 4 * k;
-    if lines[at + 1] != c {
-        return Given::Nothing;
+    if line[1] != c {
+        return None;
     }
-    Given::Fact(lines[at + 2], lines[at + 3])
+    Some(Ends {
+        low: line[2],
+        high: line[3],
+    })
 }
 
-// Of what an earlier and a later line give, the later one's, if it gives anything.
-fn last_given(earlier: Given, later: Given) -> Given
-    ensures { given_of result ≡ or_else (given_of later) (given_of earlier) }
-{
-    match later {
-        Given::Nothing => earlier,
-        Given::Fact(low, high) => Given::Fact(low, high),
-    }
-}
-
-// What the lines of the trial give c.
-fn trial_gives(lines: &[u16], c: u16) -> Given
+// What the lines of the trial give c: the last that gives something wins.
+fn trial_gives(lines: &[u16], c: u16) -> Option<Ends>
     ensures { given_of result ≡ tried (lines_in lines.now) c }
 {
-    let n = lines.len() / 4;
-    let mut given = Given::Nothing;
-    let mut k: usize = 0;
-    while k < n {
-        let next = line_gives(lines, k, c);
-        given = last_given(given, next);
-        k += 1;
+    let mut given = None;
+    for line in lines.chunks_exact(4) {
+        given = line_gives(line, c).or(given);
     }
     given
 }
@@ -64,102 +51,68 @@ fn line_goes(a: &[u16], at: usize, lines: &[u16]) -> bool
     requires { at + 4 ≤ length a.now }
     ensures { result ≡ goes (lines_in lines.now) (line_at (drop at a.now)) }
 {
-    if a[at + 1] != 0 {
-        return false;
-    }
-    let given = trial_gives(lines, a[at]);
-    match given {
-        Given::Nothing => false,
-        Given::Fact(_, _) => true,
-    }
+    a[at + 1] == 0 && trial_gives(lines, a[at]).is_some()
 }
 
-// The numbers of a slice, from a place on; answers the place behind them.
-fn put_numbers(area: &mut [u16], at: usize, numbers: &[u16]) -> usize
-    requires { at + length numbers.now ≤ length area.old }
-    ensures { Wrote area.old at numbers.now area.new result }
-{
-    let mut i: usize = 0;
-    while i < numbers.len() {
-        area[at + i] = numbers[i];
-        i += 1;
-    }
-    at + i
-}
-
-// The place behind the entries that are written, and how many they are.
-#[derive(Clone, Copy)]
-struct Place {
+// A lent area, the place up to which entries are written, and how many they are.
+#[derive(Drop)]
+struct Entries<'a> {
+    area: &'a mut [u16],
     end: usize,
     count: u16,
 }
 
+impl<'a> Entries<'a> {
+    // One entry.
+    fn put(&mut self, entry: &[u16])
+        requires { (self.old.end + length entry.now ≤ length self.old.area.now) × (self.old.count < 65535) }
+        ensures { PutsEntry self.old entry.now self.new }
+    {
+        self.end = put_all(self.area, self.end, entry);
+        self.count += 1;
+    }
+}
+
 // The entry at `at` of the page, unless it goes.
-fn keep_line(a: &[u16], at: usize, lines: &[u16], area: &mut [u16], to: Place) -> Place
-    requires { SoundEntry (top_of a.now) (conditions_of a.now) (used_of a.now - at) a.now at × (to.end + step_at a.now at ≤ length area.old) × (to.count < 65535) }
-    ensures { LinesWrote area.old to.end to.count (kept_line (lines_in lines.now) (line_at (drop at a.now))) area.new result.end result.count }
+fn keep_line(a: &[u16], at: usize, lines: &[u16], entries: &mut Entries<'_>)
+    requires { SoundEntry (top_of a.now) (conditions_of a.now) (used_of a.now - at) a.now at × (entries.old.end + step_at a.now at ≤ length entries.old.area.now) × (entries.old.count < 65535) }
+    ensures { PutsLines entries.old (kept_line (lines_in lines.now) (line_at (drop at a.now))) entries.new }
 {
     if line_goes(a, at, lines) {
-        return to;
+        return;
     }
     let behind = at + span_of(a[at + 1], a[at + 3]);
-    let end = put_numbers(area, to.end, &a[at..behind]);
-    Place {
-        end,
-        count: to.count + 1,
-    }
+    entries.put(&a[at..behind]);
 }
 
 // The entries of the page's lines that stay, from where its lines begin.
-fn keep_lines(a: &[u16], lines: &[u16], area: &mut [u16]) -> Place
-    requires { (sound a.now ≡ true) × (used_of a.now ≤ length area.old) }
-    ensures { LinesKept a.now (lines_in lines.now) area.old area.new result.end result.count }
+fn keep_lines(a: &[u16], lines: &[u16], entries: &mut Entries<'_>)
+    requires { (sound a.now ≡ true) × (used_of a.now ≤ length entries.old.area.now) × (entries.old.end ≡ first_line a.now) × (entries.old.count ≡ 0) }
+    ensures { LinesKept a.now (lines_in lines.now) entries.old entries.new }
 {
-    let count = a[2];
-    let mut line = Cursor::first(a);
-    let mut place = Place {
-        end: line.at,
-        count: 0,
-    };
-    while line.passed < count {
-        let at = line.at;
-        place = keep_line(a, at, lines, area, place);
-        line = line.next(a);
+    for at in page::Lines::of(a) {
+        keep_line(a, at, lines, entries);
     }
-    place
 }
 
 // The fact that the trial gives c, if it names c.
-fn put_fact(lines: &[u16], c: u16, area: &mut [u16], to: Place) -> Place
-    requires { (to.end + 4 ≤ length area.old) × (to.count < 65535) }
-    ensures { LinesWrote area.old to.end to.count (fact_if c (tried (lines_in lines.now) c)) area.new result.end result.count }
+fn put_fact(lines: &[u16], c: u16, entries: &mut Entries<'_>)
+    requires { (entries.old.end + 4 ≤ length entries.old.area.now) × (entries.old.count < 65535) }
+    ensures { PutsLines entries.old (fact_if c (tried (lines_in lines.now) c)) entries.new }
 {
-    let given = trial_gives(lines, c);
-    match given {
-        Given::Nothing => to,
-        Given::Fact(low, high) => {
-            let entry = [c, 0, low, high];
-            let end = put_numbers(area, to.end, &entry);
-            Place {
-                end,
-                count: to.count + 1,
-            }
-        }
+    if let Some(ends) = trial_gives(lines, c) {
+        entries.put(&[c, 0, ends.low, ends.high]);
     }
 }
 
 // The facts that the trial gives the n conditions, in their order.
-fn put_facts(lines: &[u16], n: u16, area: &mut [u16], to: Place) -> Place
-    requires { FactsFit n area.old to.end to.count }
-    ensures { FactsWrote (lines_in lines.now) n area.old to.end to.count area.new result.end result.count }
+fn put_facts(lines: &[u16], n: u16, entries: &mut Entries<'_>)
+    requires { FactsFit n entries.old }
+    ensures { FactsWrote (lines_in lines.now) n entries.old entries.new }
 {
-    let mut place = to;
-    let mut c: u16 = 0;
-    while c < n {
-        place = put_fact(lines, c, area, place);
-        c += 1;
+    for c in 0..n {
+        put_fact(lines, c, entries);
     }
-    place
 }
 
 // The area of the page that the lines of a trial change: four numbers for each line, its trial, condition, low and high. The count of lines
@@ -170,9 +123,15 @@ pub fn change(a: &[u16], lines: &[u16], area: &mut [u16])
 {
     let n = a[1];
     let first = 4 + n as usize;
-    put_numbers(area, 0, &a[0..first]);
-    let kept = keep_lines(a, lines, area);
-    let all = put_facts(lines, n, area, kept);
-    area[2] = all.count;
-    area[3] = all.end as u16;
+    let end = put_all(area, 0, &a[..first]);
+    let mut entries = Entries {
+        area,
+        end,
+        count: 0,
+    };
+    keep_lines(a, lines, &mut entries);
+    put_facts(lines, n, &mut entries);
+    let (end, count) = (entries.end, entries.count);
+    area[2] = count;
+    area[3] = end as u16;
 }

@@ -1,6 +1,6 @@
 -- The operation as a whole: the start from the closure, the answers in list order, the cleared scratch, and the refusals. Assumes nothing.
 use mathlib.Core.Path.{◌≡◌, refl, sym, ◌∙◌, ap, ap₂}
-use mathlib.Core.Bool.{Bool, true, false, not, ◌&&◌, true≢false}
+use mathlib.Core.Bool.{Bool, true, false, not, true≢false}
 use mathlib.Core.Logic.{◌≢◌, inr}
 use mathlib.Core.List.{List, [], ◌∷◌, ◌++◌, append_assoc}
 use mathlib.Core.Option.{none, some}
@@ -17,9 +17,9 @@ use Rattle.fixpoint.specs.Interval.{Assign}
 use Rattle.fixpoint.proofs.Cond.{by_bool, cond_true, cond_false}
 use Rattle.fixpoint.proofs.KnowledgeOrder.{pair_eq}
 use Rattle.fixpoint.proofs.Tables.{turned_first}
-use Rattle.semantics.specs.Area.{sound, page_of, top_of, conditions_of, all_under}
+use Rattle.semantics.specs.Area.{sound, page_of, top_of, conditions_of}
 use Rattle.semantics.specs.Body.{unknown_by_default}
-use Rattle.semantics.specs.Call.{Cause, cause}
+use Rattle.semantics.specs.Call.{Cause, cause, first_of}
 use Rattle.semantics.specs.Operation.{ends, zeros, scratch_length, closed_causes, index_length, used_workspace, closed_workspace, refused_closing, closed_after, ClosedOf}
 use Rattle.semantics.specs.Page.{names}
 use Rattle.semantics.specs.Reading.{queried, closure}
@@ -32,7 +32,8 @@ use Rattle.semantics.proofs.Readings.{names_inside, closed_is}
 use Rattle.page.proofs.Head.{head_of}
 use Rattle.index.specs.Parts.{lines_length, Index}
 use Rattle.reach.specs.Marks.{Marks}
-use Rattle.reach.proofs.Refusals.{first_10, first_11, first_12, first_behind}
+use Rattle.reach.specs.Queries.{list_causes}
+use Rattle.reach.proofs.Refusals.{first_10, first_before, first_after}
 use Rattle.settle.specs.Scratch.{held}
 use Rattle.closed.specs.Answer.{FirstCause}
 use Rattle.settle.specs.Waiting.{MaybeIndex}
@@ -214,26 +215,30 @@ module _ (a qs s w : List ℕ) where
   causes_10 e = record { is = sym (first_10 a qs behind e) }
 
   module _ (ok : sound a ≡ true) where
-    pub causes_11 : (leb 1 (length qs) && leb (length qs) 16) ≡ false → FirstCause (some 11) a qs s w
-    causes_11 e = record { is = sym (first_11 a qs behind ok e) }
+    -- past 10 the causes of the list come first
+    causes_are : first_of (closed_causes a qs s w) ≡ first_of (list_causes (conditions_of a) qs ++ behind)
+    unfolding page_of
+    causes_are = rw ok
 
-    module _ (few : (leb 1 (length qs) && leb (length qs) 16) ≡ true) where
-      pub causes_12 : all_under (conditions_of a) qs ≡ false → FirstCause (some 12) a qs s w
-      causes_12 e = record { is = sym (first_12 a qs behind ok few e) }
+    pub causes_list : {k : ℕ} → some k ≡ first_of (list_causes (conditions_of a) qs) → FirstCause (some k) a qs s w
+    causes_list {k} f = record { is = sym (causes_are ∙ first_before (list_causes (conditions_of a) qs) behind (sym f)) }
 
-      module _ (under : all_under (conditions_of a) qs ≡ true) where
-        pub causes_18 : length s < 4 * conditions_of a → FirstCause (some 18) a qs s w
+    module _ (f : none ≡ first_of (list_causes (conditions_of a) qs)) where
+      past_list : first_of (closed_causes a qs s w) ≡ first_of behind
+      past_list = causes_are ∙ first_after (list_causes (conditions_of a) qs) behind (sym f)
+
+      pub causes_18 : length s < 4 * conditions_of a → FirstCause (some 18) a qs s w
+      unfolding page_of
+      causes_18 l = record { is = sym (past_list ∙ rw (lt-leb (4 * conditions_of a) (length s) l)) }
+
+      module _ (long : 4 * conditions_of a ≤ length s) where
+        pub causes_19 : length w < 2 * length qs → FirstCause (some 19) a qs s w
         unfolding page_of
-        causes_18 l = record { is = sym (first_behind a qs behind ok few under ∙ rw (lt-leb (4 * conditions_of a) (length s) l)) }
+        causes_19 l = record { is = sym (past_list ∙ rw (le-leb (4 * conditions_of a) (length s) long, lt-leb (2 * length qs) (length w) l)) }
 
-        module _ (long : 4 * conditions_of a ≤ length s) where
-          pub causes_19 : length w < 2 * length qs → FirstCause (some 19) a qs s w
-          unfolding page_of
-          causes_19 l = record { is = sym (first_behind a qs behind ok few under ∙ rw (le-leb (4 * conditions_of a) (length s) long, lt-leb (2 * length qs) (length w) l)) }
-
-          pub causes_none : 2 * length qs ≤ length w → FirstCause none a qs s w
-          unfolding page_of
-          causes_none l = record { is = sym (first_behind a qs behind ok few under ∙ rw (le-leb (4 * conditions_of a) (length s) long, le-leb (2 * length qs) (length w) l)) }
+        pub causes_none : 2 * length qs ≤ length w → FirstCause none a qs s w
+        unfolding page_of
+        causes_none l = record { is = sym (past_list ∙ rw (le-leb (4 * conditions_of a) (length s) long, le-leb (2 * length qs) (length w) l)) }
 
   -- a refusal
   pub refused_by : {k : ℕ} → FirstCause (some k) a qs s w → ClosedOf (refused_closing k) a qs s w s w

@@ -1,10 +1,15 @@
 -- The closed reading solved in the scratch. Assumes nothing.
 use Rattle.std.specs.Prelude.{◌≡◌, Bool, true, List, ◌++◌, ℕ, ◌+◌, ◌*◌, ◌≤◌, ◌<◌, length, get_or, drop}
+use Rattle.fixpoint.specs.Interval.{Assign}
 use Rattle.semantics.specs.Area.{page_of, conditions_of, all_under}
 use Rattle.semantics.specs.Operation.{ends}
 use Rattle.semantics.specs.Rounds.{IsRounds}
 use Rattle.rounds.specs.Round.{closed_at}
 use Rattle.page.specs.Solvable.{solvable}
+
+-- the interval that a table of ends holds: the low end of c stands at `step` × c, and the high end `gap` numbers behind it
+abbrev pub ends_at : (table : List ℕ) (step gap : ℕ) → Assign
+ends_at table step gap c = record { low = get_or table (step * c) 0; high = get_or table (gap + step * c) 0 }
 
 -- nothing is known: every interval is [0;top]
 pub record Begun (n top : ℕ) (s s' : List ℕ) : Type 0 where

@@ -2,12 +2,13 @@
 #![tactic(auto)]
 
 ghost use Rattle.std.specs.Prelude.{◌≡◌, ◌++◌, ℕ, ◌≤◌, ◌+◌, ◌<◌, ◌*◌, length, get_or, drop};
-ghost use Rattle.std.proofs.Math.Option.{none};
 ghost use Rattle.semantics.specs.Operation.{ends, zeros, index_length, used_workspace, closed_workspace, ClosedOf};
-ghost use Rattle.settle.specs.Scratch.{held};
 ghost use Rattle.settle.specs.Waiting.{MaybeIndex};
-ghost use Rattle.closed.specs.Solving.{Begun, SolveReady, Solved};
-ghost use Rattle.closed.specs.Answer.{refusal_told, closing_told, FirstCause};
+ghost use Rattle.closed.specs.Solving.{ends_at, Begun, SolveReady, Solved};
+ghost use Rattle.reach.specs.Queries.{refused_with};
+ghost use Rattle.closed.specs.Answer.{closing_told, FirstCause};
+
+use refusal::Refusal;
 
 // Nothing is known: the low ends are 0 and the high ends top.
 fn begin(scratch: &mut [u16], n: u16, top: u16)
@@ -15,31 +16,26 @@ fn begin(scratch: &mut [u16], n: u16, top: u16)
     ensures { Begun n top scratch.old scratch.new }
 {
     let base = 2 * n as usize;
-    let mut c: usize = 0;
-    while c < n as usize {
+    for c in 0..n as usize {
         scratch[2 * c] = 0;
         scratch[base + 2 * c] = top;
-        c += 1;
     }
 }
 
-// Low and high of each query, in list order.
-fn write_answers(scratch: &[u16], n: u16, queries: &[u16], answers: &mut [u16])
-    requires { ((k : ℕ) → k < length queries.now → get_or queries.now k 0 < n) × (4 * n ≤ length scratch.now) × (n ≤ 512) × (2 * length queries.now ≤ length answers.old) }
-    ensures { answers.new ≡ ends (held n scratch.now) queries.now ++ drop (2 * length queries.now) answers.old }
+// Low and high of each query, in list order: in the table the low end of c stands at `step` × c, and the high end `gap` numbers behind it.
+pub fn write_ends(table: &[u16], step: usize, gap: usize, queries: &[u16], answers: &mut [u16])
+    requires { ((k : ℕ) → k < length queries.now → gap + step * get_or queries.now k 0 < length table.now) × (2 * length queries.now ≤ length answers.old) }
+    ensures { answers.new ≡ ends (ends_at table.now step gap) queries.now ++ drop (2 * length queries.now) answers.old }
 {
-    let base = 2 * n as usize;
-    let mut i: usize = 0;
-    while i < queries.len() {
-        let at = 2 * queries[i] as usize;
-        answers[2 * i] = scratch[at];
-        answers[2 * i + 1] = scratch[base + at];
-        i += 1;
+    for (i, &c) in queries.iter().enumerate() {
+        let at = step * c as usize;
+        answers[2 * i] = table[at];
+        answers[2 * i + 1] = table[gap + at];
     }
 }
 
 // The closed reading of every condition reached from the queries, in the scratch; its answers; and the count of rounds if it is asked for, which
-// leaves other numbers in the scratch.
+// leaves other numbers in the scratch. `counting` stays a switch: a second function would repeat this one and its contract.
 fn solve(
     a: &[u16],
     queries: &[u16],
@@ -59,41 +55,29 @@ fn solve(
     let free = unknowns::any_free(a, &marks);
     let mut next = [0u8; 512];
     rounds::alternate(a, lines, users, &marks, scratch, &mut next, free);
-    write_answers(scratch, n, queries, answers);
+    write_ends(scratch, 2, 2 * n as usize, queries, answers);
     if !counting {
         return 0;
     }
     stages::count_rounds(a, lines, users, &marks, scratch, &mut next, free)
 }
 
-// The answer of the closed reading: the number of the refusal, or the count of rounds where the work is done.
-#[derive(Clone, Copy)]
-pub enum ClosedAnswer {
-    Refused(u8),
-    Done(u32),
-}
-
 // The first cause of a refusal, if there is one.
-fn refusal(page: &[u16], queries: &[u16], scratch: &[u16], answers: &[u16]) -> ClosedAnswer
-    ensures { FirstCause (refusal_told result) page.now queries.now scratch.now answers.now }
+fn refusal(page: &[u16], queries: &[u16], scratch: &[u16], answers: &[u16]) -> Result<(), Refusal>
+    ensures { FirstCause (refused_with result) page.now queries.now scratch.now answers.now }
 {
     if !page::page_sound(page) {
-        return ClosedAnswer::Refused(10);
-    }
-    if !reach::count_ok(queries) {
-        return ClosedAnswer::Refused(11);
+        return Err(Refusal::PageNotSound);
     }
     let n = page[1];
-    if !reach::all_below(queries, n) {
-        return ClosedAnswer::Refused(12);
-    }
+    reach::check_queries(queries, n)?;
     if scratch.len() < 4 * n as usize {
-        return ClosedAnswer::Refused(18);
+        return Err(Refusal::ScratchShort);
     }
     if answers.len() < 2 * queries.len() {
-        return ClosedAnswer::Refused(19);
+        return Err(Refusal::AnswersShort);
     }
-    ClosedAnswer::Done(0)
+    Ok(())
 }
 
 // The scratch ends as zeros.
@@ -110,17 +94,14 @@ pub fn closed_reading(
     queries: &[u16],
     scratch: &mut [u16],
     answers: &mut [u16],
-) -> ClosedAnswer
+) -> Result<u32, Refusal>
     ensures { ClosedOf (closing_told result) page.now queries.now scratch.old answers.old scratch.new answers.new }
 {
-    let refused = refusal(page, queries, scratch, answers);
-    if let ClosedAnswer::Refused(k) = refused {
-        return ClosedAnswer::Refused(k);
-    }
-    let none = &page[0..0];
+    refusal(page, queries, scratch, answers)?;
+    let none = &page[..0];
     let rounds = solve(page, queries, none, none, scratch, answers, true);
     clear(scratch, page[1]);
-    ClosedAnswer::Done(rounds)
+    Ok(rounds)
 }
 
 // The same as `solve`, with an index that is built in `w`.
@@ -156,7 +137,7 @@ pub fn solve_over(
 {
     let m = index::index_length(a);
     if workspace.len() < m {
-        let none = &a[0..0];
+        let none = &a[..0];
         return solve(a, queries, none, none, scratch, answers, counting);
     }
     let rounds = solve_indexed(a, queries, scratch, answers, &mut workspace[..m], counting);
@@ -171,14 +152,11 @@ pub fn closed_indexed(
     scratch: &mut [u16],
     answers: &mut [u16],
     workspace: &mut [u16],
-) -> ClosedAnswer
+) -> Result<u32, Refusal>
     ensures { ClosedOf (closing_told result) page.now queries.now scratch.old answers.old scratch.new answers.new × (workspace.new ≡ closed_workspace page.now queries.now scratch.old answers.old workspace.old) }
 {
-    let refused = refusal(page, queries, scratch, answers);
-    if let ClosedAnswer::Refused(k) = refused {
-        return ClosedAnswer::Refused(k);
-    }
+    refusal(page, queries, scratch, answers)?;
     let rounds = solve_over(page, queries, scratch, answers, workspace, true);
     clear(scratch, page[1]);
-    ClosedAnswer::Done(rounds)
+    Ok(rounds)
 }

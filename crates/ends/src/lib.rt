@@ -13,19 +13,16 @@ ghost use Rattle.value.specs.LineEnds.{Folded, RuleEnd, LineEnd};
 ghost use Rattle.ends.specs.Mirror.{flip, mirrored, Mirrored, BothFoldable};
 ghost use Rattle.page.specs.Solvable.{solvable};
 
-use value::{End, Ends, divided, maximum, minimum};
+use value::{End, Ends, bounded, divided, excess};
 
 // The low end of every literal at the intervals held.
 pub fn fill(run: &[u16], n: u16, top: u16, values: &mut [u8])
     requires { Graded top n run.now × (2 * n ≤ length values.old) }
     ensures { EndTable lower top n (interval_at run.now) values.new }
 {
-    let limit = n as usize;
-    let mut c: usize = 0;
-    while c < limit {
-        values[2 * c] = run[3 * c] as u8;
-        values[2 * c + 1] = (top - run[3 * c + 1]) as u8;
-        c += 1;
+    for c in 0..n {
+        let at = 3 * c as usize;
+        store(values, c, run[at], top - run[at + 1]);
     }
 }
 
@@ -40,47 +37,47 @@ pub fn store(values: &mut [u8], c: u16, plain: u16, negated: u16)
 }
 
 // The high end of a literal.
+#[tactic(auto, unfolding(crate::specs::Mirror::flip))]
 fn high_of(values: &[u8], code: u16, top: u16) -> u16
     requires { (flip code < length values.now) × (get_or values.now (flip code) 0 ≤ top) }
     ensures { result ≡ top - get_or values.now (flip code) 0 }
 {
-    let at = (code ^ 1) as usize;
-    top - values[at] as u16
+    top - values[(code ^ 1) as usize] as u16
 }
 
 // What the op of the kind k makes of two grades, at one end: 1 to 5 are M, X, L, B, P.
+#[tactic(auto, unfolding(semantics::specs::Area::kind, semantics::specs::Grade::combine))]
 fn combine(k: u16, p: u16, q: u16, top: u16, end: End) -> u16
     requires { (1 ≤ k) × (k ≤ 5) × (1 ≤ top) × (top ≤ 200) × (p ≤ top) × (q ≤ top) }
     ensures { (op : Op) → kind k ≡ rule_kind op → result ≡ combine top op (side end) p q }
 {
     match k {
-        1 => minimum(p, q),
-        2 => maximum(p, q),
-        3 => maximum(p + q, top) - top,
-        4 => minimum(p + q, top),
+        1 => p.min(q),
+        2 => p.max(q),
+        3 => excess(p, q, top),
+        4 => bounded(p, q, top),
         _ => divided(p * q, top, end),
     }
 }
 
-// The op of the kind k over the ends of literals, from left to right.
+// The op of the kind k over the ends of literals, from left to right. Not `value::fold`: both ends go on at once, over bytes and their mirror.
 fn fold_ends(codes: &[u16], k: u16, values: &[u8], top: u16, first: Ends) -> Ends
     requires { BothFoldable top codes.now values.now first.low first.high × (1 ≤ k) × (k ≤ 5) }
     ensures low { (op : Op) → kind k ≡ rule_kind op → Folded (combine top op lower) codes.now values.now first.low result.low }
     ensures high { (op : Op) → kind k ≡ rule_kind op → Folded (combine top op upper) codes.now (mirrored top values.now) first.high result.high }
+    ensures grades { (result.low ≤ top) × (result.high ≤ top) }
 {
     let mut low = first.low;
     let mut high = first.high;
-    let mut j: usize = 0;
-    while j < codes.len() {
-        let code = codes[j];
+    for &code in codes {
         low = combine(k, low, values[code as usize] as u16, top, End::Lower);
         high = combine(k, high, high_of(values, code, top), top, End::Upper);
-        j += 1;
     }
     Ends { low, high }
 }
 
 // Both ends of the value of the rule at `at`: its op over its literals, then its weight.
+#[tactic(auto, using(crate::proofs::Rules::first_in, crate::proofs::Rules::first_grade, page::proofs::Head::head_of, page::proofs::Entries::small_product, value::proofs::Dividing::product_divides))]
 fn rule_ends(a: &[u16], at: usize, values: &[u8]) -> Ends
     requires { (solvable a.now ≡ true) × Mirrored (top_of a.now) (conditions_of a.now) values.now × RuleAt (top_of a.now) (conditions_of a.now) a.now at × (1 ≤ get_or a.now (at + 1) 0) × (get_or a.now (at + 1) 0 ≤ 5) }
     ensures { RuleEnd lower a.now values.now at result.low × RuleEnd upper a.now (mirrored (top_of a.now) values.now) at result.high }
@@ -89,18 +86,15 @@ fn rule_ends(a: &[u16], at: usize, values: &[u8]) -> Ends
     let w = a[at + 2];
     let from = at + 5;
     let to = at + 4 + a[at + 3] as usize;
-    let rest = &a[from..to];
     let code = a[at + 4];
     let first = Ends {
         low: values[code as usize] as u16,
         high: high_of(values, code, top),
     };
-    let r = fold_ends(rest, a[at + 1], values, top, first);
-    let low = r.low;
-    let high = r.high;
+    let r = fold_ends(&a[from..to], a[at + 1], values, top, first);
     Ends {
-        low: divided(low * w, top, End::Lower),
-        high: divided(high * w, top, End::Upper),
+        low: divided(r.low * w, top, End::Lower),
+        high: divided(r.high * w, top, End::Upper),
     }
 }
 

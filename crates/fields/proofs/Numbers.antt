@@ -13,7 +13,7 @@ and_false true e = e
 and_false false e = refl
 
 -- What `digit` answers, by the difference r of a byte to 48, which wraps.
-module _ (b r : ℕ) (e : (r + 48) % 4294967296 ≡ b) where
+module _ (b r : ℕ) (w : b < 256) (e : r ≡ (b + 4294967248) % 4294967296) where
   pub a_digit : r ≤ 9 → DigitIs b r
   unfolding class_of
   a_digit h =
@@ -21,8 +21,8 @@ module _ (b r : ℕ) (e : (r + 48) % 4294967296 ≡ b) where
       let m : b ≤ 57 = omega arith in
       record { is = rw (le-leb 48 b l, le-leb b 57 m) (omega arith); most = h }
 
-  not_digit : r < 4294967296 → 9 < r → is_digit b ≡ false
-  not_digit l h = go (dec_lt b 48)
+  not_digit : 9 < r → is_digit b ≡ false
+  not_digit h = go (dec_lt b 48)
     where
       go : Dec (b < 48) → is_digit b ≡ false
       go (yes k) = rw (lt-leb 48 b k)
@@ -30,9 +30,9 @@ module _ (b r : ℕ) (e : (r + 48) % 4294967296 ≡ b) where
           let m : 57 < b = omega arith in
           rw (le-leb 48 b (omega arith), lt-leb b 57 m)
 
-  pub other_byte : r < 4294967296 → 9 < r → 9 < class_of b
+  pub other_byte : 9 < r → 9 < class_of b
   unfolding class_of
-  other_byte l h = rw (not_digit l h) (go (eqb b 44 || eqb b 10))
+  other_byte h = rw (not_digit h) (go (eqb b 44 || eqb b 10))
     where
       go : (t : Bool) → 9 < cond t 10 11
       go true = omega arith

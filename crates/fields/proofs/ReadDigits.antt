@@ -1,12 +1,10 @@
 -- The digits at a place, as they are read one after the other. Assumes nothing.
-use Rattle.std.proofs.Common.{◌≡◌, ℕ, ◌+◌, ◌-◌, ◌*◌, ◌<◌, ◌≤◌, true, false, ◌⊎◌, List, length, get_or, sym, refl, ap, ◌∙◌, subst, inl, inr, arith}
+use Rattle.std.proofs.Common.{◌≡◌, ℕ, ◌+◌, ◌-◌, ◌*◌, ◌<◌, ◌≤◌, true, false, ◌⊎◌, List, length, get_or, sym, refl, ap, ◌∙◌, inl, inr, arith}
 use mathlib.Core.Bool.{false≢true}
 use native.Mathlib.Decide.{ℕ_discrete, dec_lt}
 use Rattle.semantics.specs.Text.{is_number}
-use Rattle.fields.specs.declared.Class.{Class}
-use Rattle.fields.specs.declared.Class.TheVariants.{Digit, Other}
 use Rattle.semantics.proofs.TextNumbers.{digit_range}
-use Rattle.fields.specs.Cursor.{InText, field_at, class_of, DigitIs, DigitAs, FirstDigit, Digits, NumberTo}
+use Rattle.fields.specs.Cursor.{InText, field_at, class_of, DigitIs, FirstDigit, Digits, NumberTo}
 use Rattle.fields.proofs.Places.{byte_here, within_next}
 use Rattle.fields.proofs.Numbers.{class_most, class_digit, class_value, none_first, one_number, none_second, none_leading, two_number, none_third, three_number, none_longer}
 
@@ -17,14 +15,6 @@ eleven b h n = go (ℕ_discrete (class_of b) 11)
     go : Dec (class_of b ≡ 11) → class_of b ≡ 11
     go (yes e) = e
     go (no m) = absurd (omega (arith, class_most b n m))
-
--- the answer of `digit` by its cases
-module _ (b : ℕ) {r : Class} (p : DigitAs b r) where
-  pub some_digit : {v : ℕ} → r ≡ Digit v → DigitIs b v
-  some_digit e = subst (DigitAs b) e p
-
-  pub no_digit : r ≡ Other → 9 < class_of b
-  no_digit e = subst (DigitAs b) e p
 
 -- the byte read at a place, and the place behind a digit
 module _ (s : List ℕ) (i : ℕ) (w : InText s i) where

@@ -1,38 +1,33 @@
 -- What `number_before` and `read_literal` answer, and what their answers say of the fields at a place. Assumes nothing.
-use Rattle.std.proofs.Common.{◌≡◌, ℕ, ◌+◌, ◌*◌, ◌<◌, ◌≤◌, Bool, true, false, ◌&&◌, eqb, ◌⊎◌, List, [], ◌∷◌, length, get_or, drop, sym, refl, ap, ◌∙◌, subst, inl, inr, ⊎_elim, add-zero, arith, eq-eqb, ne_eqb, eqb-true}
+use Rattle.std.proofs.Common.{◌≡◌, ℕ, ◌+◌, ◌*◌, ◌<◌, ◌≤◌, Bool, true, false, cond, ◌&&◌, eqb, ◌⊎◌, List, [], ◌∷◌, length, get_or, drop, sym, refl, ap, ◌∙◌, inl, inr, ⊎_elim, add-zero, arith, eq-eqb, ne_eqb, eqb-true, Option, Some, None}
 use native.Mathlib.Decide.{ℕ_discrete}
 use borrow.Author.Tests.{eqb-false}
 use Rattle.semantics.specs.Area.{code_of}
 use Rattle.semantics.specs.Text.{text_lines, is_number, number_in, is_literal, literal_in}
 use Rattle.semantics.proofs.Soundness.{both_true}
-use Rattle.fields.specs.declared.Field.{Field}
-use Rattle.fields.specs.declared.Field.TheVariants.{Number, Bad}
-use Rattle.fields.specs.Cursor.{InText, fields_at, field_at, lines_after, class_of, pick, Numbered, Digits, DigitsAt, SignIs, number_before, NumberTo, LiteralIs, LiteralAt, CodeTo}
+use Rattle.std.proofs.lemmas.Option.{cond_some, none-some}
+use Rattle.fields.specs.declared.Token.{Token}
+use Rattle.fields.specs.Cursor.{InText, fields_at, field_at, lines_after, class_of, Numbered, Digits, DigitsAt, SignIs, number_before, NumberTo, LiteralIs, LiteralAt, CodeTo}
 use Rattle.fields.proofs.Places.{byte_here, within, within_next}
 use Rattle.fields.proofs.Numbers.{field_more, field_end}
 use Rattle.fields.proofs.Fields.{some_field, Comma, Newline, comma_after, newline_after, follows}
 
--- an answer that is picked, by the test
-pub picked_number : (t : Bool) (w g v e : ℕ) → pick t (Number w g) Bad ≡ Number v e → (t ≡ true) × (w ≡ v) × (g ≡ e)
-picked_number true w g v e h = (refl, cc, cc)
-picked_number false w g v e h = let z : ◌≡◌ {A = ℕ} 0 1 = cc in absurd (omega arith)
-
-pub picked_bad : (t : Bool) (w g : ℕ) → pick t (Number w g) Bad ≡ Bad → t ≡ false
-picked_bad true w g h = let z : ◌≡◌ {A = ℕ} 0 1 = cc in absurd (omega arith)
-picked_bad false w g h = refl
+cond_none : {A : Type 0} (b : Bool) (x : A) → None ≡ cond b (Some x) None → b ≡ false
+cond_none true x h = absurd (none-some x h)
+cond_none false x h = refl
 
 -- the answer of `number_before`
 module _ (s : List ℕ) (at m : ℕ) where
-  pub before_none : is_number (field_at s at) ≡ false → Bad ≡ number_before s at m
+  pub before_none : is_number (field_at s at) ≡ false → None ≡ number_before s at m
   unfolding number_before
   before_none n = rw n
 
   module _ {v e x : ℕ} (n : Numbered s at v e) (b : x ≡ get_or s e 10) where
-    before_number : x ≡ m → Number v (e + 1) ≡ number_before s at m
+    before_number : x ≡ m → Some (record { value = v; end = e + 1 }) ≡ number_before s at m
     unfolding number_before
     before_number h = rw (n.number, n.end, n.value, eq-eqb (get_or s e 10) m (sym b ∙ h))
 
-    before_other : (x ≡ m → ⊥) → Bad ≡ number_before s at m
+    before_other : (x ≡ m → ⊥) → None ≡ number_before s at m
     unfolding number_before
     before_other h = rw (n.number, n.end, n.value, ne_eqb (get_or s e 10) m (λ z. h (b ∙ z)))
 
@@ -41,23 +36,15 @@ module _ (s : List ℕ) (at m : ℕ) (w : class_of m ≡ 10) {v e : ℕ} (d : Di
   byte_behind : get_or s e 0 ≡ get_or s e 10
   byte_behind = let l : e < length s = d.place.inside in byte_here s e l
 
-  pub ends_number : get_or s e 0 ≡ m → Number v (e + 1) ≡ number_before s at m
+  pub ends_number : get_or s e 0 ≡ m → Some (record { value = v; end = e + 1 }) ≡ number_before s at m
   ends_number h = let g : get_or s e 10 ≡ m = sym byte_behind ∙ h in before_number s at m (d.ends (ap class_of g ∙ w)) refl g
 
-  pub ends_other : (get_or s e 0 ≡ m → ⊥) → Bad ≡ number_before s at m
+  pub ends_other : (get_or s e 0 ≡ m → ⊥) → None ≡ number_before s at m
   ends_other h = go (ℕ_discrete (class_of (get_or s e 10)) 10)
     where
-      go : Dec (class_of (get_or s e 10) ≡ 10) → Bad ≡ number_before s at m
+      go : Dec (class_of (get_or s e 10) ≡ 10) → None ≡ number_before s at m
       go (yes t) = before_other s at m (d.ends t) refl (λ z. h (byte_behind ∙ z))
       go (no t) = before_none s at m (d.other t)
-
--- the answer of `digits` by its cases
-module _ (s : List ℕ) (at : ℕ) {r : Field} (p : DigitsAt s at r) where
-  pub some_digits : {v e : ℕ} → r ≡ Number v e → Digits s at v e
-  some_digits h = subst (DigitsAt s at) h p
-
-  pub none_there : r ≡ Bad → is_number (field_at s at) ≡ false
-  none_there h = subst (DigitsAt s at) h p
 
 -- the answers of `number_before` at a comma and at byte 10
 pub record NumberThen (s : List ℕ) (at v e : ℕ) : Type 0 where
@@ -109,54 +96,55 @@ module _ (s : List ℕ) (at : ℕ) where
       (λ (k : (get_or s e 10 ≡ 10) × Newline s at e). newline_last n.numbered k.0)
       (follows s at e n.numbered.end)
 
-module _ {r : Field} (s : List ℕ) (at m : ℕ) (a : r ≡ number_before s at m) where
-  ended : {v e : ℕ} → r ≡ Number v e → Numbered s at v (at + length (field_at s at)) × (get_or s (at + length (field_at s at)) 10 ≡ m) × (at + length (field_at s at) + 1 ≡ e)
+module _ (s : List ℕ) (at m : ℕ) where
+  ended : {t : Token} → Some t ≡ number_before s at m
+      → Numbered s at t.value (at + length (field_at s at)) × (get_or s (at + length (field_at s at)) 10 ≡ m) × (at + length (field_at s at) + 1 ≡ t.end)
   unfolding number_before
-  ended {v} {e} h =
+  ended {t} h =
       let f = field_at s at in
-      let w = picked_number (is_number f && eqb (get_or s (at + length f) 10) m) (number_in f) (at + length f + 1) v e (sym a ∙ h) in
+      let w = cond_some (is_number f && eqb (get_or s (at + length f) 10) m) (record { value = number_in f; end = at + length f + 1 }) t (sym h) in
       let b = both_true (is_number f) (eqb (get_or s (at + length f) 10) m) w.0 in
-      (record { number = b.0; value = w.1; end = refl }, eqb-true (get_or s (at + length f) 10) m b.1, w.2)
+      (record { number = b.0; value = ap (λ (k : Token). k.value) w.1; end = refl }, eqb-true (get_or s (at + length f) 10) m b.1, ap (λ (k : Token). k.end) w.1)
 
-  not_ended : r ≡ Bad → (is_number (field_at s at) && eqb (get_or s (at + length (field_at s at)) 10) m) ≡ false
+  not_ended : None ≡ number_before s at m → (is_number (field_at s at) && eqb (get_or s (at + length (field_at s at)) 10) m) ≡ false
   unfolding number_before
   not_ended h =
       let f = field_at s at in
-      picked_bad (is_number f && eqb (get_or s (at + length f) 10) m) (number_in f) (at + length f + 1) (sym a ∙ h)
+      cond_none (is_number f && eqb (get_or s (at + length f) 10) m) (record { value = number_in f; end = at + length f + 1 }) h
 
 -- a failed test of two, where the first held
 second_false : (t u : Bool) → (t && u) ≡ false → (t ≡ false) ⊎ (u ≡ false)
 second_false true u e = inr e
 second_false false u e = inl refl
 
-module _ {r : Field} (s : List ℕ) (at : ℕ) where
-  pub number_then : InText s at → r ≡ number_before s at 44 → {v e : ℕ} → r ≡ Number v e → NumberThen s at v e
-  number_then p a {v} {e} h = let w = ended s at 44 a h in rw w.2 at (comma_then s at p w.0 w.1)
+module _ (s : List ℕ) (at : ℕ) where
+  pub number_then : InText s at → {t : Token} → Some t ≡ number_before s at 44 → NumberThen s at t.value t.end
+  number_then p h = let w = ended s at 44 h in rw w.2 at (comma_then s at p w.0 w.1)
 
-  pub number_last : r ≡ number_before s at 10 → {v e : ℕ} → r ≡ Number v e → NumberLast s at v e
-  number_last a {v} {e} h = let w = ended s at 10 a h in rw w.2 at (newline_last s at w.0 w.1)
+  pub number_last : {t : Token} → Some t ≡ number_before s at 10 → NumberLast s at t.value t.end
+  number_last h = let w = ended s at 10 h in rw w.2 at (newline_last s at w.0 w.1)
 
   -- no number, or no comma behind it: then it is the last field
-  pub no_number_then : r ≡ number_before s at 44 → r ≡ Bad → (is_number (field_at s at) ≡ false) ⊎ (length (fields_at (drop at s)) ≡ 1)
-  no_number_then a h =
+  pub no_number_then : None ≡ number_before s at 44 → (is_number (field_at s at) ≡ false) ⊎ (length (fields_at (drop at s)) ≡ 1)
+  no_number_then h =
       let n = at + length (field_at s at) in
       ⊎_elim (λ (u : is_number (field_at s at) ≡ false). inl u)
       (λ (u : eqb (get_or s n 10) 44 ≡ false).
       ⊎_elim (λ (w : (get_or s n 10 ≡ 44) × Comma s at n). absurd (eqb-false (get_or s n 10) 44 u w.0))
       (λ (w : (get_or s n 10 ≡ 10) × Newline s at n). inr (ap length w.1.fields))
       (follows s at n refl))
-      (second_false (is_number (field_at s at)) (eqb (get_or s n 10) 44) (not_ended s at 44 a h))
+      (second_false (is_number (field_at s at)) (eqb (get_or s n 10) 44) (not_ended s at 44 h))
 
   -- no number, or no byte 10 behind it: then more fields follow
-  pub no_number_last : r ≡ number_before s at 10 → r ≡ Bad → (is_number (field_at s at) ≡ false) ⊎ (2 ≤ length (fields_at (drop at s)))
-  no_number_last a h =
+  pub no_number_last : None ≡ number_before s at 10 → (is_number (field_at s at) ≡ false) ⊎ (2 ≤ length (fields_at (drop at s)))
+  no_number_last h =
       let n = at + length (field_at s at) in
       ⊎_elim (λ (u : is_number (field_at s at) ≡ false). inl u)
       (λ (u : eqb (get_or s n 10) 10 ≡ false).
       ⊎_elim (λ (w : (get_or s n 10 ≡ 44) × Comma s at n). inr (omega (arith, ap length w.1.fields, some_field (drop (n + 1) s))))
       (λ (w : (get_or s n 10 ≡ 10) × Newline s at n). absurd (eqb-false (get_or s n 10) 10 u w.0))
       (follows s at n refl))
-      (second_false (is_number (field_at s at)) (eqb (get_or s n 10) 10) (not_ended s at 10 a h))
+      (second_false (is_number (field_at s at)) (eqb (get_or s n 10) 10) (not_ended s at 10 h))
 
 -- a comma and byte 10 end a field
 pub comma_class : class_of 44 ≡ 10
@@ -233,15 +221,15 @@ module _ (s : List ℕ) (at : ℕ) (w : InText s at) where
         go (inr h) = rw (h.1, add-zero) (positive_literal h.0 (rw (h.1, add-zero) at d))
 
     -- what `read_literal` answers, by the digits behind the sign
-    pub literal_at : (r : Field) → DigitsAt s (at + k) r → LiteralAt s at r
-    literal_at (Number v e) d =
+    pub literal_at : (r : Option Token) → DigitsAt s (at + k) r → LiteralAt s at r
+    literal_at (Some t) d =
         record {
-          ends = λ t. (literal_is (d.ends t)).0;
-          other = λ t. sym literal_number ∙ d.other t;
+          ends = λ h. (literal_is (d.ends h)).0;
+          other = λ h. sym literal_number ∙ d.other h;
           ahead = omega (arith, d.ahead);
           place = d.place;
         }
-    literal_at Bad d = sym literal_number ∙ d
+    literal_at None d = sym literal_number ∙ d
 
     -- what `checked_literal` answers
     pub literal_code_lem : {v e : ℕ} → NumberTo s (at + k) v e → CodeTo s at (2 * v + k) e

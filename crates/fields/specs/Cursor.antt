@@ -1,13 +1,10 @@
 -- What stands at a place of a text, for the contracts of the functions that go over it. Assumes nothing.
 -- Past the end of a text the byte is 10, so that a last line without byte 10 ends there.
-use Rattle.std.specs.Prelude.{◌≡◌, ℕ, ◌+◌, ◌-◌, ◌<◌, ◌≤◌, Bool, true, false, cond, ◌&&◌, ◌||◌, ◌⊎◌, List, [], length, get_or, drop, ◌==◌, ◌≢◌, nat_le, slice_index, slice_index_or}
+use Rattle.std.specs.Prelude.{◌≡◌, ℕ, ◌+◌, ◌-◌, ◌<◌, ◌≤◌, true, false, cond, ◌&&◌, ◌||◌, ◌⊎◌, List, [], length, get_or, drop, ◌==◌, ◌≢◌, nat_le, slice_index, slice_index_or, Option, Some, None}
 use Rattle.semantics.specs.Page.{condition_of}
 use Rattle.semantics.specs.Area.{code_of}
 use Rattle.semantics.specs.Text.{text_lines, fields_of, field, is_digit, is_number, number_in, is_literal, literal_in}
-use Rattle.fields.specs.declared.Class.{Class}
-use Rattle.fields.specs.declared.Class.TheVariants.{Digit, Other}
-use Rattle.fields.specs.declared.Field.{Field}
-use Rattle.fields.specs.declared.Field.TheVariants.{Number, Bad}
+use Rattle.fields.specs.declared.Token.{Token}
 
 -- a place within a text whose last byte is 10
 pub record InText (s : List ℕ) (at : ℕ) : Type 0 where
@@ -29,24 +26,20 @@ field_at s at = field (fields_at (drop at s)) 0
 unfoldable pub class_of : ℕ → ℕ
 class_of b = cond (is_digit b) (b - 48) (cond (b == 44 || b == 10) 10 11)
 
-abbrev pub pick : Bool → Field → Field → Field
-pick true x y = x
-pick false x y = y
-
 -- the number that is the field at a place and ends at the byte `mark`, and the place behind that byte
-unfoldable pub number_before : List ℕ → ℕ → ℕ → Field
+unfoldable pub number_before : List ℕ → ℕ → ℕ → Option Token
 number_before s at mark =
     let f = field_at s at in
-    pick (is_number f && slice_index_or s (at + length f) 10 == mark) (Number (number_in f) (at + length f + 1)) Bad
+    cond (is_number f && slice_index_or s (at + length f) 10 == mark) (Some (record { value = number_in f; end = at + length f + 1 })) None
 
--- what `digit` answers for a byte: a digit's value, or that it is another byte
+-- what `digit` answers for a byte: a digit's value, or none for another byte
 pub record DigitIs (b v : ℕ) : Type 0 where
   pub is : v ≡ class_of b
   pub most : v ≤ 9
 
-abbrev pub DigitAs : ℕ → Class → Type 0
-DigitAs b (Digit v) = DigitIs b v
-DigitAs b Other = 9 < class_of b
+abbrev pub DigitAs : ℕ → Option ℕ → Type 0
+DigitAs b (Some v) = DigitIs b v
+DigitAs b None = 9 < class_of b
 
 -- the field at a place is a number of value v and ends at the place e
 pub record Numbered (s : List ℕ) (at v e : ℕ) : Type 0 where
@@ -68,9 +61,9 @@ pub record Digits (s : List ℕ) (at v e : ℕ) : Type 0 where
   pub ahead : at < e
   pub place : InText s e
 
-abbrev pub DigitsAt : List ℕ → ℕ → Field → Type 0
-DigitsAt s at (Number v e) = Digits s at v e
-DigitsAt s at Bad = is_number (field_at s at) ≡ false
+abbrev pub DigitsAt : List ℕ → ℕ → Option Token → Type 0
+DigitsAt s at (Some t) = Digits s at t.value t.end
+DigitsAt s at None = is_number (field_at s at) ≡ false
 
 -- the field at a place, which is known to be a number, has the value v and ends at the place e
 pub record NumberTo (s : List ℕ) (at v e : ℕ) : Type 0 where
@@ -96,9 +89,9 @@ pub record LiteralTo (s : List ℕ) (at c e : ℕ) : Type 0 where
   pub ahead : at < e
   pub place : InText s e
 
-abbrev pub LiteralAt : List ℕ → ℕ → Field → Type 0
-LiteralAt s at (Number c e) = LiteralTo s at c e
-LiteralAt s at Bad = is_literal (field_at s at) ≡ false
+abbrev pub LiteralAt : List ℕ → ℕ → Option Token → Type 0
+LiteralAt s at (Some t) = LiteralTo s at t.value t.end
+LiteralAt s at None = is_literal (field_at s at) ≡ false
 
 -- the literal that is the field at a place has this code, and the field ends at the place e
 pub record CodeTo (s : List ℕ) (at code e : ℕ) : Type 0 where

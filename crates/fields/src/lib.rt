@@ -6,32 +6,18 @@ ghost use Rattle.std.specs.Prelude.{◌≡◌, true};
 ghost use Rattle.semantics.specs.Text.{is_number, is_literal};
 ghost use Rattle.fields.specs.Cursor.{class_of, field_at, InText, DigitAs, FirstDigit, Digits, DigitsAt, NumberTo, SignIs, LiteralAt, CodeTo, number_before};
 
-// What a byte is: a digit with its value, or another byte.
-#[derive(Clone, Copy)]
-enum Class {
-    Digit(u32),
-    Other,
-}
-
-// The difference to byte 48, which is `0`, wraps for a byte below it.
-fn digit(b: u8) -> Class
+// The value of a digit; none for another byte. The difference to byte 48, which is `0`, wraps for a byte below it.
+fn digit(b: u8) -> Option<u32>
     ensures { DigitAs b result }
 {
-    let value = std::num::wrapping_sub_u32(b as u32, 48);
+    let value = (b as u32).wrapping_sub(48);
     match value {
-        0..=9 => Class::Digit(value),
-        _ => Class::Other,
+        0..=9 => Some(value),
+        _ => None,
     }
 }
 
-// A number, and a place behind it.
-#[derive(Clone, Copy)]
-pub enum Field {
-    Number(u16, usize),
-    Bad,
-}
-
-// What is read where there is no doubt of it: a value, and the place where its digits end.
+// What is read: a value, and the place where its digits end, or a place behind it.
 #[derive(Clone, Copy)]
 pub struct Token {
     pub value: u16,
@@ -43,13 +29,13 @@ fn digits_from(bytes: &[u8], at: usize, first: u32) -> Token
     requires { FirstDigit bytes.now at first }
     ensures { Digits bytes.now at result.value result.end }
 {
-    let Class::Digit(b) = digit(bytes[at + 1]) else {
+    let Some(b) = digit(bytes[at + 1]) else {
         return Token {
             value: first as u16,
             end: at + 1,
         };
     };
-    let Class::Digit(c) = digit(bytes[at + 2]) else {
+    let Some(c) = digit(bytes[at + 2]) else {
         return Token {
             value: (first * 10 + b) as u16,
             end: at + 2,
@@ -62,46 +48,44 @@ fn digits_from(bytes: &[u8], at: usize, first: u32) -> Token
 }
 
 // The digits of a number, which has no leading zero, and the place behind them. Whether the field ends there is for the caller to see.
-fn digits(bytes: &[u8], at: usize) -> Field
+fn digits(bytes: &[u8], at: usize) -> Option<Token>
     requires { InText bytes.now at }
     ensures { DigitsAt bytes.now at result }
 {
-    let Class::Digit(first) = digit(bytes[at]) else {
-        return Field::Bad;
-    };
+    let first = digit(bytes[at])?;
     if first == 0 {
-        return Field::Number(0, at + 1);
+        return Some(Token {
+            value: 0,
+            end: at + 1,
+        });
     }
-    let token = digits_from(bytes, at, first);
-    Field::Number(token.value, token.end)
+    Some(digits_from(bytes, at, first))
 }
 
 // The number that is the whole field at a place and ends at `mark`, a comma or byte 10, and the place behind that byte.
-pub fn number_before(bytes: &[u8], at: usize, mark: u8) -> Field
+pub fn number_before(bytes: &[u8], at: usize, mark: u8) -> Option<Token>
     requires { InText bytes.now at × (class_of mark ≡ 10) }
     ensures { result ≡ number_before bytes.now at mark }
 {
-    let Field::Number(value, end) = digits(bytes, at) else {
-        return Field::Bad;
-    };
-    if bytes[end] == mark {
-        return Field::Number(value, end + 1);
+    let number = digits(bytes, at)?;
+    if bytes[number.end] == mark {
+        return Some(Token {
+            value: number.value,
+            end: number.end + 1,
+        });
     }
-    Field::Bad
+    None
 }
 
 // 1 for the sign of a negation, 0 for any other byte.
 fn sign(b: u8) -> usize
     ensures { SignIs b result }
 {
-    if b == b'!' {
-        return 1;
-    }
-    0
+    usize::from(b == b'!')
 }
 
 // The condition of the literal at a place, and the place behind its digits. Whether the field ends there is for the caller to see.
-pub fn read_literal(bytes: &[u8], at: usize) -> Field
+pub fn read_literal(bytes: &[u8], at: usize) -> Option<Token>
     requires { InText bytes.now at }
     ensures { LiteralAt bytes.now at result }
 {

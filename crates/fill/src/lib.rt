@@ -14,6 +14,7 @@ pub fn read_full<R: Read>(reader: &mut R, buffer: &mut [u8]) -> usize
     ensures bytes { Consumes (R.remaining reader.old) (R.remaining reader.new) (take result buffer.new) }
 {
     let mut done = 0;
+    // a `while`: how much a read gives only the read tells
     while done < buffer.len() {
         match reader.read(&mut buffer[done..]) {
             Ok(n) if n > 0 => done += n,

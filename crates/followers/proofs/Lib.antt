@@ -1,5 +1,3 @@
--- the marks of a row, counted word by word
-pub mod Words
 -- the literals of a line, and a pass over the lines
 pub mod Meeting
 pub mod Passing

@@ -1,18 +1,22 @@
 -- Whether the literals of a rule, and so a line, name a condition of a set. Assumes nothing.
 use mathlib.Core.Path.{◌≡◌, refl, sym, ◌∙◌, ap}
 use mathlib.Core.Bool.{Bool, true, false, ◌&&◌, ◌||◌, false≢true, true≢false}
-use mathlib.Core.List.{List, map}
-use Prim.Native.Nat.{ℕ, ◌+◌, ◌-◌, ◌/◌, ◌≤◌, ◌<◌}
+use mathlib.Core.Logic.{⊎_elim}
+use mathlib.Core.List.{List, [], ◌∷◌, map}
+use Prim.Native.Nat.{ℕ, ◌/◌, ◌<◌}
+use native.Mathlib.Decide.{dec_le}
 use native.Mathlib.Omega.{arith}
 use lib.Dec.{eqb}
-use lib.ListN.{length, get_or, take, drop}
+use lib.ListN.{length, get_or-eq_default}
+use Rattle.std.specs.List.{list_any}
 use borrow.Author.Tests.{eq-eqb, eqb-true}
 use Rattle.semantics.specs.Area.{literal_of}
 use Rattle.semantics.specs.Page.{mentions}
-use Rattle.semantics.proofs.Soundness.{both_true}
-use Rattle.semantics.proofs.Table.{iff_eq, any_true, any_found}
+use Rattle.semantics.proofs.Layers.{or_left, or_right}
+use Rattle.semantics.proofs.Soundness.{both_true, subject_of}
+use Rattle.semantics.proofs.Table.{iff_eq, or_cases, any_true, any_found}
 use Rattle.bits.specs.Words.{has}
-use Rattle.reach.proofs.Naming.{mentions_on, mentions_none}
+use Rattle.bits.proofs.Sets.{word_none}
 use Rattle.followers.specs.Rows.{meets}
 
 -- which conditions of the set have f
@@ -35,53 +39,28 @@ module _ (set : List ℕ) where
       iff_eq _ _ (λ e. let q = meets_found f e in meets_one g q.0 q.1 q.2 (sym (h q.0) ∙ q.3))
       (λ e. let q = meets_found g e in meets_one f q.0 q.1 q.2 (h q.0 ∙ q.3))
 
--- the literals of the rule at `at`, of which j are passed and none is of the set
-module _ (a : List ℕ) (at : ℕ) (set : List ℕ) where
-  abbrev y : ℕ
-  y = get_or a (at + 3) 0
+-- a list of literals by their numbers: one is of a condition of the set
+module _ (set : List ℕ) (size : length set ≡ 8) where
+  has_small : (k : ℕ) → has set k ≡ true → k < 512
+  has_small k e =
+      elim (dec_le 512 k) [
+        | yes m ↦ absurd (false≢true (sym (word_none set k (get_or-eq_default set 0 (omega arith))) ∙ e))
+        | no m ↦ omega arith
+      ]
 
-  abbrev pub rest : ℕ → ℕ → Bool
-  rest j = mentions (map literal_of (take (y - j) (drop (at + 4 + j) a)))
+  meets_more : (k : ℕ) (f : ℕ → Bool) → (has set k || meets set f) ≡ meets set (λ b. eqb k b || f b)
+  meets_more k f =
+      iff_eq _ _
+      (λ e.
+      ⊎_elim (λ h. meets_one set (λ b. eqb k b || f b) k (has_small k h) h (or_left (eqb k k) (f k) (eq-eqb k k refl)))
+      (λ h. let g = meets_found set f h in meets_one set (λ b. eqb k b || f b) g.0 g.1 g.2 (or_right (eqb k g.0) (f g.0) g.3))
+      (or_cases (has set k) (meets set f) e))
+      (λ e.
+      let g = meets_found set (λ b. eqb k b || f b) e in
+      ⊎_elim (λ q. or_left (has set k) (meets set f) (ap (has set) (eqb-true k g.0 q) ∙ g.2)) (λ q. or_right (has set k) (meets set f) (meets_one set f g.0 g.1 g.2 q))
+      (or_cases (eqb k g.0) (f g.0) g.3))
 
-  abbrev pub whole : ℕ → Bool
-  whole = mentions (map literal_of (take y (drop (at + 4) a)))
-
-  pub record Missing (j : ℕ) : Type 0 where
-    pub passed : j ≤ y
-    pub same : (b : ℕ) → has set b ≡ true → whole b ≡ rest j b
-
-  pub missing_first : Missing 0
-  missing_first =
-      let e : y - 0 ≡ y = omega arith in
-      let d : at + 4 + 0 ≡ at + 4 = omega arith in
-      record { passed = omega arith; same = λ b p. rw (e, d) }
-
-  module _ (fits : at + 4 + y ≤ length a) {j : ℕ} (s : Missing j) (l : j < y) where
-    abbrev here : ℕ
-    here = get_or a (at + 4 + j) 0 / 2
-
-    rest_on : (b : ℕ) → rest j b ≡ (eqb here b || rest (j + 1) b)
-    rest_on b =
-        let e : y - j - 1 ≡ y - (j + 1) = omega arith in
-        let d : at + 4 + j + 1 ≡ at + 4 + (j + 1) = omega arith in
-        rw (e, d) at (mentions_on a (at + 4 + j) b (omega arith) (y - j) (omega arith))
-
-    pub missing_next : has set here ≡ false → Missing (j + 1)
-    missing_next away =
-        record {
-          passed = omega arith;
-          same = λ b p. s.same b p ∙ rest_on b ∙ ap (λ (t : Bool). t || rest (j + 1) b) (other b p);
-        }
-      where
-        other : (b : ℕ) → has set b ≡ true → eqb here b ≡ false
-        other b p = go (eqb here b) refl
-          where
-            go : (t : Bool) → eqb here b ≡ t → t ≡ false
-            go true e = absurd (true≢false (sym p ∙ ap (has set) (sym (eqb-true here b e)) ∙ away))
-            go false e = refl
-
-    pub missing_met : here < 512 → has set here ≡ true → true ≡ meets set whole
-    missing_met m p = sym (meets_one set whole here m p (s.same here p ∙ rest_on here ∙ rw (eq-eqb here here refl)))
-
-  pub missing_last : {j : ℕ} → Missing j → y ≤ j → false ≡ meets set whole
-  missing_last {j} s l = sym (meets_none set whole (λ b m p. s.same b p ∙ mentions_none a (at + 4 + j) b (y - j) (omega arith)))
+  pub literals_met : (codes : List ℕ) → list_any (λ k. has set (k / 2)) codes ≡ meets set (mentions (map literal_of codes))
+  unfolding mentions
+  literals_met [] = sym (meets_none set (λ b. false) (λ b l p. refl))
+  literals_met (k ∷ ks) = rw (literals_met ks, subject_of k) (meets_more (k / 2) (mentions (map literal_of ks)))

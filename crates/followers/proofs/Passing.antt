@@ -14,8 +14,8 @@ use Rattle.semantics.specs.Followers.{Follows}
 use Rattle.semantics.specs.Page.{Line, names}
 use Rattle.semantics.proofs.Followers.{follows_directly, follows_through}
 use Rattle.semantics.proofs.Table.{or_cases}
-use Rattle.page.specs.Lines.{Next, line_names}
-use Rattle.page.proofs.Scanning.{Scanning, scanning_first, scanning_moved}
+use Rattle.page.specs.Lines.{Next, line_names, Scanning}
+use Rattle.page.proofs.Scanning.{scanning_first, scanning_moved}
 use Rattle.bits.specs.Words.{has, Inserted}
 use Rattle.layers.proofs.Behind.{by_names, Behind, behind_first_lem, behind_next, behind_last, here_related}
 use Rattle.reach.proofs.Inserting.{inserts_one, size_most}
@@ -32,8 +32,6 @@ or_swap x y z = or_assoc x y z ∙ ap (λ (t : Bool). x || t) (or_comm y z) ∙ 
 inserted_covers : (x : ℕ) {seen row seen' row' : List ℕ} → Covers seen row → Inserted x seen seen' → Inserted x row row' → Covers seen' row'
 inserted_covers x {seen} {row} v h g =
     record {
-      seen_size = h.0;
-      row_size = g.0;
       covers = λ k l p.
           h.1 k l
           ∙ ⊎_elim (λ q. rw (v.covers k l q)) (λ q. ap (λ (t : Bool). has seen k || t) q ∙ or-true (has seen k))

@@ -2,6 +2,8 @@
 pub mod Counting
 pub mod Summing
 pub mod Placing
+-- counting and placing as work with one item after the other
+pub mod Works
 -- the items of the lines of an area: which, how many, those of one entry, and a scan over them
 pub mod Entries
 pub mod Sizes

@@ -4,6 +4,8 @@ pub mod Groups
 pub mod Readers
 -- the steps of building the groups
 pub mod Items
+-- work with one item after the other
+pub mod Work
 -- what is grouped: lines by head, or dependants by literal
 pub mod By
 -- an index that may be missing, and how long it is

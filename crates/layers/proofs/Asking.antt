@@ -1,52 +1,48 @@
--- The scan of a rule's literals for the largest layer that they ask for, and the raise of its head. Assumes nothing.
+-- The largest layer that a rule's literals ask for, as the largest of what each asks for. Assumes nothing.
 use mathlib.Core.Path.{◌≡◌, refl}
-use mathlib.Core.Logic.{◌⊎◌, inl, inr, ⊎_elim}
-use mathlib.Core.List.{List}
-use Prim.Native.Nat.{ℕ, ◌+◌, ◌≤◌, ◌<◌}
+use mathlib.Core.Logic.{◌⊎◌, inl, inr}
+use mathlib.Core.List.{List, [], ◌∷◌}
+use Prim.Native.Nat.{ℕ, zero, suc, ◌+◌, ◌/◌, ◌%◌, ◌≤◌, ◌<◌, max}
+use native.Mathlib.Decide.{dec_le}
 use native.Mathlib.Omega.{arith}
-use borrow.Author.Count.{below_none, below_more}
-use lib.ListN.{length, get_or, set, length-set}
-use lib.Seq.{get_or-set_same, get_or-set_other}
-use Rattle.layers.specs.Raising.{ask, Asked, Raised}
+use lib.ListN.{length, get_or, take, drop}
+use Rattle.std.specs.List.{fold}
+use Rattle.layers.specs.Raising.{Asked}
+use Rattle.layers.proofs.Literals.{codes_length, code_at}
+
+-- r is m or what some item tells, and no less than m and what each tells
+record Largest (f : ℕ → ℕ) (m : ℕ) (xs : List ℕ) (r : ℕ) : Type 0 where
+  least : m ≤ r
+  most : (i : ℕ) → i < length xs → f (get_or xs i 0) ≤ r
+  some : (r ≡ m) ⊎ ((i : ℕ) × (i < length xs) × (r ≡ f (get_or xs i 0)))
+
+largest : (f : ℕ → ℕ) (m : ℕ) (xs : List ℕ) → Largest f m xs (fold (λ a x. max a (f x)) m xs)
+largest f m [] = record { least = omega arith; most = λ i l. absurd (omega arith); some = inl refl }
+largest f m (x ∷ xs) =
+    let h = largest f (max m (f x)) xs in
+    record { least = omega (arith, h.least); most = most h; some = some h.some }
+  where
+    r : ℕ
+    r = fold (λ a y. max a (f y)) (max m (f x)) xs
+
+    most : Largest f (max m (f x)) xs r → (i : ℕ) → i < length (x ∷ xs) → f (get_or (x ∷ xs) i 0) ≤ r
+    most h zero l = omega (arith, h.least)
+    most h (suc i) l = h.most i (omega arith)
+
+    some : (r ≡ max m (f x)) ⊎ ((i : ℕ) × (i < length xs) × (r ≡ f (get_or xs i 0))) → (r ≡ m) ⊎ ((i : ℕ) × (i < length (x ∷ xs)) × (r ≡ f (get_or (x ∷ xs) i 0)))
+    some (inl e) = elim (dec_le (f x) m) [ yes l ↦ inl (omega arith) | no l ↦ inr (0, omega arith, omega arith) ]
+    some (inr h) = inr (suc h.0, omega (arith, h.1), h.2)
 
 module _ (a : List ℕ) (at : ℕ) (layers : List ℕ) where
-  abbrev y : ℕ
-  y = get_or a (at + 3) 0
-
-  -- j literals are passed
-  pub record Asking (most j : ℕ) : Type 0 where
-    pub in_count : j ≤ y
-    pub passed : (i : ℕ) → i < j → ask a at layers i ≤ most
-    pub some : (most ≡ 0) ⊎ ((i : ℕ) × (i < y) × (most ≡ ask a at layers i))
-
-  pub asking_first : Asking 0 0
-  asking_first = record { in_count = omega arith; passed = below_none _; some = inl refl }
-
-  module _ {most j : ℕ} (s : Asking most j) (l : j < y) where
-    pub asking_higher : most < ask a at layers j → Asking (ask a at layers j) (j + 1)
-    asking_higher h =
-        record { in_count = omega arith; passed = below_more _ j (λ i m. omega (arith, s.passed i m)) (omega arith); some = inr (j, l, refl) }
-
-    pub asking_same : ask a at layers j ≤ most → Asking most (j + 1)
-    asking_same h = record { in_count = omega arith; passed = below_more _ j s.passed h; some = s.some }
-
-  pub asking_last : {most j : ℕ} → Asking most j → y ≤ j → Asked a at layers most
-  asking_last s l = record { most = λ i m. s.passed i (omega arith); some = s.some }
-
-  abbrev head : ℕ
-  head = get_or a at 0
-
-  -- the head has as much as is asked for
-  pub raised_not : {r : ℕ} → Asked a at layers r → r ≤ get_or layers head 0 → Raised a at layers layers 0
-  raised_not h l = record { size = refl; others = λ c e. refl; asked = λ i m. omega (arith, h.most i m); told = inl (refl, refl) }
-
-  -- it has less
-  pub raised_one : {r : ℕ} → Asked a at layers r → head < length layers → get_or layers head 0 < r → Raised a at layers (set layers head r) r
-  raised_one {r} h m l =
-      let e : get_or (set layers head r) head 0 ≡ r = get_or-set_same layers head r 0 m in
+  pub asked_largest : at + 4 + get_or a (at + 3) 0 ≤ length a → {codes : List ℕ} → codes ≡ take (get_or a (at + 3) 0) (drop (at + 4) a) → {r : ℕ}
+      → r ≡ fold (λ m k. max m (get_or layers (k / 2) 0 + k % 2)) 0 codes → Asked a at layers r
+  asked_largest fits {codes} e {r} q =
+      let h : Largest (λ k. get_or layers (k / 2) 0 + k % 2) 0 codes r = rw q (largest (λ k. get_or layers (k / 2) 0 + k % 2) 0 codes) in
+      let n = codes_length a at fits e in
       record {
-        size = length-set layers head r;
-        others = λ c q. get_or-set_other layers head c r 0 q;
-        asked = λ i k. omega (arith, h.most i k);
-        told = inr (⊎_elim (λ z. absurd (omega arith)) (λ z. (z.0, z.1, z.2, e, l)) h.some);
+        most = λ i l. rw (code_at a at fits e i l) at (h.most i (omega arith));
+        some = elim h.some [
+          | inl z ↦ inl z
+          | inr w ↦ let m : w.0 < get_or a (at + 3) 0 = omega (arith, w.1) in inr (w.0, m, rw (code_at a at fits e w.0 m) at w.2)
+        ];
       }

@@ -6,13 +6,13 @@ use mathlib.Core.List.{List}
 use Prim.Native.Nat.{ℕ, ◌+◌, ◌≤◌, ◌<◌}
 use native.Mathlib.Decide.{ℕ_discrete, dec_le}
 use native.Mathlib.Omega.{arith}
-use lib.ListN.{length, get_or, set, drop, length-set, get_or-eq_default}
-use lib.Seq.{get_or-set_same, get_or-set_other}
+use lib.ListN.{length, get_or, drop, replicate, get_or-eq_default}
+use Rattle.std.proofs.lemmas.List.{length-replicate, get_or-replicate}
 use Rattle.semantics.specs.Area.{page_of, line_at, conditions_of, count_of, first_line}
-use Rattle.page.specs.Lines.{Next, line_names}
+use Rattle.page.specs.Lines.{Next, line_names, Scanning}
 use Rattle.page.proofs.Naming.{line_fact, line_over}
-use Rattle.page.proofs.Scanning.{Scanning, scanning_first, scanning_moved}
-use Rattle.layers.specs.Levels.{level_in, Relabelled, HeadOpened, Begun}
+use Rattle.page.proofs.Scanning.{scanning_first, scanning_moved}
+use Rattle.layers.specs.Levels.{level_in, HeadOpened, Begun}
 use Rattle.layers.proofs.Behind.{Behind, by_names, behind_first_lem, behind_next, behind_last}
 use Rattle.page.specs.Solvable.{solvable}
 
@@ -20,15 +20,6 @@ use Rattle.page.specs.Solvable.{solvable}
 module _ (a : List ℕ) (at : ℕ) (levels : List ℕ) where
   abbrev head : ℕ
   head = get_or a at 0
-
-  pub rule_opened : head < length levels → HeadOpened a at levels (set levels head 0)
-  rule_opened l =
-      record {
-        size = length-set levels head 0;
-        others = λ c e. get_or-set_other levels head c 0 0 e;
-        head = inl (get_or-set_same levels head 0 0 l);
-        named = λ b q. get_or-set_same levels head 0 0 l;
-      }
 
   none_opened : ((b : ℕ) → line_names (line_at (drop at a)) b ≡ false) → HeadOpened a at levels levels
   none_opened f = record { size = refl; others = λ c e. refl; head = inr refl; named = λ b q. absurd (false≢true (sym (f b) ∙ q)) }
@@ -39,6 +30,14 @@ module _ (a : List ℕ) (at : ℕ) (levels : List ℕ) where
   pub over_opened : 5 < get_or a (at + 1) 0 → HeadOpened a at levels levels
   over_opened l = none_opened (λ b. line_over a at b l)
 
+-- every level is that of what is done
+pub filled_either : (n : ℕ) (levels : List ℕ) → levels ≡ replicate n 513 → (c : ℕ) → (level_in levels c ≡ 0) ⊎ (level_in levels c ≡ 513)
+filled_either n levels e c =
+    rw e (elim (dec_le n c) [
+      | yes l ↦ inl (get_or-eq_default (replicate n 513) 0 (omega (arith, length-replicate {A = ℕ})))
+      | no l ↦ inr (get_or-replicate n c 513 0 (omega arith))
+    ])
+
 -- the scan stands at `at`, behind k lines
 module _ (a : List ℕ) where
   pub record Beginning (levels : List ℕ) (at k : ℕ) : Type 0 where
@@ -47,17 +46,9 @@ module _ (a : List ℕ) where
     pub either : (c : ℕ) → (level_in levels c ≡ 0) ⊎ (level_in levels c ≡ 513)
     pub named : Behind by_names a (λ x b. level_in levels x ≡ 0) at k
 
-  pub beginning_first : {levels₀ levels : List ℕ} → solvable a ≡ true → length levels₀ ≡ conditions_of a → ((c : ℕ) → level_in levels₀ c ≤ 65535) → Relabelled 0 65535 513 levels₀ levels
+  pub beginning_first : {levels : List ℕ} → solvable a ≡ true → length levels ≡ conditions_of a → ((c : ℕ) → (level_in levels c ≡ 0) ⊎ (level_in levels c ≡ 513))
       → {at k : ℕ} → (at ≡ first_line a) × (k ≡ 0) → Beginning levels at k
-  beginning_first {levels₀} {levels} ok s f r z =
-      record { scan = rw (z.0, z.1) (scanning_first a ok); size = r.size ∙ s; either = all; named = behind_first_lem by_names a z }
-    where
-      all : (c : ℕ) → (level_in levels c ≡ 0) ⊎ (level_in levels c ≡ 513)
-      all c =
-          elim (dec_le (length levels) c) [
-            | yes l ↦ inl (get_or-eq_default levels 0 l)
-            | no l ↦ inr (r.changed c (omega (arith, r.size)) (omega arith) (f c))
-          ]
+  beginning_first ok s all z = record { scan = rw (z.0, z.1) (scanning_first a ok); size = s; either = all; named = behind_first_lem by_names a z }
 
   module _ {levels levels' : List ℕ} {at k at' k' : ℕ} (s : Beginning levels at k) (l : k < count_of a) (e : Next a at k at' k') (h : HeadOpened a at levels levels') where
     stays_zero : (c : ℕ) → level_in levels c ≡ 0 → level_in levels' c ≡ 0

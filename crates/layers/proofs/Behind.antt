@@ -13,9 +13,9 @@ use Rattle.semantics.specs.Layers.{lines_negate}
 use Rattle.semantics.specs.Page.{Line, lines_name}
 use Rattle.semantics.proofs.Soundness.{both_true}
 use Rattle.semantics.proofs.Table.{or_cases}
-use Rattle.page.specs.Lines.{Next, line_names}
+use Rattle.page.specs.Lines.{Next, line_names, Scanning}
 use Rattle.page.proofs.Naming.{lines_name_lem}
-use Rattle.page.proofs.Scanning.{Scanning, lines_left, lines_first, lines_moved, lines_none}
+use Rattle.page.proofs.Scanning.{lines_left, lines_first, lines_moved, lines_none}
 use Rattle.layers.specs.Raising.{line_negates}
 use Rattle.layers.proofs.Literals.{lines_negate_lem}
 

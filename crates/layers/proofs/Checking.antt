@@ -3,15 +3,12 @@ use mathlib.Core.Path.{◌≡◌, refl, sym, ◌∙◌, ap₂}
 use mathlib.Core.Bool.{true, false}
 use mathlib.Core.List.{List, ◌++◌}
 use Prim.Native.Nat.{ℕ, zero, suc, ◌≤◌, ◌<◌}
-use native.Mathlib.Decide.{dec_le}
-use native.Mathlib.Omega.{arith}
 use lib.ListN.{length, get_or, take, drop, replicate}
 use borrow.Author.Tests.{le-leb, lt-leb}
 use Rattle.semantics.specs.Area.{sound, page_of, conditions_of}
-use Rattle.semantics.specs.Layers.{LowestLoop, LeastLayers, LayersAnswer, refused_layers, loops_at, layered, LayersOf}
+use Rattle.semantics.specs.Layers.{LeastLayers, LayersAnswer, refused_layers, layered, LayersOf}
 use Rattle.semantics.specs.Page.{Page}
 use Rattle.semantics.proofs.Table.{table_back}
-use Rattle.layers.specs.Levels.{LoopFound}
 use Rattle.layers.specs.Raising.{layer_in}
 use Rattle.layers.specs.Verdict.{Worked}
 
@@ -26,14 +23,6 @@ module _ (page : Page) where
           written = e ∙ ap₂ (λ (x : List ℕ) (k : ℕ). x ++ drop k slice) (sym (table_back 0 t page.conditions s)) s;
         };
       }
-
-  -- a chain leads back, so the search finds the lowest condition on one
-  pub worked_loop : {levels slice : List ℕ} {r : ℕ} → (c : ℕ) × LowestLoop page c → LoopFound page levels r → Worked (loops_at r) page slice slice
-  worked_loop {r = r} f s =
-      elim (dec_le page.conditions r) [
-        | yes l ↦ absurd (s.none l f.0 f.1.loops)
-        | no l ↦ record { is = (s.lowest (omega arith), refl) }
-      ]
 
 module _ (a s : List ℕ) where
   pub check_10 : sound a ≡ false → LayersOf (refused_layers 10) a s s

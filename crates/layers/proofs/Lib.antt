@@ -9,9 +9,9 @@ pub mod Settling
 -- the search for loops: a look at a part, chains put together, and what each step does
 pub mod Looking
 pub mod Ways
-pub mod Relabelling
 pub mod Paths
 pub mod Beginning
--- the layers are copied, and the outcome of the check
-pub mod Copying
+-- the outcome of the check
 pub mod Checking
+-- a copy of one list to the front of another
+pub mod Copying

@@ -4,23 +4,23 @@ use mathlib.Core.Logic.{◌≢◌, ◌⊎◌, inl, inr, ⊎_elim}
 use mathlib.Core.Bool.{Bool, true, false, not, false≢true, true≢false}
 use mathlib.Core.List.{List}
 use Prim.Native.Nat.{ℕ, ◌+◌, ◌*◌, ◌-◌, ◌≤◌, ◌<◌}
+use Rattle.std.specs.Prelude.{Option, None, Some, MatchOption, IfSome, IsSomeAnd}
 use native.Mathlib.Decide.{ℕ_discrete, dec_le}
 use native.Mathlib.Omega.{arith}
-use borrow.Author.Count.{below_more}
-use lib.Dec.{eqb, ltb}
+use lib.Dec.{eqb}
 use lib.ListN.{length, set, length-set, get_or-eq_default}
 use lib.Seq.{get_or-set_same, get_or-set_other}
-use borrow.Author.Tests.{eq-eqb, ne_eqb, eqb-true, ltb-true, ltb-false}
+use borrow.Author.Tests.{eq-eqb, ne_eqb, eqb-true}
 use Rattle.fixpoint.specs.Sum.{bit, count}
 use Rattle.fixpoint.proofs.Sum.{sum_le, sum_drop, sum_const}
-use Rattle.semantics.specs.Layers.{Chain, empty, name, negate, Loops}
+use Rattle.semantics.specs.Layers.{Chain, empty, name, negate, Loops, LowestLoop}
 use Rattle.semantics.specs.Page.{Page, names}
 use Rattle.semantics.proofs.Layers.{or_left, or_right, negates_names, loop_inside}
 use Rattle.semantics.proofs.Proper.{Proper}
 use Rattle.semantics.proofs.Readings.{names_inside}
 use Rattle.semantics.proofs.Table.{or_cases}
 use Rattle.semantics.proofs.Walks.{bit_le}
-use Rattle.layers.specs.Levels.{level_in, inside, met, Way, PartLooked, Relabelled, Entered, Finished, Open, Explored, Begun, LoopFound}
+use Rattle.layers.specs.Levels.{level_in, inside, met, Way, PartInside, PartLeaves, Relabelled, UpTo, Entered, Finished, Open, Explored, Begun, LoopFound}
 use Rattle.layers.proofs.Ways.{way_here, way_join, way_name, way_loop}
 
 -- of the part or done, or not
@@ -79,13 +79,13 @@ module _ (page : Page) (w : Proper page) where
   n = page.conditions
 
   -- a step of the search
-  pub record Moved (levels levels' : List ℕ) (level level' lowest : ℕ) : Type 0 where
+  pub record Moved (levels levels' : List ℕ) (level level' : ℕ) (lowest : Option ℕ) : Type 0 where
     pub state : Open page levels' level' lowest
     pub less : measure n levels' level' < measure n levels level
     pub stays : (c : ℕ) → 1 ≤ level_in levels c → 1 ≤ level_in levels' c
 
   -- at the start no part is on the path
-  pub open_begun : {levels : List ℕ} → Begun page levels → Open page levels 0 n
+  pub open_begun : {levels : List ℕ} → Begun page levels → Open page levels 0 None
   open_begun {levels} s =
       record {
         size = s.size;
@@ -93,8 +93,7 @@ module _ (page : Page) (w : Proper page) where
         ways = λ a b p q r. absurd (omega arith);
         closed = λ a b p e. absurd (omega (arith, s.named a b e));
         decided = λ c p v. absurd (omega (arith, begun_chain v refl));
-        loops = λ l. absurd (omega arith);
-        most = omega arith;
+        loops = tt;
         room = omega arith;
       }
     where
@@ -104,7 +103,7 @@ module _ (page : Page) (w : Proper page) where
       begun_chain (name {a = a} {b = b} e v) q = s.named a b e
       begun_chain (negate {a = a} {b = b} e v) q = s.named a b (negates_names page a b e)
 
-  module _ {levels : List ℕ} {level lowest : ℕ} (s : Open page levels level lowest) where
+  module _ {levels : List ℕ} {level : ℕ} {lowest : Option ℕ} (s : Open page levels level lowest) where
     abbrev at : ℕ → ℕ
     at c = level_in levels c
 
@@ -191,7 +190,6 @@ module _ (page : Page) (w : Proper page) where
             closed = λ a b p e. done_new b (s.closed a b (done_old a p) e);
             decided = λ c p. s.decided c (done_old c p);
             loops = s.loops;
-            most = s.most;
             room = omega (arith, s.room, fresh_more);
           }
 
@@ -259,7 +257,6 @@ module _ (page : Page) (w : Proper page) where
               closed = λ a b p f. merged_new b (s.closed a b (merged_old a p) f);
               decided = λ c p. s.decided c (merged_old c p);
               loops = s.loops;
-              most = s.most;
               room = omega (arith, s.room, met_le n levels levels' merged_stays);
             };
             less = omega (arith, met_le n levels levels' merged_stays);
@@ -267,9 +264,8 @@ module _ (page : Page) (w : Proper page) where
           }
 
     -- the part at `level` names d outside of it
-    pub moved_entered : {d level' : ℕ} {levels' : List ℕ} → 1 ≤ level → d < 512 → PartLooked page levels level d → Entered level d levels levels' level' → Moved levels levels' level level' lowest
-    moved_entered {d} {level'} {levels'} one l p h =
-        let f = p.found l in
+    pub moved_entered : {d level' : ℕ} {levels' : List ℕ} → 1 ≤ level → PartLeaves page levels level d → Entered level d levels levels' level' → Moved levels levels' level level' lowest
+    moved_entered {d} {level'} {levels'} one f h =
         let o = outside_cases level (at d) f.3 in
         let i = names_inside page w f.0 d f.2 in
         elim (ℕ_discrete (at d) 0) [
@@ -286,7 +282,7 @@ module _ (page : Page) (w : Proper page) where
         below c p q = ⊎_elim (λ k. omega arith) (λ k. absurd (q k)) (s.within c)
 
     -- the part at `level` names nothing outside of it
-    module _ {r : ℕ} (p : PartLooked page levels level r) (out : 512 ≤ r) where
+    module _ {negated : Bool} (p : PartInside page levels level negated) where
       -- from what is done a chain leads to what is done
       done_chain : {a b : ℕ} {t : Bool} → Chain page a b t → at a ≡ 513 → at b ≡ 513
       done_chain empty q = q
@@ -294,14 +290,14 @@ module _ (page : Page) (w : Proper page) where
       done_chain (negate {a = a} {b = b} e c) q = done_chain c (s.closed a b q (negates_names page a b e))
 
       -- a chain within the part that does not negate itself has no negation
-      free_chain : r ≡ 512 → {a b : ℕ} {t : Bool} → Chain page a b t → at a ≡ level → at b ≡ level → t ≡ false
+      free_chain : negated ≡ false → {a b : ℕ} {t : Bool} → Chain page a b t → at a ≡ level → at b ≡ level → t ≡ false
       free_chain c empty h g = refl
       free_chain c (name {a = a} {b = b} e v) h g =
-          ⊎_elim (λ q. free_chain c v q g) (λ q. absurd (omega (arith, done_chain v q, level_small))) (inside_cases level (at b) (p.within out a b h e))
+          ⊎_elim (λ q. free_chain c v q g) (λ q. absurd (omega (arith, done_chain v q, level_small))) (inside_cases level (at b) (p.within a b h e))
       free_chain c (negate {a = a} {b = b} e v) h g =
-          ⊎_elim (λ q. absurd (p.clear c a b h e q)) (λ q. absurd (omega (arith, done_chain v q, level_small))) (inside_cases level (at b) (p.within out a b h (negates_names page a b e)))
+          ⊎_elim (λ q. absurd (p.clear c a b h e q)) (λ q. absurd (omega (arith, done_chain v q, level_small))) (inside_cases level (at b) (p.within a b h (negates_names page a b e)))
 
-      module _ (one : 1 ≤ level) {least : ℕ} {levels' : List ℕ} (f : Finished level (ltb 512 r) lowest levels levels' least) where
+      module _ (one : 1 ≤ level) {least : Option ℕ} {levels' : List ℕ} (f : Finished level negated lowest levels levels' least) where
         abbrev at₃ : ℕ → ℕ
         at₃ c = level_in levels' c
 
@@ -341,24 +337,25 @@ module _ (page : Page) (w : Proper page) where
 
         ended_closed : (a b : ℕ) → at₃ a ≡ 513 → names page a b ≡ true → at₃ b ≡ 513
         ended_closed a b q e =
-            ⊎_elim (λ h. ended_new b (inside_cases level (at b) (p.within out a b h e))) (λ h. ended_new b (inr (s.closed a b h e))) (ended_old a q)
+            ⊎_elim (λ h. ended_new b (inside_cases level (at b) (p.within a b h e))) (λ h. ended_new b (inr (s.closed a b h e))) (ended_old a q)
 
-        by_negation : (t : Bool) → ltb 512 r ≡ t → (c : ℕ) → at c ≡ level → Loops page c → least ≤ c
+        by_negation : (t : Bool) → negated ≡ t → (c : ℕ) → at c ≡ level → Loops page c → UpTo c least
         by_negation true t c h v = f.least t c (level_in_lem levels c (omega arith)) h
-        by_negation false t c h v = absurd (true≢false (free_chain (omega (arith, ltb-false 512 r t)) v h h))
+        by_negation false t c h v = absurd (true≢false (free_chain t v h h))
 
-        ended_decided : (c : ℕ) → at₃ c ≡ 513 → Loops page c → least ≤ c
-        ended_decided c q v =
-            ⊎_elim (λ h. by_negation (ltb 512 r) refl c h v) (λ h. omega (arith, s.decided c h v, f.below)) (ended_old c q)
+        ended_decided : (c : ℕ) → at₃ c ≡ 513 → Loops page c → UpTo c least
+        ended_decided c q v = ⊎_elim (λ h. by_negation negated refl c h v) (λ h. f.below c (s.decided c h v)) (ended_old c q)
 
-        ended_loops : least < n → Loops page least
-        ended_loops l =
-            ⊎_elim (λ q. subst (λ (c : ℕ). Loops page c) (sym q) (s.loops (omega arith)))
-            (λ q.
-            let d = p.denied (ltb-true 512 r q.0) in
-            way_loop (s.ways least d.0 (omega (arith, q.2)) (omega (arith, q.2, d.2)) (omega (arith, d.2))) d.3
-            (s.ways d.1 least (omega (arith, d.4)) (omega (arith, q.2, d.4)) (omega (arith, q.2))))
-            f.from
+        -- a condition of the part is on a loop if the part negates itself
+        part_loops : negated ≡ true → (least : Option ℕ) → IsSomeAnd least (λ c. (c < length levels) × (at c ≡ level)) → IfSome least (Loops page)
+        part_loops t None q = tt
+        part_loops t (Some c) q =
+            let d = p.denied t in
+            way_loop (s.ways c d.0 (omega (arith, q.1)) (omega (arith, q.1, d.2)) (omega (arith, d.2))) d.3
+            (s.ways d.1 c (omega (arith, d.4)) (omega (arith, q.1, d.4)) (omega (arith, q.1)))
+
+        ended_loops : IfSome least (Loops page)
+        ended_loops = ⊎_elim (λ q. subst (λ (r : Option ℕ). IfSome r (Loops page)) (sym q) s.loops) (λ q. part_loops q.0 least q.1) f.from
 
         ended_stays : (c : ℕ) → 1 ≤ at c → 1 ≤ at₃ c
         ended_stays c l = ⊎_elim (λ k. omega (arith, k.1)) (λ k. ⊎_elim (λ m. omega (arith, m.1)) (λ m. omega (arith, m.1)) k) (kinds c)
@@ -373,28 +370,29 @@ module _ (page : Page) (w : Proper page) where
                 closed = ended_closed;
                 decided = ended_decided;
                 loops = ended_loops;
-                most = omega (arith, f.below, s.most);
                 room = omega (arith, s.room, met_le n levels levels' ended_stays);
               };
               less = omega (arith, met_le n levels levels' ended_stays);
               stays = ended_stays;
             }
 
-  -- with no part left, what is met is done
-  pub met_done : {levels : List ℕ} {lowest : ℕ} → Open page levels 0 lowest → (c : ℕ) → 1 ≤ level_in levels c → level_in levels c ≡ 513
-  met_done s c l = ⊎_elim (λ p. absurd (omega arith)) (λ p. p) (s.within c)
-
-  -- all below c are done, and nothing lower than c is left to find
-  pub loop_found : {levels : List ℕ} {lowest c : ℕ} → Open page levels 0 lowest → ((i : ℕ) → i < c → level_in levels i ≡ 513) → lowest ≤ c → LoopFound page levels lowest
-  loop_found {levels} {lowest} s h l =
-      record {
-        size = s.size;
-        lowest = λ m. record { loops = s.loops m; lowest = λ b i v. omega (arith, s.decided b (h b (omega arith)) v) };
-        none = λ m b v. let i = loop_inside page w v in omega (arith, s.decided b (h b (omega arith)) v);
-      }
+  -- all below c are done, and what is told is not above c, or all are done
+  pub loop_found : {levels : List ℕ} {c : ℕ} (lowest : Option ℕ) → Open page levels 0 lowest → ((i : ℕ) → i < c → level_in levels i ≡ 513) → (n ≤ c) ⊎ UpTo c lowest → LoopFound page levels lowest
+  loop_found {levels} {c} lowest s h l = record { size = s.size; lowest = go lowest s.decided s.loops l }
+    where
+      go : (r : Option ℕ) → ((b : ℕ) → level_in levels b ≡ 513 → Loops page b → UpTo b r) → IfSome r (Loops page) → (n ≤ c) ⊎ UpTo c r → MatchOption r ((b : ℕ) → ¬ Loops page b) (LowestLoop page)
+      go None d q m = λ b v. let i = loop_inside page w v in ⊎_elim (λ x. d b (h b (omega arith)) v) (λ x. x) m
+      go (Some r) d q m =
+          record {
+            loops = q;
+            lowest = λ b i v.
+                let j = loop_inside page w v in
+                let e : b < c = ⊎_elim (λ x. omega arith) (λ x. omega arith) m in
+                omega (arith, d b (h b e) v);
+          }
 
   -- the search from a root has come to its end
-  pub explored : {levels₀ levels : List ℕ} {lowest least level root : ℕ} → Open page levels₀ 0 lowest → root < n → level_in levels₀ root ≡ 0 → Open page levels level least → level ≤ 0
+  pub explored : {levels₀ levels : List ℕ} {lowest least : Option ℕ} {level root : ℕ} → Open page levels₀ 0 lowest → root < n → level_in levels₀ root ≡ 0 → Open page levels level least → level ≤ 0
       → ((c : ℕ) → 1 ≤ level_in (set levels₀ root 1) c → 1 ≤ level_in levels c) → Explored page root levels₀ levels least
   explored {levels₀} {levels} {lowest} {least} {level} {root} s l z t e h =
       let none : (a : ℕ) → 1 ≤ level_in levels₀ a → level_in levels₀ a ≤ 0 → Way page a root = λ a p q. absurd (omega arith) in
@@ -404,11 +402,5 @@ module _ (page : Page) (w : Proper page) where
         stays_met = λ c p. h c (fresh_stays s l z none c p);
       }
 
-  pub open_root : {levels : List ℕ} {lowest root : ℕ} → Open page levels 0 lowest → root < n → level_in levels root ≡ 0 → Open page (set levels root 1) 1 lowest
+  pub open_root : {levels : List ℕ} {lowest : Option ℕ} {root : ℕ} → Open page levels 0 lowest → root < n → level_in levels root ≡ 0 → Open page (set levels root 1) 1 lowest
   open_root s l z = open_fresh s l z (λ a p q. absurd (omega arith))
-
-  -- what is done before c, and c too
-  pub next_done : (levels levels' : List ℕ) {lowest' c : ℕ} → Open page levels' 0 lowest' → ((i : ℕ) → i < c → level_in levels i ≡ 513) → ((i : ℕ) → 1 ≤ level_in levels i → 1 ≤ level_in levels' i)
-      → 1 ≤ level_in levels' c → (i : ℕ) → i < c + 1 → level_in levels' i ≡ 513
-  next_done levels levels' {c = c} s h g l =
-      below_more _ c (λ i m. met_done s i (g i (omega (arith, h i m)))) (met_done s c l)

@@ -2,76 +2,61 @@
 // a search in depth finds the lowest condition from which a chain through a negation leads back.
 #![tactic(auto)]
 
-ghost use Rattle.std.specs.Prelude.{◌≡◌, true, ◌&&◌, ◌++◌, ◌-◌, ◌≤◌, ◌<◌, leb, length, get_or, drop};
+ghost use Rattle.std.specs.Prelude.{◌≡◌, true, ◌-◌, ◌≤◌, ◌<◌, ◌++◌, length, get_or, drop};
 ghost use Rattle.semantics.specs.Area.{page_of, top_of, conditions_of, used_of};
 ghost use Rattle.semantics.specs.Layers.{LayersOf};
 ghost use Rattle.page.specs.Graded.{RuleAt, SoundEntry};
 ghost use Rattle.layers.specs.Raising.{Low, Zero, Asked, Raised, LineRaised, PassRaised, Settled};
-ghost use Rattle.layers.specs.Levels.{RuleLooked, LineLooked, PartLooked, Relabelled, LowestAt, Entered, Finished, Open, Explored, HeadOpened, Begun, LoopFound};
+ghost use Rattle.layers.specs.Levels.{lower, RuleLooked, LineLooked, PartLooked, Relabelled, LowestAt, Entered, Finished, Open, Explored, HeadOpened, Begun, LoopFound};
 ghost use Rattle.layers.specs.Verdict.{verdict_of, Worked};
 ghost use Rattle.page.specs.Solvable.{solvable};
+
+use refusal::Refusal;
 
 // The largest layer that the literals of the rule at `at` ask for: that of the condition, and one more for a negation.
 fn asked(a: &[u16], at: usize, layers: &[u16]) -> u16
     requires { RuleAt (top_of a.now) (conditions_of a.now) a.now at × (length layers.now ≡ conditions_of a.now) × (conditions_of a.now ≤ 512) × Low 65534 layers.now }
     ensures { Asked a.now at layers.now result }
 {
-    let y = a[at + 3];
-    let mut most: u16 = 0;
-    let mut j: u16 = 0;
-    while j < y {
-        let code = a[at + 4 + j as usize];
-        let layer = layers[code as usize / 2] + code % 2;
-        if most < layer {
-            most = layer;
-        }
-        j += 1;
-    }
-    most
+    let codes = page::literals_at(a, at);
+    let layer_of = |&code: &u16| layers[code as usize / 2] + code % 2;
+    codes.iter().map(layer_of).max().unwrap_or(0)
 }
 
-// The head of the rule at `at` gets the layer that its literals ask for, if that is higher: that layer, or 0 if it is not.
-fn raise_rule(a: &[u16], at: usize, layers: &mut [u16]) -> u16
+// The head of the rule at `at` gets the layer that its literals ask for, if that is higher. Answers that layer, if so.
+fn raise_rule(a: &[u16], at: usize, layers: &mut [u16]) -> Option<u16>
     requires { RuleAt (top_of a.now) (conditions_of a.now) a.now at × (get_or a.now at 0 < conditions_of a.now) × (length layers.old ≡ conditions_of a.now) × (conditions_of a.now ≤ 512) × Low 65534 layers.old }
     ensures { Raised a.now at layers.old layers.new result }
 {
     let head = a[at] as usize;
     let layer = asked(a, at, layers);
     if layer <= layers[head] {
-        return 0;
+        return None;
     }
     layers[head] = layer;
-    layer
+    Some(layer)
 }
 
 // The same for the line at `at`, if it is an R line.
-fn raise_line(a: &[u16], at: usize, layers: &mut [u16]) -> u16
+fn raise_line(a: &[u16], at: usize, layers: &mut [u16]) -> Option<u16>
     requires { SoundEntry (top_of a.now) (conditions_of a.now) (used_of a.now - at) a.now at × (length layers.old ≡ conditions_of a.now) × (conditions_of a.now ≤ 512) × Low 65534 layers.old }
     ensures { LineRaised a.now at layers.old layers.new result }
 {
     let k = a[at + 1];
     match k {
         1..=5 => raise_rule(a, at, layers),
-        _ => 0,
+        _ => None,
     }
 }
 
-// One pass over the lines, in place: the highest layer that was raised to, or 0 if none was.
-fn raise_pass(a: &[u16], layers: &mut [u16]) -> u16
+// One pass over the lines, in place: the highest layer that was raised to, if any was.
+fn raise_pass(a: &[u16], layers: &mut [u16]) -> Option<u16>
     requires { (solvable a.now ≡ true) × (length layers.old ≡ conditions_of a.now) × Low 511 layers.old }
     ensures { PassRaised (page_of a.now) layers.old layers.new result }
 {
-    let mut left = a[2];
-    let mut line = page::Cursor::first(a);
-    let mut most: u16 = 0;
-    while 0 < left {
-        let at = line.at;
-        let layer = raise_line(a, at, layers);
-        if most < layer {
-            most = layer;
-        }
-        line = line.next(a);
-        left -= 1;
+    let mut most = None;
+    for at in page::Lines::of(a) {
+        most = most.max(raise_line(a, at, layers));
     }
     most
 }
@@ -82,117 +67,79 @@ fn settle(a: &[u16], layers: &mut [u16]) -> bool
     ensures { Settled (page_of a.now) layers.new result }
 {
     let n = a[1];
-    let mut k: u16 = 0;
-    while k < n {
-        let most = raise_pass(a, layers);
-        if most == 0 {
-            return true;
+    for _ in 0..n {
+        match raise_pass(a, layers) {
+            None => return true,
+            Some(most) if n <= most => return false,
+            Some(_) => {}
         }
-        if n <= most {
-            return false;
-        }
-        k += 1;
     }
     false
 }
 
-// The first condition that the rule at `at` names outside of the part at `level`; 512 if there is none, and 513 if the rule also negates
-// a condition of the part.
-fn look_rule(a: &[u16], at: usize, levels: &[u16], level: u16) -> u16
+// A level stays a number, since the levels stand in the table of numbers that the layers were in: 0 not met, 513 done, else a part, from 1 on.
+
+// Whether the rule at `at` negates a condition of the part at `level`; as an error the first condition that it names outside of the part.
+fn look_rule(a: &[u16], at: usize, levels: &[u16], level: u16) -> Result<bool, u16>
     requires { RuleAt (top_of a.now) (conditions_of a.now) a.now at × (length levels.now ≡ conditions_of a.now) × (conditions_of a.now ≤ 512) }
     ensures { RuleLooked a.now at levels.now level result }
 {
-    let y = a[at + 3];
-    let mut any: u16 = 0;
-    let mut j: u16 = 0;
-    while j < y {
-        let code = a[at + 4 + j as usize];
+    let mut negated = false;
+    for &code in page::literals_at(a, at) {
         let l = levels[code as usize / 2];
         if l == level {
-            any |= code;
+            negated |= code % 2 == 1;
         } else if l != 513 {
-            return code / 2;
+            return Err(code / 2);
         }
-        j += 1;
     }
-    512 + any % 2
+    Ok(negated)
 }
 
 // The same for the line at `at`, if it is an R line whose head is of the part.
-fn look_line(a: &[u16], at: usize, levels: &[u16], level: u16) -> u16
+fn look_line(a: &[u16], at: usize, levels: &[u16], level: u16) -> Result<bool, u16>
     requires { SoundEntry (top_of a.now) (conditions_of a.now) (used_of a.now - at) a.now at × (length levels.now ≡ conditions_of a.now) × (conditions_of a.now ≤ 512) }
     ensures { LineLooked a.now at levels.now level result }
 {
     if levels[a[at] as usize] != level {
-        return 512;
+        return Ok(false);
     }
     let k = a[at + 1];
     match k {
         1..=5 => look_rule(a, at, levels, level),
-        _ => 512,
+        _ => Ok(false),
     }
 }
 
-// The same for all lines: a condition that the part names outside of it; 512 if there is none, and 513 if the part negates itself.
-fn look(a: &[u16], levels: &[u16], level: u16) -> u16
+// The same for all lines: whether the part negates itself; as an error a condition that it names outside of it.
+fn look(a: &[u16], levels: &[u16], level: u16) -> Result<bool, u16>
     requires { (solvable a.now ≡ true) × (length levels.now ≡ conditions_of a.now) }
     ensures { PartLooked (page_of a.now) levels.now level result }
 {
-    let mut left = a[2];
-    let mut line = page::Cursor::first(a);
-    let mut seen: u16 = 512;
-    while 0 < left {
-        let at = line.at;
-        let c = look_line(a, at, levels, level);
-        if c < 512 {
-            return c;
-        }
-        if seen < c {
-            seen = c;
-        }
-        line = line.next(a);
-        left -= 1;
+    let mut negated = false;
+    for at in page::Lines::of(a) {
+        negated |= look_line(a, at, levels, level)?;
     }
-    seen
-}
-
-// Whether l is one of low to high.
-fn between(l: u16, low: u16, high: u16) -> bool
-    ensures { result ≡ (leb low l && leb l high) }
-{
-    if l < low {
-        return false;
-    }
-    l <= high
+    Ok(negated)
 }
 
 // The conditions with a level of low to high get the level `to`.
 fn relabel(levels: &mut [u16], low: u16, high: u16, to: u16)
     ensures { Relabelled low high to levels.old levels.new }
 {
-    let mut c: usize = 0;
-    while c < levels.len() {
-        if between(levels[c], low, high) {
-            levels[c] = to;
+    for l in levels.iter_mut() {
+        if (low..=high).contains(l) {
+            *l = to;
         }
-        c += 1;
     }
 }
 
-// The lowest condition of the part at `level`, or how many conditions there are.
-fn lowest_at(levels: &[u16], level: u16) -> u16
+// The lowest condition of the part at `level`.
+fn lowest_at(levels: &[u16], level: u16) -> Option<u16>
     requires { length levels.now ≤ 512 }
     ensures { LowestAt levels.now level result }
 {
-    let n = levels.len() as u16;
-    let mut c: u16 = 0;
-    while c < n {
-        if levels[c as usize] == level {
-            return c;
-        }
-        c += 1;
-    }
-    c
+    levels.iter().position(|&l| l == level).map(|c| c as u16)
 }
 
 // The part at `level` names c, which is neither of it nor done. If c is not met it becomes the next part. Else it is of an earlier part, and
@@ -211,24 +158,33 @@ fn enter(levels: &mut [u16], level: u16, c: u16) -> u16
     l
 }
 
-// The part at `level` is done. Its conditions are on a loop through a negation if it negates itself: answers the lowest such condition so far.
-fn finish(levels: &mut [u16], level: u16, negated: bool, lowest: u16) -> u16
-    requires { (length levels.old ≤ 512) × (lowest ≤ length levels.old) }
+// The lower of two conditions, where either may be none.
+fn lower(one: Option<u16>, other: Option<u16>) -> Option<u16>
+    ensures { result ≡ lower one other }
+{
+    match (one, other) {
+        (Some(c), Some(d)) => Some(c.min(d)),
+        _ => one.or(other),
+    }
+}
+
+// The part at `level` is done. Its conditions are on a loop through a negation if it negates itself, as `look` tells: answers the lowest such condition
+// so far.
+fn finish(levels: &mut [u16], level: u16, negated: bool, lowest: Option<u16>) -> Option<u16>
+    requires { length levels.old ≤ 512 }
     ensures { Finished level negated lowest levels.old levels.new result }
 {
     let mut least = lowest;
     if negated {
-        let c = lowest_at(levels, level);
-        if c < least {
-            least = c;
-        }
+        least = lower(lowest, lowest_at(levels, level));
     }
     relabel(levels, level, level, 513);
     least
 }
 
 // Every condition that a chain from `root` leads to is done: answers the lowest condition on a loop through a negation so far.
-fn explore(a: &[u16], levels: &mut [u16], root: u16, lowest: u16) -> u16
+// The path goes up and down, so the loop is no `for`.
+fn explore(a: &[u16], levels: &mut [u16], root: u16, lowest: Option<u16>) -> Option<u16>
     requires { (solvable a.now ≡ true) × Open (page_of a.now) levels.old 0 lowest × (root < conditions_of a.now) × (get_or levels.old root 0 ≡ 0) }
     ensures { Explored (page_of a.now) root levels.old levels.new result }
 {
@@ -236,12 +192,12 @@ fn explore(a: &[u16], levels: &mut [u16], root: u16, lowest: u16) -> u16
     let mut level: u16 = 1;
     levels[root as usize] = 1;
     while 0 < level {
-        let c = look(a, levels, level);
-        if c < 512 {
-            level = enter(levels, level, c);
-        } else {
-            least = finish(levels, level, 512 < c, least);
-            level -= 1;
+        match look(a, levels, level) {
+            Err(c) => level = enter(levels, level, c),
+            Ok(negated) => {
+                least = finish(levels, level, negated, least);
+                level -= 1;
+            }
         }
     }
     least
@@ -264,76 +220,69 @@ fn begin(a: &[u16], levels: &mut [u16])
     requires { (solvable a.now ≡ true) × (length levels.old ≡ conditions_of a.now) }
     ensures { Begun (page_of a.now) levels.new }
 {
-    relabel(levels, 0, 65535, 513);
-    let mut left = a[2];
-    let mut line = page::Cursor::first(a);
-    while 0 < left {
-        let at = line.at;
+    levels.fill(513);
+    for at in page::Lines::of(a) {
         open_head(a, at, levels);
-        line = line.next(a);
-        left -= 1;
     }
 }
 
-// The lowest condition on a loop through a negation, or C if there is none. What the levels are before does not matter.
-fn lowest_loop(a: &[u16], levels: &mut [u16]) -> u16
+// The lowest condition on a loop through a negation. What the levels are before does not matter.
+fn lowest_loop(a: &[u16], levels: &mut [u16]) -> Option<u16>
     requires { (solvable a.now ≡ true) × (length levels.old ≡ conditions_of a.now) }
     ensures { LoopFound (page_of a.now) levels.new result }
 {
     begin(a, levels);
-    let mut lowest = a[1];
-    let mut c: u16 = 0;
-    while c < lowest {
+    let mut lowest = None;
+    for c in 0..a[1] {
+        if lowest.is_some_and(|d| d <= c) {
+            break;
+        }
         if levels[c as usize] == 0 {
             lowest = explore(a, levels, c, lowest);
         }
-        c += 1;
     }
     lowest
 }
 
-// Copies `from` to the front of `to`.
+// Why no layers are written: a refusal, or a loop through a negation, with the lowest condition on one.
+#[derive(Clone, Copy, PartialEq, Eq)]
+pub enum LayersError {
+    Refused(Refusal),
+    Loop(u16),
+}
+
+// Copies `from` to the front of `to`, one by one: a copy of slices asks the host for memmove, which the C interface does not.
 fn copy(from: &[u16], to: &mut [u16])
     requires { length from.now ≤ length to.old }
     ensures { to.new ≡ from.now ++ drop (length from.now) to.old }
 {
-    let mut i: usize = 0;
-    while i < from.len() {
+    for i in 0..from.len() {
         to[i] = from[i];
-        i += 1;
     }
 }
 
-// The answer of the check: the number of a refusal; the condition that 30 comes with; or that the layers are written.
-#[derive(Clone, Copy)]
-pub enum Verdict {
-    Refused(u8),
-    Loops(u16),
-    Layered,
-}
-
 // The check of a page that is sound, with a slice that is long enough. The table is C zeros.
-fn work(page: &[u16], layers: &mut [u16], table: &mut [u16]) -> Verdict
+fn work(page: &[u16], layers: &mut [u16], table: &mut [u16]) -> Result<(), LayersError>
     requires { (solvable page.now ≡ true) × (conditions_of page.now ≤ length layers.old) × (length table.old ≡ conditions_of page.now) × Zero table.old }
     ensures { Worked (verdict_of result) (page_of page.now) layers.old layers.new }
 {
     if settle(page, table) {
         copy(table, layers);
-        return Verdict::Layered;
+        return Ok(());
     }
-    Verdict::Loops(lowest_loop(page, table))
+    Err(LayersError::Loop(lowest_loop(page, table).unwrap()))
 }
 
 // The check for loops through an absence. The layers are worked out in a table of its own, since a refusal leaves the slice as it is.
-pub fn check_layers(page: &[u16], layers: &mut [u16]) -> Verdict
+pub fn check_layers(page: &[u16], layers: &mut [u16]) -> Result<(), LayersError>
     ensures { LayersOf (verdict_of result) page.now layers.old layers.new }
 {
     if !page::page_sound(page) {
-        return Verdict::Refused(10);
+        return Err(LayersError::Refused(Refusal::PageNotSound));
     }
     let n = page[1] as usize;
     if layers.len() < n {
-        return Verdict::Refused(31);
+        return Err(LayersError::Refused(Refusal::LayersShort));
     }
     let mut table = [0u16; 512];
     work(page, layers, &mut table[..n])

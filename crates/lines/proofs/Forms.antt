@@ -1,4 +1,5 @@
 -- The forms of the lines, by what the parser has read of them. Assumes nothing.
+use Rattle.std.proofs.Common.{Option, Some, None}
 use mathlib.Core.Path.{◌≡◌, refl, sym, ◌∙◌, ap}
 use mathlib.Core.Bool.{Bool, true, false, cond, ◌&&◌, ◌||◌, false≢true}
 use mathlib.Core.List.{List, [], ◌∷◌, map}
@@ -121,7 +122,7 @@ module _ (gs : List (List ℕ)) where
   unfolding has_form is_fact is_rule is_default
   query_form_lem = or_false (is_query ((81 ∷ []) ∷ gs))
 
-  no_reading : reading_at (letter_then gs) ≡ 2 → has_form ((81 ∷ []) ∷ gs) ≡ false
+  no_reading : None ≡ reading_at (letter_then gs) → has_form ((81 ∷ []) ∷ gs) ≡ false
   unfolding is_query
   no_reading h = query_form_lem ∙ go (letter_absent is_reading reading_one gs (reading_none (letter_then gs) h))
     where
@@ -130,18 +131,18 @@ module _ (gs : List (List ℕ)) where
       go (inr l) = fails (query_form ((81 ∷ []) ∷ gs)) 1 (ne_eqb (suc (length gs)) 3 (λ z. omega arith))
 
 module _ (s : List ℕ) (at : ℕ) (k₀ : LetterThen s at 81) where
-  pub no_reading_letter : reading_at (letter_then (fields_at (drop (at + 2) s))) ≡ 2 → has_form (fields_at (drop at s)) ≡ false
+  pub no_reading_letter : None ≡ reading_at (letter_then (fields_at (drop (at + 2) s))) → has_form (fields_at (drop at s)) ≡ false
   no_reading_letter h = rw k₀.fields (no_reading (fields_at (drop (at + 2) s)) h)
 
-  module _ {r : ℕ} (k : LetterThen s (at + 2) r) where
+  module _ {r : ℕ} (m : LetterThen s (at + 2) r) where
     four : at + 2 + 2 ≡ at + 4
     four = omega arith
 
     pub query_place : InText s (at + 4)
-    query_place = rw four at k.place
+    query_place = rw four at m.place
 
     letters : fields_at (drop at s) ≡ (81 ∷ []) ∷ (r ∷ []) ∷ fields_at (drop (at + 4) s)
-    letters = k₀.fields ∙ ap (λ (fs : List (List ℕ)). (81 ∷ []) ∷ fs) (rw four at k.fields)
+    letters = k₀.fields ∙ ap (λ (fs : List (List ℕ)). (81 ∷ []) ∷ fs) (rw four at m.fields)
 
     pub no_query : (is_number (field_at s (at + 4)) ≡ false) ⊎ (2 ≤ length (fields_at (drop (at + 4) s))) → has_form (fields_at (drop at s)) ≡ false
     unfolding is_query
@@ -153,7 +154,7 @@ module _ (s : List ℕ) (at : ℕ) (k₀ : LetterThen s at 81) where
             fails (query_form ((81 ∷ []) ∷ (r ∷ []) ∷ fields_at (drop (at + 4) s))) 1
             (ne_eqb (suc (suc (length (fields_at (drop (at + 4) s))))) 3 (λ z. omega arith))
 
-    module _ (n : reading_at r ≡ 2 → ⊥) {v e : ℕ} (l : NumberLast s (at + 4) v e) where
+    module _ {k : ℕ} (n : Some k ≡ reading_at r) {v e : ℕ} (l : NumberLast s (at + 4) v e) where
       query_fields : fields_at (drop at s) ≡ (81 ∷ []) ∷ (r ∷ []) ∷ field_at s (at + 4) ∷ []
       query_fields = letters ∙ ap (λ (fs : List (List ℕ)). (81 ∷ []) ∷ (r ∷ []) ∷ fs) l.fields
 
@@ -165,8 +166,8 @@ module _ (s : List ℕ) (at : ℕ) (k₀ : LetterThen s at 81) where
       unfolding line_in is_fact is_rule
       query_line = rw (is_query_lem, l.value)
 
-      pub query_codes : v ∷ 6 ∷ reading_at r ∷ 0 ∷ [] ≡ line_code (query (reading_in (r ∷ [])) v)
-      query_codes = sym ((reading_known r n).1 v)
+      pub query_codes : v ∷ 6 ∷ k ∷ 0 ∷ [] ≡ line_code (query (reading_in (r ∷ [])) v)
+      query_codes = (reading_known r n).1 v
 
       pub a_query : Says s at (query (reading_in (r ∷ [])) v) e
       a_query =
@@ -174,7 +175,7 @@ module _ (s : List ℕ) (at : ℕ) (k₀ : LetterThen s at 81) where
             form = ap has_form query_fields ∙ query_form_lem ((r ∷ []) ∷ field_at s (at + 4) ∷ []) ∙ is_query_lem;
             is = ap line_in query_fields ∙ query_line;
             ends = record {
-              lines = k₀.lines ∙ k.lines ∙ rw four l.lines;
+              lines = k₀.lines ∙ m.lines ∙ rw four l.lines;
               ahead = omega (arith, l.ahead);
             };
           }
@@ -249,7 +250,7 @@ module _ (gs : List (List ℕ)) where
 abbrev pub rest_tests : List (List ℕ) → List Bool
 rest_tests gs = leb 1 (length (drop 1 gs)) ∷ leb (length (drop 1 gs)) 8 ∷ is_op (field gs 0) ∷ all_literals (drop 1 gs) ∷ []
 
-no_rest : (gs : List (List ℕ)) → kind_at (letter_then gs) ≡ 0 → every (rest_tests gs) ≡ false
+no_rest : (gs : List (List ℕ)) → None ≡ kind_at (letter_then gs) → every (rest_tests gs) ≡ false
 no_rest gs h = go (letter_absent is_op op_one gs (op_none (letter_then gs) h))
   where
     go : (is_op (field gs 0) ≡ false) ⊎ (length gs ≤ 1) → every (rest_tests gs) ≡ false
@@ -268,10 +269,10 @@ module _ (s : List ℕ) (at : ℕ) (x : get_or s at 10 ≡ 82) {v w b : ℕ} (k 
   has_rule = ap has_form rule_fields ∙ rule_form_lem (k.f ∷ k.g ∷ fields_at (drop b s)) ∙ is_rule_lem
 
   -- no op letter
-  pub no_op : kind_at (letter_then (fields_at (drop b s))) ≡ 0 → has_form (fields_at (drop at s)) ≡ false
+  pub no_op : None ≡ kind_at (letter_then (fields_at (drop b s))) → has_form (fields_at (drop at s)) ≡ false
   no_op h = has_rule ∙ no_rest (fields_at (drop b s)) h
 
-  module _ {r : ℕ} (o : LetterThen s b r) (n : kind_at r ≡ 0 → ⊥) where
+  module _ {r : ℕ} (o : LetterThen s b r) {i : ℕ} (n : Some i ≡ kind_at r) where
     rest_form : every (rest_tests (fields_at (drop b s))) ≡ are_literals (fields_at (drop (b + 2) s))
     rest_form =
         let hs = fields_at (drop (b + 2) s) in
@@ -294,7 +295,7 @@ module _ (s : List ℕ) (at : ℕ) (x : get_or s at 10 ≡ 82) {v w b : ℕ} (k 
             ends = record { lines = k.lines ∙ o.lines ∙ e.lines; ahead = omega (arith, k.ahead, e.ahead) };
           }
 
-    pub rule_says : {c m far next : ℕ} → LiteralsTo s (b + 2) c m far next → RuleSays s at c v w m far next
+    pub rule_says : {c m : ℕ} {far : Option ℕ} {next : ℕ} → LiteralsTo s (b + 2) c m far next → RuleSays s at c v w m far next
     rule_says l =
         record {
           op = op_in (r ∷ []);

@@ -1,23 +1,21 @@
 -- The literals to the end of a line, one after the other. Assumes nothing.
-use mathlib.Core.Path.{◌≡◌, refl, sym, ◌∙◌, ap, subst}
+use Rattle.std.proofs.Common.{Option, Some, None}
+use Rattle.std.specs.Option.{option_or}
+use mathlib.Core.Path.{◌≡◌, refl, sym, ◌∙◌, ap}
 use mathlib.Core.Bool.{Bool, true, false, cond}
 use mathlib.Core.List.{List, [], ◌∷◌, map}
 use mathlib.Core.Logic.{⊎_elim}
 use Prim.Native.Nat.{ℕ, suc, ◌+◌, ◌≤◌, ◌<◌}
 use native.Mathlib.Omega.{arith}
-use lib.Dec.{eqb, ltb, leb}
+use lib.Dec.{ltb, leb}
 use lib.ListN.{length, get_or, drop}
-use borrow.Author.Tests.{ne_eqb, eqb-true, le-leb, lt-leb}
+use borrow.Author.Tests.{le-leb, lt-leb}
 use Rattle.semantics.specs.Text.{is_literal, all_literals, literal_in}
-use Rattle.fields.specs.declared.Field.{Field}
-use Rattle.fields.specs.declared.Field.TheVariants.{Number, Bad}
-use Rattle.fields.specs.Cursor.{InText, fields_at, field_at, lines_after, class_of, LiteralTo, LiteralAt}
+use Rattle.fields.specs.Cursor.{InText, fields_at, field_at, lines_after, class_of, LiteralTo}
 use Rattle.fields.proofs.Places.{byte_here, within_next}
 use Rattle.fields.proofs.Fields.{some_field, first_here, Comma, comma_after, newline_after}
 use Rattle.fields.proofs.Numbers.{and_false, class_end}
-use Rattle.lines.specs.declared.Literals.{Literals}
-use Rattle.lines.specs.declared.Literals.TheVariants.{Good, Form}
-use Rattle.lines.specs.Lines.{Ends, nearer, far_in, far_with, are_literals, LiteralsTo, LiteralsAt}
+use Rattle.lines.specs.Lines.{Ends, far_in, far_with, are_literals, LiteralsTo}
 
 -- k literals stand from the place `at` to the place i
 pub record Passed (s : List ℕ) (at k i : ℕ) : Type 0 where
@@ -70,40 +68,28 @@ module _ (s : List ℕ) (at : ℕ) {k i : ℕ} (w : Passed s at k i) where
       last_ends = record { lines = w.lines ∙ (newline_after s i e g m).lines; ahead = omega (arith, w.ahead) }
 
 -- which literal is the first out of range, with one more
-far_step : (far k c n x : ℕ) → nearer far (cond (ltb c n) x (suc k)) ≡ nearer (far_with far (suc k) c n) x
+far_step : (far : Option ℕ) (k c n : ℕ) (x : Option ℕ) → option_or far (cond (ltb c n) x (Some (suc k))) ≡ option_or (far_with far (suc k) c n) x
 unfolding far_with
-far_step far k c n x = go (ltb c n) (eqb far 0) refl
+far_step far k c n x = go far (ltb c n)
   where
-    go : (t u : Bool) → eqb far 0 ≡ u → cond u (cond t x (suc k)) far ≡ nearer (cond t far (cond u (suc k) far)) x
-    go true true p = rw p
-    go true false p = rw p
-    go false true p = rw (ne_eqb (suc k) 0 (λ z. omega arith))
-    go false false p = rw p
+    go : (far : Option ℕ) (t : Bool) → option_or far (cond t x (Some (suc k))) ≡ option_or (cond t far (option_or far (Some (suc k)))) x
+    go far true = refl
+    go None false = refl
+    go (Some f) false = refl
 
-far_last : (far : ℕ) → nearer far 0 ≡ far
-far_last far = go (eqb far 0) refl
-  where
-    go : (t : Bool) → eqb far 0 ≡ t → cond t 0 far ≡ far
-    go true p = sym (eqb-true far 0 p)
-    go false p = refl
+far_last : (far : Option ℕ) → option_or far None ≡ far
+far_last None = refl
+far_last (Some f) = refl
 
 -- k literals have been checked, from the place `at` to the place i; n is the number of conditions
-pub record Counting (s : List ℕ) (at n k far i : ℕ) : Type 0 where
+pub record Counting (s : List ℕ) (at n k : ℕ) (far : Option ℕ) (i : ℕ) : Type 0 where
   pub passed : Passed s at k i
-  pub first : far_in n 0 (map literal_in (fields_at (drop at s))) ≡ nearer far (far_in n k (map literal_in (fields_at (drop i s))))
+  pub first : far_in n 0 (map literal_in (fields_at (drop at s))) ≡ option_or far (far_in n k (map literal_in (fields_at (drop i s))))
 
-pub counting_none : (s : List ℕ) (at n : ℕ) → InText s at → Counting s at n 0 0 at
+pub counting_none : (s : List ℕ) (at n : ℕ) → InText s at → Counting s at n 0 None at
 counting_none s at n w = record { passed = passed_none s at w; first = refl }
 
--- the answer of `read_literal` by its cases
-module _ (s : List ℕ) (at : ℕ) {r : Field} (p : LiteralAt s at r) where
-  pub some_literal : {c e : ℕ} → r ≡ Number c e → LiteralTo s at c e
-  some_literal h = subst (LiteralAt s at) h p
-
-  pub no_literal : r ≡ Bad → is_literal (field_at s at) ≡ false
-  no_literal h = subst (LiteralAt s at) h p
-
-module _ (s : List ℕ) (at n : ℕ) {k far i : ℕ} (w : Counting s at n k far i) {c e : ℕ} (q : LiteralTo s i c e) where
+module _ (s : List ℕ) (at n : ℕ) {k : ℕ} {far : Option ℕ} {i : ℕ} (w : Counting s at n k far i) {c e : ℕ} (q : LiteralTo s i c e) where
   pub byte_behind : get_or s e 0 ≡ get_or s e 10
   byte_behind = let l : e < length s = q.place.inside in byte_here s e l
 
@@ -113,7 +99,7 @@ module _ (s : List ℕ) (at n : ℕ) {k far i : ℕ} (w : Counting s at n k far 
 
   module _ (t : class_of (get_or s e 10) ≡ 10) where
     first_on : {rest : List (List ℕ)} → fields_at (drop i s) ≡ field_at s i ∷ rest
-        → far_in n 0 (map literal_in (fields_at (drop at s))) ≡ nearer (far_with far (k + 1) c n) (far_in n (k + 1) (map literal_in rest))
+        → far_in n 0 (map literal_in (fields_at (drop at s))) ≡ option_or (far_with far (k + 1) c n) (far_in n (k + 1) (map literal_in rest))
     unfolding far_in
     first_on {rest} f =
         let j : k + 1 ≡ suc k = omega arith in
@@ -137,11 +123,3 @@ module _ (s : List ℕ) (at n : ℕ) {k far i : ℕ} (w : Counting s at n k far 
           first = sym (first_on (last_fields s at w.passed l.literal l.end q.ahead q.place m) ∙ far_last (far_with far (k + 1) c n));
           ends = last_ends s at w.passed l.literal l.end q.ahead q.place m;
         }
-
--- the answer of `parse_literals` by its cases
-module _ (s : List ℕ) (at n : ℕ) {r : Literals} (p : LiteralsAt s at n r) where
-  pub some_literals : {k far next : ℕ} → r ≡ Good k far next → LiteralsTo s at n k far next
-  some_literals h = subst (LiteralsAt s at n) h p
-
-  pub no_literals : r ≡ Form → are_literals (fields_at (drop at s)) ≡ false
-  no_literals h = subst (LiteralsAt s at n) h p

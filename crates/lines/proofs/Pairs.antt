@@ -1,5 +1,5 @@
 -- The letter and the two numbers with which a fact and a rule begin. Assumes nothing.
-use mathlib.Core.Path.{◌≡◌, ◌∙◌, ap, subst}
+use mathlib.Core.Path.{◌≡◌, ◌∙◌, ap}
 use mathlib.Core.Bool.{false}
 use mathlib.Core.List.{List, [], ◌∷◌}
 use mathlib.Core.Logic.{◌⊎◌, inl, inr}
@@ -13,9 +13,7 @@ use Rattle.semantics.proofs.TestLists.{fails}
 use Rattle.fields.specs.Cursor.{fields_at, field_at}
 use Rattle.fields.proofs.Letters.{Plain, plain, LetterThen}
 use Rattle.fields.proofs.Tokens.{NumberThen}
-use Rattle.lines.specs.declared.Pair.{Pair}
-use Rattle.lines.specs.declared.Pair.TheVariants.{Good, Form}
-use Rattle.lines.specs.Lines.{PairLetter, PairThen, PairAt}
+use Rattle.lines.specs.Lines.{PairLetter, PairThen}
 use Rattle.lines.proofs.Forms.{pair_tests, no_fact, no_rule}
 
 pub pair_plain : {x : ℕ} → PairLetter x → Plain x
@@ -54,11 +52,3 @@ module _ (s : List ℕ) (at : ℕ) (p : PairLetter (get_or s at 10)) (k : Letter
           ahead = omega (arith, h.ahead, n.ahead);
           place = n.place;
         }
-
--- the answer of `parse_pair` by its cases
-module _ (s : List ℕ) (at : ℕ) {r : Pair} (p : PairAt s at r) where
-  pub some_pair : {v w e : ℕ} → r ≡ Good v w e → PairThen s at v w e
-  some_pair h = subst (PairAt s at) h p
-
-  pub pair_form : r ≡ Form → has_form (fields_at (drop at s)) ≡ false
-  pair_form h = subst (PairAt s at) h p

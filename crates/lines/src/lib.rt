@@ -6,230 +6,221 @@ ghost use Rattle.std.specs.Prelude.{ℕ, ◌≡◌, get_or};
 ghost use Rattle.fields.specs.Cursor.{InText};
 ghost use Rattle.lines.specs.Lines.{PairLetter, PairAt, far_with, LiteralsAt, ParsedAs, kind_at, reading_at};
 
-use fields::{Field, number_before, read_literal};
+use fields::{number_before, read_literal};
 
-// What is read of a line, with the place of the next line; or that it has no form. Of a rule's literals: how many they are, and which is
-// the first whose condition is out of range, from 1, or 0 for none.
+// What a line says. Of a rule's literals: how many they are, and which is the first whose condition is out of range, from 1, if any is.
 #[derive(Clone, Copy)]
 pub enum Parsed {
     Fact {
         condition: u16,
         low: u16,
         high: u16,
-        next: usize,
     },
     Rule {
         condition: u16,
         weight: u16,
         count: usize,
-        far: usize,
-        next: usize,
+        far: Option<usize>,
     },
     Query {
         condition: u16,
-        next: usize,
     },
     Default {
         condition: u16,
-        next: usize,
     },
-    Form,
 }
 
-// The first two numbers behind a letter and the place of the field after them, or that the line has no form.
+// A line that has a form, and the place of the next.
 #[derive(Clone, Copy)]
-enum Pair {
-    Good(u16, u16, usize),
-    Form,
+pub struct Line {
+    pub says: Parsed,
+    pub next: usize,
+}
+
+// The first two numbers behind a letter, and the place of the field after them.
+#[derive(Clone, Copy)]
+pub struct Pair {
+    pub first: u16,
+    pub second: u16,
+    pub next: usize,
 }
 
 // The two numbers with which a fact and a rule begin.
-fn parse_pair(bytes: &[u8], at: usize) -> Pair
+fn parse_pair(bytes: &[u8], at: usize) -> Option<Pair>
     requires { InText bytes.now at × PairLetter (get_or bytes.now at 10) }
     ensures { PairAt bytes.now at result }
 {
     if bytes[at + 1] != b',' {
-        return Pair::Form;
+        return None;
     }
-    let Field::Number(first, a) = number_before(bytes, at + 2, b',') else {
-        return Pair::Form;
-    };
-    let Field::Number(second, next) = number_before(bytes, a, b',') else {
-        return Pair::Form;
-    };
-    Pair::Good(first, second, next)
+    let first = number_before(bytes, at + 2, b',')?;
+    let second = number_before(bytes, first.end, b',')?;
+    Some(Pair {
+        first: first.value,
+        second: second.value,
+        next: second.end,
+    })
 }
 
 // The line at a place that begins with `F`.
-fn parse_fact(bytes: &[u8], at: usize) -> Parsed
+fn parse_fact(bytes: &[u8], at: usize) -> Option<Line>
     requires { InText bytes.now at × (get_or bytes.now at 10 ≡ 70) }
     ensures { (n : ℕ) → ParsedAs bytes.now at n result }
 {
-    let Pair::Good(condition, low, a) = parse_pair(bytes, at) else {
-        return Parsed::Form;
-    };
-    let Field::Number(high, next) = number_before(bytes, a, b'\n') else {
-        return Parsed::Form;
-    };
-    Parsed::Fact {
-        condition,
-        low,
-        high,
-        next,
-    }
+    let pair = parse_pair(bytes, at)?;
+    let high = number_before(bytes, pair.next, b'\n')?;
+    Some(Line {
+        says: Parsed::Fact {
+            condition: pair.first,
+            low: pair.second,
+            high: high.value,
+        },
+        next: high.end,
+    })
 }
 
-// The kind of a rule by its op letter; 0 where it is none.
-pub fn op_kind(letter: u8) -> u16
+// The kind of a rule by its op letter; none for another letter.
+#[tactic(auto, using(std::proofs::lemmas::Bool::Decides::nat_tests), unfolding(crate::specs::Lines::kind_at))]
+pub fn op_kind(letter: u8) -> Option<u16>
     ensures { result ≡ kind_at letter }
 {
     match letter {
-        b'M' => 1,
-        b'X' => 2,
-        b'L' => 3,
-        b'B' => 4,
-        b'P' => 5,
-        _ => 0,
+        b'M' => Some(1),
+        b'X' => Some(2),
+        b'L' => Some(3),
+        b'B' => Some(4),
+        b'P' => Some(5),
+        _ => None,
     }
 }
 
 // Which literal is the first out of range, where `far` was before the literal number `n`.
-fn far_with(far: usize, n: usize, condition: u16, conditions: u16) -> usize
+#[tactic(auto, using(std::proofs::lemmas::Bool::Decides::nat_tests), unfolding(crate::specs::Lines::far_with))]
+fn far_with(far: Option<usize>, n: usize, condition: u16, conditions: u16) -> Option<usize>
     ensures { result ≡ far_with far n condition conditions }
 {
     if condition < conditions {
         return far;
     }
-    if far == 0 {
-        return n;
-    }
-    far
+    far.or(Some(n))
 }
 
-// What is read of the literals of a rule, as in `Parsed`.
+// What is read of the literals of a rule, as in `Parsed`, and the place of the next line.
 #[derive(Clone, Copy)]
-enum Literals {
-    Good {
-        count: usize,
-        far: usize,
-        next: usize,
-    },
-    Form,
+struct Literals {
+    count: usize,
+    far: Option<usize>,
+    next: usize,
 }
 
 // The literals to the end of a rule's line, 1 to 8.
-fn parse_literals(bytes: &[u8], at: usize, conditions: u16) -> Literals
+fn parse_literals(bytes: &[u8], at: usize, conditions: u16) -> Option<Literals>
     requires { InText bytes.now at }
     ensures { LiteralsAt bytes.now at conditions result }
 {
-    let mut n: usize = 0;
-    let mut far: usize = 0;
+    let mut far = None;
     let mut i = at;
-    while n < 8 {
-        let Field::Number(condition, e) = read_literal(bytes, i) else {
-            return Literals::Form;
-        };
-        n += 1;
-        far = far_with(far, n, condition, conditions);
-        i = e + 1;
-        let b = bytes[e];
-        if b == b'\n' {
-            return Literals::Good {
-                count: n,
-                far,
-                next: i,
-            };
-        }
-        if b != b',' {
-            return Literals::Form;
+    for before in 0..8 {
+        let literal = read_literal(bytes, i)?;
+        let count = before + 1;
+        far = far_with(far, count, literal.value, conditions);
+        i = literal.end + 1;
+        match bytes[literal.end] {
+            b'\n' => {
+                return Some(Literals {
+                    count,
+                    far,
+                    next: i,
+                });
+            }
+            b',' => {}
+            _ => return None,
         }
     }
-    Literals::Form
+    None
 }
 
 // The line at a place that begins with `R`.
-fn parse_rule(bytes: &[u8], at: usize, conditions: u16) -> Parsed
+fn parse_rule(bytes: &[u8], at: usize, conditions: u16) -> Option<Line>
     requires { InText bytes.now at × (get_or bytes.now at 10 ≡ 82) }
     ensures { ParsedAs bytes.now at conditions result }
 {
-    let Pair::Good(condition, weight, a) = parse_pair(bytes, at) else {
-        return Parsed::Form;
-    };
-    if op_kind(bytes[a]) == 0 {
-        return Parsed::Form;
+    let pair = parse_pair(bytes, at)?;
+    op_kind(bytes[pair.next])?;
+    if bytes[pair.next + 1] != b',' {
+        return None;
     }
-    if bytes[a + 1] != b',' {
-        return Parsed::Form;
-    }
-    let Literals::Good { count, far, next } = parse_literals(bytes, a + 2, conditions) else {
-        return Parsed::Form;
-    };
-    Parsed::Rule {
-        condition,
-        weight,
-        count,
-        far,
-        next,
-    }
+    let literals = parse_literals(bytes, pair.next + 2, conditions)?;
+    Some(Line {
+        says: Parsed::Rule {
+            condition: pair.first,
+            weight: pair.second,
+            count: literals.count,
+            far: literals.far,
+        },
+        next: literals.next,
+    })
 }
 
-// The number of a reading letter; 2 where it is none.
-pub fn reading_code(letter: u8) -> u16
+// The number of a reading letter; none for another letter.
+#[tactic(auto, using(std::proofs::lemmas::Bool::Decides::nat_tests), unfolding(crate::specs::Lines::reading_at))]
+pub fn reading_code(letter: u8) -> Option<u16>
     ensures { result ≡ reading_at letter }
 {
     match letter {
-        b'K' => 0,
-        b'W' => 1,
-        _ => 2,
+        b'K' => Some(0),
+        b'W' => Some(1),
+        _ => None,
     }
 }
 
 // The line at a place that begins with `Q`.
-fn parse_query(bytes: &[u8], at: usize) -> Parsed
+fn parse_query(bytes: &[u8], at: usize) -> Option<Line>
     requires { InText bytes.now at × (get_or bytes.now at 10 ≡ 81) }
     ensures { (n : ℕ) → ParsedAs bytes.now at n result }
 {
     if bytes[at + 1] != b',' {
-        return Parsed::Form;
+        return None;
     }
-    let reading = reading_code(bytes[at + 2]);
-    if reading == 2 {
-        return Parsed::Form;
-    }
+    reading_code(bytes[at + 2])?;
     if bytes[at + 3] != b',' {
-        return Parsed::Form;
+        return None;
     }
-    let Field::Number(condition, next) = number_before(bytes, at + 4, b'\n') else {
-        return Parsed::Form;
-    };
-    Parsed::Query { condition, next }
+    let condition = number_before(bytes, at + 4, b'\n')?;
+    Some(Line {
+        says: Parsed::Query {
+            condition: condition.value,
+        },
+        next: condition.end,
+    })
 }
 
 // The line at a place that begins with `D`.
-fn parse_default(bytes: &[u8], at: usize) -> Parsed
+fn parse_default(bytes: &[u8], at: usize) -> Option<Line>
     requires { InText bytes.now at × (get_or bytes.now at 10 ≡ 68) }
     ensures { (n : ℕ) → ParsedAs bytes.now at n result }
 {
     if bytes[at + 1] != b',' {
-        return Parsed::Form;
+        return None;
     }
-    let Field::Number(condition, a) = number_before(bytes, at + 2, b',') else {
-        return Parsed::Form;
-    };
+    let condition = number_before(bytes, at + 2, b',')?;
+    let a = condition.end;
     if bytes[a] != b'U' {
-        return Parsed::Form;
+        return None;
     }
     if bytes[a + 1] != b'\n' {
-        return Parsed::Form;
+        return None;
     }
-    Parsed::Default {
-        condition,
+    Some(Line {
+        says: Parsed::Default {
+            condition: condition.value,
+        },
         next: a + 2,
-    }
+    })
 }
 
-// The line at a place, of a page with so many conditions.
-pub fn parse_line(bytes: &[u8], at: usize, conditions: u16) -> Parsed
+// The line at a place, of a page with so many conditions; none where it has no form.
+pub fn parse_line(bytes: &[u8], at: usize, conditions: u16) -> Option<Line>
     requires { InText bytes.now at }
     ensures { ParsedAs bytes.now at conditions result }
 {
@@ -239,6 +230,6 @@ pub fn parse_line(bytes: &[u8], at: usize, conditions: u16) -> Parsed
         b'R' => parse_rule(bytes, at, conditions),
         b'Q' => parse_query(bytes, at),
         b'D' => parse_default(bytes, at),
-        _ => Parsed::Form,
+        _ => None,
     }
 }

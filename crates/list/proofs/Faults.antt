@@ -15,7 +15,7 @@ use Rattle.semantics.specs.Trials.{TrialLine, is_trial, trial_in, line_end, tria
 use Rattle.fields.specs.Cursor.{fields_at}
 use Rattle.list.specs.declared.parse.Trial.{Trial}
 use Rattle.list.specs.Lines.{line_of, line_at, Says}
-use Rattle.list.specs.Checks.{fault_of, range_causes, order_causes, fault_in, LineGood, refusal}
+use Rattle.list.specs.Checks.{range_causes, order_causes, fault_in, LineGood, refusal}
 
 -- one of the causes of 40 holds
 second_forty : (t : Bool) (cs : List Cause) → first_of (cause t 40 ∷ cause true 40 ∷ cs) ≡ some 40
@@ -64,28 +64,31 @@ module _ (s : List ℕ) (at before top n : ℕ) where
         let m : l < 65536 = omega (arith, w.end) in
         rw (form_here, le-ltb (length s) l not_over, lt-ltb at 65536 (omega arith), lt-leb 65536 l m, line_says)
 
-    -- by the numbers for the range and for the order
-    module _ (h : at ≤ 65535) (k : next < 65536) (range order number : ℕ) (r : fault_of range ≡ first_of (range_causes top n (line_of line)))
-        (o : fault_of order ≡ first_of (order_causes before line.trial)) (f : fault_of number ≡ or_else (fault_of range) (fault_of order)) where
-      both_told : fault_in s at before top n ≡ fault_of number
-      both_told =
+    -- by what the range and the order tell
+    module _ (h : at ≤ 65535) (k : next < 65536) where
+      both_told : {o : Option ℕ} → o ≡ first_of (range_causes top n (line_of line)) → fault_in s at before top n ≡ or_else o (first_of (order_causes before line.trial))
+      both_told r =
           range_told h k
           ∙ first_append (range_causes top n (line_of line)) (order_causes before line.trial)
-          ∙ sym (f ∙ ap (λ (x : Option ℕ). or_else x (fault_of order)) r ∙ ap (or_else (first_of (range_causes top n (line_of line)))) o)
+          ∙ ap (λ (x : Option ℕ). or_else x (first_of (order_causes before line.trial))) (sym r)
 
-      pub number_told : (number ≡ 0 → ⊥) → fault_in s at before top n ≡ some number
-      number_told m = both_told ∙ rw (ne_eqb number 0 m)
+      pub range_first : {x : ℕ} → some x ≡ first_of (range_causes top n (line_of line)) → fault_in s at before top n ≡ some x
+      range_first r = both_told r
 
-      pub a_good_line : number ≡ 0 → LineGood s at before top n line.trial next
-      a_good_line e =
-          record {
-            good = both_told ∙ rw (eq-eqb number 0 e);
-            is = ap (λ (t : TrialLine). t.trial) w.is;
-            lines = w.lines;
-            end = w.end;
-            near = omega arith;
-            inside = w.inside;
-          }
+      module _ (r : none ≡ first_of (range_causes top n (line_of line))) where
+        pub order_first : {x : ℕ} → some x ≡ first_of (order_causes before line.trial) → fault_in s at before top n ≡ some x
+        order_first o = both_told r ∙ sym o
+
+        pub a_good_line : none ≡ first_of (order_causes before line.trial) → LineGood s at before top n line.trial next
+        a_good_line o =
+            record {
+              good = both_told r ∙ sym o;
+              is = ap (λ (t : TrialLine). t.trial) w.is;
+              lines = w.lines;
+              end = w.end;
+              near = omega arith;
+              inside = w.inside;
+            }
 
 -- The lines from line k of a list of `size` bytes on.
 module _ (top n size k at before : ℕ) (l : List ℕ) (ls : List (List ℕ)) where

@@ -1,5 +1,5 @@
 -- A line of a list, by what the parser has read of it. Assumes nothing.
-use mathlib.Core.Path.{◌≡◌, refl, sym, ◌∙◌, ap, subst}
+use mathlib.Core.Path.{◌≡◌, refl, sym, ◌∙◌, ap}
 use mathlib.Core.Bool.{true, false, ◌&&◌}
 use mathlib.Core.List.{List, [], ◌∷◌, append-nil}
 use mathlib.Core.Logic.{◌⊎◌, inl, inr, ⊎_elim}
@@ -14,16 +14,12 @@ use Rattle.semantics.specs.Trials.{trial_form, is_trial, trial_in}
 use Rattle.semantics.proofs.TestLists.{fails}
 use Rattle.semantics.proofs.TextParts.{joined_fields_of}
 use Rattle.fields.specs.Cursor.{InText, fields_at, field_at, lines_after, letter_then, number_before}
-use Rattle.fields.specs.declared.Field.{Field}
-use Rattle.fields.specs.declared.Field.TheVariants.{Number}
+use Rattle.fields.specs.declared.Token.{Token}
+use Rattle.std.proofs.Common.{Some}
+use Rattle.std.proofs.lemmas.Option.{cond_some}
 use Rattle.fields.proofs.Letters.{LetterThen, letter_absent, letter_or}
-use Rattle.fields.proofs.Tokens.{NumberThen, NumberLast, picked_number}
-use Rattle.list.specs.declared.parse.Front.{Front}
-use Rattle.list.specs.declared.parse.Front.TheVariants as front-as
-use Rattle.list.specs.declared.parse.Parsed.{Parsed}
-use Rattle.list.specs.declared.parse.Parsed.TheVariants.{Good, Form}
-use Rattle.list.specs.declared.parse.Trial.{Trial}
-use Rattle.list.specs.Lines.{line_at, FrontThen, FrontAt, Says, ParsedAs}
+use Rattle.fields.proofs.Tokens.{NumberThen, NumberLast}
+use Rattle.list.specs.Lines.{line_at, FrontThen, Says}
 use Rattle.list.proofs.EndedTexts.{line_inside, line_ends}
 
 -- one of the tests of the form fails, or there are not five fields
@@ -71,20 +67,12 @@ module _ (s : List ℕ) (at : ℕ) (k : LetterThen s at 84) where
           place = n.place;
         }
 
--- the answer of `parse_front` by its cases
-module _ (s : List ℕ) (at : ℕ) {r : Front} (p : FrontAt s at r) where
-  pub some_front : {v w e : ℕ} → r ≡ front-as.Good v w e → FrontThen s at v w e
-  some_front h = subst (FrontAt s at) h p
-
-  pub no_front : r ≡ front-as.Form → is_trial (fields_at (drop at s)) ≡ false
-  no_front h = subst (FrontAt s at) h p
-
 -- The number that is the last field of its line ends where the line does.
-pub number_end : {r : Field} (s : List ℕ) (at m : ℕ) → r ≡ number_before s at m → {v e : ℕ} → r ≡ Number v e → at + length (field_at s at) + 1 ≡ e
+pub number_end : (s : List ℕ) (at m : ℕ) {t : Token} → Some t ≡ number_before s at m → at + length (field_at s at) + 1 ≡ t.end
 unfolding number_before
-number_end s at m a {v} {e} h =
+number_end s at m {t} h =
     let f = field_at s at in
-    (picked_number (is_number f && eqb (get_or s (at + length f) 10) m) (number_in f) (at + length f + 1) v e (sym a ∙ h)).2
+    ap (λ (k : Token). k.end) (cond_some (is_number f && eqb (get_or s (at + length f) 10) m) (record { value = number_in f; end = at + length f + 1 }) t (sym h)).1
 
 module _ (s : List ℕ) (at : ℕ) {v e : ℕ} (n : NumberLast s at v e) (h : at + length (field_at s at) + 1 ≡ e) where
   last_line : line_at s at ≡ field_at s at
@@ -123,11 +111,3 @@ module _ (s : List ℕ) (at : ℕ) {v w a : ℕ} (k : FrontThen s at v w a) wher
             end = line_ends s at p.inside p.ended l i;
             inside = i;
           }
-
--- the answer of `parse_trial` by its cases
-module _ (s : List ℕ) (at : ℕ) {r : Parsed} (p : ParsedAs s at r) where
-  pub some_line : {line : Trial} {next : ℕ} → r ≡ Good line next → Says s at line next
-  some_line h = subst (ParsedAs s at) h p
-
-  pub no_line : r ≡ Form → is_trial (fields_at (drop at s)) ≡ false
-  no_line h = subst (ParsedAs s at) h p

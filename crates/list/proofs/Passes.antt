@@ -1,5 +1,5 @@
 -- The lines of an ended text, one after the other. Assumes nothing.
-use mathlib.Core.Path.{◌≡◌, refl, ◌∙◌, ap, subst}
+use mathlib.Core.Path.{◌≡◌, refl, ◌∙◌, ap}
 use mathlib.Core.List.{List, [], ◌∷◌, ◌++◌}
 use mathlib.Core.Option.{some}
 use Prim.Native.Nat.{ℕ, suc, ◌+◌, ◌-◌, ◌≤◌, ◌<◌}
@@ -10,20 +10,10 @@ use Rattle.semantics.specs.Text.{text_lines, fields_of}
 use Rattle.semantics.specs.Trials.{trial_in, bad_trial}
 use Rattle.fields.specs.Cursor.{fields_at, lines_after}
 use Rattle.reader.proofs.LinePlaces.{line_here}
-use Rattle.list.specs.declared.check.Checked.{Checked}
-use Rattle.list.specs.declared.check.Checked.TheVariants.{Good, Bad}
 use Rattle.list.specs.Lines.{line_at}
-use Rattle.list.specs.Checks.{Ended, fault_in, LineGood, CheckedLine, refusal, LinesGood}
+use Rattle.list.specs.Checks.{Ended, fault_in, LineGood, refusal, LinesGood}
 use Rattle.list.proofs.EndedTexts.{line_inside}
 use Rattle.list.proofs.Faults.{late_line, bad_line_lem, passed_line}
-
--- what a line comes to, by the cases of the answer
-module _ (s : List ℕ) (at before top n : ℕ) {r : Checked} (q : CheckedLine s at before top n r) where
-  pub good_told : {trial next : ℕ} → r ≡ Good trial next → LineGood s at before top n trial next
-  good_told e = subst (CheckedLine s at before top n) e q
-
-  pub bad_told : {number : ℕ} → r ≡ Bad number → fault_in s at before top n ≡ some number
-  bad_told e = subst (CheckedLine s at before top n) e q
 
 -- The lines have been checked as far as the place `at`, where line k begins, and `before` is the trial of the line before it.
 pub record Checking (s : List ℕ) (top n at k before : ℕ) : Type 0 where

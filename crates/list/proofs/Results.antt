@@ -1,6 +1,7 @@
 -- What reading a list answers and leaves, by what the two passes come to. Assumes nothing.
-use mathlib.Core.Path.{◌≡◌, refl, sym, ◌∙◌, ap, subst}
+use mathlib.Core.Path.{◌≡◌, refl, sym, ◌∙◌, ap}
 use mathlib.Core.List.{List, ◌++◌}
+use mathlib.Core.Option.{some}
 use Prim.Native.Nat.{ℕ, ◌+◌, ◌*◌, ◌≤◌}
 use native.Mathlib.Omega.{arith}
 use lib.ListN.{length, drop}
@@ -8,10 +9,8 @@ use lib.Seq.{sets, sets-eq}
 use Rattle.semantics.specs.Page.{Page}
 use Rattle.semantics.specs.Text.{text_lines}
 use Rattle.semantics.specs.Trials.{list_refusal, trial_lines_in}
-use Rattle.list.specs.declared.ListAnswer.{ListAnswer}
-use Rattle.list.specs.declared.ListAnswer.TheVariants.{Read, Refused}
-use Rattle.list.specs.Checks.{bad_in, Accepted, CheckedAs, codes_from, LinesFit}
-use Rattle.list.specs.Answers.{ListRefused, ListRead, ListAs}
+use Rattle.list.specs.Checks.{refusal, bad_in, Accepted, codes_from, LinesFit}
+use Rattle.list.specs.Answers.{ListRefused, ListRead}
 use Rattle.list.proofs.GoodLines.{all_trials}
 use Rattle.list.proofs.Codes.{length_trials, length_codes}
 
@@ -20,22 +19,11 @@ pub refusal_for : (page : Page) (bytes : List ℕ) → list_refusal page bytes �
 unfolding list_refusal
 refusal_for page bytes = refl
 
--- the answer of `read_list` by its cases
-module _ (bytes : List ℕ) (top n : ℕ) (list list' : List ℕ) {r : ListAnswer} (q : ListAs bytes top n list list' r) where
-  pub refused_told : {number line : ℕ} → r ≡ Refused number line → ListRefused bytes top n number line list list'
-  refused_told e = subst (ListAs bytes top n list list') e q
+module _ (s : List ℕ) (top n : ℕ) (list : List ℕ) where
+  pub list_refused : {number line : ℕ} → bad_in s top n ≡ some (refusal number line) → ListRefused s top n number line list list
+  list_refused e = record { told = e; same = refl }
 
-  pub read_told : {k : ℕ} → r ≡ Read k → ListRead bytes top n k list list'
-  read_told e = subst (ListAs bytes top n list list') e q
-
-module _ (s : List ℕ) (top n : ℕ) (list : List ℕ) {r : ListAnswer} (q : CheckedAs s top n r) where
-  pub list_refused : {number line : ℕ} → r ≡ Refused number line → ListRefused s top n number line list list
-  list_refused e = record { told = subst (CheckedAs s top n) e q; same = refl }
-
-  module _ {k : ℕ} (e : r ≡ Read k) (room : 4096 ≤ length list) where
-    accepted : Accepted s top n k
-    accepted = subst (CheckedAs s top n) e q
-
+  module _ {k : ℕ} (accepted : Accepted s top n k) (room : 4096 ≤ length list) where
     count_is : k ≡ length (trial_lines_in (text_lines s))
     count_is = accepted.count ∙ sym (length_trials (text_lines s))
 

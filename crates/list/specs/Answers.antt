@@ -1,12 +1,12 @@
 -- What reading a list answers, and what it leaves. Assumes nothing.
-use Rattle.std.specs.Prelude.{◌≡◌, List, ◌++◌, ℕ, ◌*◌, ◌≤◌, length, drop}
+use Rattle.std.specs.Prelude.{◌≡◌, List, ◌++◌, ℕ, ◌*◌, ◌≤◌, length, drop, Result, Ok, Err}
 use Rattle.std.proofs.Math.Option.{none, some}
 use Rattle.semantics.specs.Text.{text_lines}
 use Rattle.semantics.specs.Trials.{trial_lines_in}
 use Rattle.list.specs.Codes.{list_codes}
 use Rattle.list.specs.Checks.{refusal, bad_in}
-use Rattle.list.specs.declared.ListAnswer.{ListAnswer}
-use Rattle.list.specs.declared.ListAnswer.TheVariants.{Refused, Read}
+use Rattle.list.specs.declared.Refusal.{Refusal}
+use Rattle.list.specs.Causes.{number_of}
 
 -- a refused list: the first bad line, the number of its first cause, and nothing is written
 pub record ListRefused (bytes : List ℕ) (top n number line : ℕ) (list list' : List ℕ) : Type 0 where
@@ -20,6 +20,6 @@ pub record ListRead (bytes : List ℕ) (top n k : ℕ) (list list' : List ℕ) :
   pub few : k ≤ 1024
   pub written : list' ≡ list_codes (trial_lines_in (text_lines bytes)) ++ drop (4 * k) list
 
-abbrev pub ListAs : (bytes : List ℕ) (top n : ℕ) (list list' : List ℕ) → ListAnswer → Type 0
-ListAs bytes top n list list' (Refused number line) = ListRefused bytes top n number line list list'
-ListAs bytes top n list list' (Read k) = ListRead bytes top n k list list'
+abbrev pub ListAs : (bytes : List ℕ) (top n : ℕ) (list list' : List ℕ) → Result ℕ Refusal → Type 0
+ListAs bytes top n list list' (Err r) = ListRefused bytes top n (number_of r.cause) r.line list list'
+ListAs bytes top n list list' (Ok k) = ListRead bytes top n k list list'

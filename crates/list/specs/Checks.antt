@@ -1,5 +1,5 @@
 -- What the two passes over a list hand back and write. Assumes nothing.
-use Rattle.std.specs.Prelude.{◌≡◌, true, cond, List, [], ◌∷◌, ◌++◌, ℕ, ◌+◌, ◌-◌, ◌≤◌, eqb, ltb, length, get_or, take, drop}
+use Rattle.std.specs.Prelude.{◌≡◌, true, List, [], ◌∷◌, ◌++◌, ℕ, ◌+◌, ◌-◌, ◌≤◌, ltb, length, get_or, take, drop, Result, Ok, Err}
 use Rattle.std.proofs.Math.Option.{Option, none, some}
 use Rattle.semantics.specs.Call.{Cause, cause, first_of}
 use Rattle.semantics.specs.Text.{text_lines, fields_of}
@@ -8,14 +8,10 @@ use Rattle.semantics.specs.Trials.{TrialLine, is_trial, trial_in, line_end, tria
 use Rattle.fields.specs.Cursor.{fields_at, lines_after}
 use Rattle.list.specs.Codes.{list_codes}
 use Rattle.list.specs.Lines.{line_at}
-use Rattle.list.specs.declared.ListAnswer.{ListAnswer}
-use Rattle.list.specs.declared.ListAnswer.TheVariants.{Refused, Read}
-use Rattle.list.specs.declared.check.Checked.{Checked}
-use Rattle.list.specs.declared.check.Checked.TheVariants.{Good, Bad}
-
--- the number of a refusal, where 0 is none
-abbrev pub fault_of : ℕ → Option ℕ
-fault_of number = cond (eqb number 0) none (some number)
+use Rattle.list.specs.declared.Cause.{Cause as Why}
+use Rattle.list.specs.declared.Refusal.{Refusal as Refused}
+use Rattle.list.specs.declared.parse.Known.{Known}
+use Rattle.list.specs.Causes.{number_of}
 
 -- the causes of 41, and the cause of 42 where `before` is the trial of the line before
 abbrev pub range_causes : (top n : ℕ) → TrialLine → List Cause
@@ -41,9 +37,9 @@ pub record LineGood (s : List ℕ) (at before top n trial next : ℕ) : Type 0 w
   pub near : next ≤ 65535
   pub inside : next ≤ length s
 
-abbrev pub CheckedLine : List ℕ → (at before top n : ℕ) → Checked → Type 0
-CheckedLine s at before top n (Good trial next) = LineGood s at before top n trial next
-CheckedLine s at before top n (Bad number) = fault_in s at before top n ≡ some number
+abbrev pub CheckedLine : List ℕ → (at before top n : ℕ) → Result Known Why → Type 0
+CheckedLine s at before top n (Ok k) = LineGood s at before top n k.line.trial k.next
+CheckedLine s at before top n (Err c) = fault_in s at before top n ≡ some (number_of c)
 
 -- a refusal, which has no place
 abbrev pub refusal : ℕ → ℕ → Refusal
@@ -57,9 +53,9 @@ pub record LinesGood (s : List ℕ) (top n k : ℕ) : Type 0 where
   pub few : k ≤ 1024
 
 -- the lines of an ended text, whatever lines follow them in a list of `size` bytes
-abbrev pub LinesAs : List ℕ → (top n : ℕ) → ListAnswer → Type 0
-LinesAs s top n (Read k) = LinesGood s top n k
-LinesAs s top n (Refused number line) = (size : ℕ) (ls : List (List ℕ)) → length s ≤ size → bad_trial top n size 1 0 0 (text_lines s ++ ls) ≡ some (refusal number line)
+abbrev pub LinesAs : List ℕ → (top n : ℕ) → Result ℕ Refused → Type 0
+LinesAs s top n (Ok k) = LinesGood s top n k
+LinesAs s top n (Err r) = (size : ℕ) (ls : List (List ℕ)) → length s ≤ size → bad_trial top n size 1 0 0 (text_lines s ++ ls) ≡ some (refusal (number_of r.cause) r.line)
 
 -- the first `end` bytes end with the last byte 10, and the bytes behind them form one line, if there are any
 pub record EndedPart (s : List ℕ) (end : ℕ) : Type 0 where
@@ -78,9 +74,9 @@ pub record Accepted (s : List ℕ) (top n k : ℕ) : Type 0 where
   pub few : k ≤ 1024
   pub ended : Ended s
 
-abbrev pub CheckedAs : List ℕ → (top n : ℕ) → ListAnswer → Type 0
-CheckedAs s top n (Read k) = Accepted s top n k
-CheckedAs s top n (Refused number line) = bad_in s top n ≡ some (refusal number line)
+abbrev pub CheckedAs : List ℕ → (top n : ℕ) → Result ℕ Refused → Type 0
+CheckedAs s top n (Ok k) = Accepted s top n k
+CheckedAs s top n (Err r) = bad_in s top n ≡ some (refusal (number_of r.cause) r.line)
 
 -- every line has the form
 abbrev pub AllTrials : List (List ℕ) → Type 0

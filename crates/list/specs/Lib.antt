@@ -1,3 +1,4 @@
+pub mod Causes
 pub mod Codes
 pub mod Lines
 pub mod Checks

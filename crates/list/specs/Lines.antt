@@ -1,13 +1,11 @@
 -- What the parser of a line of a list hands back. Assumes nothing.
-use Rattle.std.specs.Prelude.{◌≡◌, true, false, List, [], ◌∷◌, ℕ, ◌<◌, ◌≤◌, length, get_or, drop}
+use Rattle.std.specs.Prelude.{◌≡◌, true, false, List, [], ◌∷◌, ℕ, ◌<◌, ◌≤◌, length, get_or, drop, Option, Some, None}
 use Rattle.semantics.specs.Text.{text_lines, is_number, number_in}
 use Rattle.semantics.specs.Trials.{TrialLine, is_trial, trial_in, line_end}
 use Rattle.fields.specs.Cursor.{InText, fields_at, lines_after}
 use Rattle.list.specs.declared.parse.Trial.{Trial}
-use Rattle.list.specs.declared.parse.Front.{Front}
-use Rattle.list.specs.declared.parse.Front.TheVariants as front-as
-use Rattle.list.specs.declared.parse.Parsed.{Parsed}
-use Rattle.list.specs.declared.parse.Parsed.TheVariants.{Good, Form}
+use Rattle.lines.specs.declared.Pair.{Pair}
+use Rattle.list.specs.declared.parse.Known.{Known}
 
 -- what the numbers say
 abbrev pub line_of : Trial → TrialLine
@@ -30,9 +28,9 @@ pub record FrontThen (s : List ℕ) (at v w e : ℕ) : Type 0 where
   pub ahead : at < e
   pub place : InText s e
 
-abbrev pub FrontAt : List ℕ → ℕ → Front → Type 0
-FrontAt s at (front-as.Good v w e) = FrontThen s at v w e
-FrontAt s at front-as.Form = is_trial (fields_at (drop at s)) ≡ false
+abbrev pub FrontAt : List ℕ → ℕ → Option Pair → Type 0
+FrontAt s at (Some p) = FrontThen s at p.first p.second p.next
+FrontAt s at None = is_trial (fields_at (drop at s)) ≡ false
 
 -- the line at a place has the form and says `line`, and the next begins at the place `next`, behind its byte 10
 pub record Says (s : List ℕ) (at : ℕ) (line : Trial) (next : ℕ) : Type 0 where
@@ -42,6 +40,6 @@ pub record Says (s : List ℕ) (at : ℕ) (line : Trial) (next : ℕ) : Type 0 w
   pub end : next ≡ line_end at (line_at s at)
   pub inside : next ≤ length s
 
-abbrev pub ParsedAs : List ℕ → ℕ → Parsed → Type 0
-ParsedAs s at (Good line next) = Says s at line next
-ParsedAs s at Form = is_trial (fields_at (drop at s)) ≡ false
+abbrev pub ParsedAs : List ℕ → ℕ → Option Known → Type 0
+ParsedAs s at (Some k) = Says s at k.line k.next
+ParsedAs s at None = is_trial (fields_at (drop at s)) ≡ false

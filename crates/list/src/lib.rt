@@ -6,31 +6,60 @@ mod check;
 mod parse;
 mod write;
 
-ghost use Rattle.std.specs.Prelude.{◌≤◌, length};
+ghost use Rattle.std.specs.Prelude.{◌≡◌, ◌≤◌, length};
 ghost use Rattle.list.specs.Answers.{ListAs};
+ghost use Rattle.list.specs.Causes.{number_of};
 
 use crate::check::check_list;
 use crate::write::write_trials;
 
-// The number of a refusal and its line, or how many lines a list has that is read.
-#[derive(Clone, Copy)]
-pub enum ListAnswer {
-    Refused { number: u16, line: usize },
-    Read(usize),
+// Why a list is refused.
+#[derive(Clone, Copy, Debug, PartialEq, Eq)]
+pub enum Cause {
+    Form,
+    Range,
+    Order,
 }
 
-// Reads the list for a page with such a top and so many conditions: four numbers for each line, at the front of `list`. A refused list
-// leaves it as it is.
-pub fn read_list(bytes: &[u8], top: u16, conditions: u16, list: &mut [u16]) -> ListAnswer
+impl Cause {
+    // The number of the refusal.
+    pub fn number(self) -> u16
+        ensures { result ≡ number_of self }
+    {
+        match self {
+            Cause::Form => 40,
+            Cause::Range => 41,
+            Cause::Order => 42,
+        }
+    }
+
+    // A refusal for it, told with a line.
+    fn at(self, line: usize) -> Refusal
+        ensures { result ≡ record { cause = self; line = line } }
+    {
+        Refusal { cause: self, line }
+    }
+}
+
+// A refusal: its cause, and the line, from 1.
+#[derive(Clone, Copy)]
+pub struct Refusal {
+    pub cause: Cause,
+    pub line: usize,
+}
+
+// Reads the list for a page with such a top and so many conditions: four numbers for each line, at the front of `list`. Answers how many
+// lines there are. A refused list leaves the slice as it is.
+pub fn read_list(
+    bytes: &[u8],
+    top: u16,
+    conditions: u16,
+    list: &mut [u16],
+) -> Result<usize, Refusal>
     requires { 4096 ≤ length list.old }
     ensures { ListAs bytes.now top conditions list.old list.new result }
 {
-    let answer = check_list(bytes, top, conditions);
-    match answer {
-        ListAnswer::Refused { number, line } => ListAnswer::Refused { number, line },
-        ListAnswer::Read(count) => {
-            write_trials(bytes, list);
-            ListAnswer::Read(count)
-        }
-    }
+    let count = check_list(bytes, top, conditions)?;
+    write_trials(bytes, list);
+    Ok(count)
 }

@@ -5,7 +5,8 @@ ghost use Rattle.semantics.specs.Trials.{is_trial};
 ghost use Rattle.fields.specs.Cursor.{InText, fields_at};
 ghost use Rattle.list.specs.Lines.{FrontAt, ParsedAs, Says};
 
-use fields::{Field, checked_number, number_before};
+use fields::{checked_number, number_before};
+use lines::Pair;
 
 // The numbers of a line.
 #[derive(Clone, Copy)]
@@ -16,70 +17,54 @@ pub struct Trial {
     pub high: u16,
 }
 
-// What is read of a line, with the place of the next line; or that it has no form.
-#[derive(Clone, Copy)]
-pub enum Parsed {
-    Good(Trial, usize),
-    Form,
-}
-
-// The trial, the condition and the place of the field after them, or that the line has no form.
-#[derive(Clone, Copy)]
-enum Front {
-    Good(u16, u16, usize),
-    Form,
-}
-
-// The letter `T` and the two numbers behind it.
-fn parse_front(bytes: &[u8], at: usize) -> Front
-    requires { InText bytes.now at }
-    ensures { FrontAt bytes.now at result }
-{
-    if bytes[at] != b'T' {
-        return Front::Form;
-    }
-    if bytes[at + 1] != b',' {
-        return Front::Form;
-    }
-    let Field::Number(trial, a) = number_before(bytes, at + 2, b',') else {
-        return Front::Form;
-    };
-    let Field::Number(condition, next) = number_before(bytes, a, b',') else {
-        return Front::Form;
-    };
-    Front::Good(trial, condition, next)
-}
-
-// The line at a place.
-pub fn parse_trial(bytes: &[u8], at: usize) -> Parsed
-    requires { InText bytes.now at }
-    ensures { ParsedAs bytes.now at result }
-{
-    let Front::Good(trial, condition, a) = parse_front(bytes, at) else {
-        return Parsed::Form;
-    };
-    let Field::Number(low, b) = number_before(bytes, a, b',') else {
-        return Parsed::Form;
-    };
-    let Field::Number(high, next) = number_before(bytes, b, b'\n') else {
-        return Parsed::Form;
-    };
-    Parsed::Good(
-        Trial {
-            trial,
-            condition,
-            low,
-            high,
-        },
-        next,
-    )
-}
-
-// A line that is known to have the form, and the place of the next line.
+// A line that has the form, and the place of the next line.
 #[derive(Clone, Copy)]
 pub struct Known {
     pub line: Trial,
     pub next: usize,
+}
+
+// The letter of a line.
+const LETTER: u8 = b'T';
+
+// The letter `T` and the two numbers behind it, the trial and the condition; none where the line has no form. Not `lines::parse_pair`: its contract
+// speaks of the forms of a page's lines.
+fn parse_front(bytes: &[u8], at: usize) -> Option<Pair>
+    requires { InText bytes.now at }
+    ensures { FrontAt bytes.now at result }
+{
+    if bytes[at] != LETTER {
+        return None;
+    }
+    if bytes[at + 1] != b',' {
+        return None;
+    }
+    let trial = number_before(bytes, at + 2, b',')?;
+    let condition = number_before(bytes, trial.end, b',')?;
+    Some(Pair {
+        first: trial.value,
+        second: condition.value,
+        next: condition.end,
+    })
+}
+
+// The line at a place; none where it has no form.
+pub fn parse_trial(bytes: &[u8], at: usize) -> Option<Known>
+    requires { InText bytes.now at }
+    ensures { ParsedAs bytes.now at result }
+{
+    let front = parse_front(bytes, at)?;
+    let low = number_before(bytes, front.next, b',')?;
+    let high = number_before(bytes, low.end, b'\n')?;
+    Some(Known {
+        line: Trial {
+            trial: front.first,
+            condition: front.second,
+            low: low.value,
+            high: high.value,
+        },
+        next: high.end,
+    })
 }
 
 // The line at a place, where it is known to have the form.

@@ -13,13 +13,10 @@ fn put_trial(list: &mut [u16], at: usize, line: Trial)
     requires { at + 4 ≤ length list.old }
     ensures { list.new ≡ sets list.old at (trial_code (line_of line)) }
 {
-    list[at] = line.trial;
-    list[at + 1] = line.condition;
-    list[at + 2] = line.low;
-    list[at + 3] = line.high;
+    list[at..at + 4].copy_from_slice(&[line.trial, line.condition, line.low, line.high]);
 }
 
-// The numbers of all lines.
+// The numbers of all lines. Each line tells where the next begins, so the places go on by hand.
 pub fn write_trials(bytes: &[u8], list: &mut [u16])
     requires { LinesFit bytes.now 0 list.old 0 }
     ensures { list.new ≡ sets list.old 0 (codes_from bytes.now 0) }
@@ -28,8 +25,7 @@ pub fn write_trials(bytes: &[u8], list: &mut [u16])
     let mut end: usize = 0;
     while at < bytes.len() {
         let known = checked_trial(bytes, at);
-        let line = known.line;
-        put_trial(list, end, line);
+        put_trial(list, end, known.line);
         at = known.next;
         end += 4;
     }

@@ -11,15 +11,7 @@ use Rattle.semantics.specs.Area.{kind, every, all_under, field_tests, line_tests
 use Rattle.semantics.proofs.Soundness.{both_true}
 use Rattle.page.specs.Lines.{step_at}
 use Rattle.page.specs.Checks.{head_ok, rule_ok}
-use Rattle.page.proofs.Scan.{Remaining, remaining_first, under_break, under_last, span_rule, span_short, head_entry, head_in, rule_entry, short_entry, entry_fits, lines_bad, lines_behind, lines_last}
-
--- what a function that answers b told, seen behind a test of its answer
-module _ {r b : Bool} (e : r ≡ b) where
-  pub told_true : r ≡ true → b ≡ true
-  told_true f = sym e ∙ f
-
-  pub told_false : r ≡ false → b ≡ false
-  told_false f = sym e ∙ f
+use Rattle.page.proofs.Scan.{all_in, one_out, span_rule, span_short, head_entry, head_in, rule_entry, short_entry, entry_fits, lines_bad, lines_behind, lines_last}
 
 module _ (a : List ℕ) (used count top n : ℕ) where
   -- what the scan is to answer
@@ -93,17 +85,20 @@ module _ (a : List ℕ) (used count top n : ℕ) where
           pub rule_ends : at + 4 + get_or a (at + 3) 0 ≤ used
           rule_ends = leb-true (at + 4 + get_or a (at + 3) 0) used (both_true (leb (at + 4 + get_or a (at + 3) 0) used) _ t).0
 
-          pub literals_first : Remaining literals a (at + 4) (get_or a (at + 3) 0) 0
-          literals_first = remaining_first literals a (at + 4) (get_or a (at + 3) 0) (omega (arith, rule_ends, s.in_area))
+          -- the literals as the code slices them
+          abbrev codes : List ℕ
+          codes = take (at + 4 + get_or a (at + 3) 0 - (at + 4)) (drop (at + 4) a)
 
-          module _ {j : ℕ} (b : Remaining literals a (at + 4) (get_or a (at + 3) 0) j) where
-            pub literals_bad : j < get_or a (at + 3) 0 → 2 * n ≤ get_or a (at + 4 + j) 0 → false ≡ answer
-            literals_bad h g = fails (sym whole ∙ rw (t, under_break a (at + 4) (get_or a (at + 3) 0) (2 * n) b h g))
+          codes_are : codes ≡ take (get_or a (at + 3) 0) (drop (at + 4) a)
+          codes_are = let e : at + 4 + get_or a (at + 3) 0 - (at + 4) ≡ get_or a (at + 3) 0 = omega arith in rw e
 
-            pub rule_next : get_or a (at + 3) 0 ≤ j → Checking (at + 4 + get_or a (at + 3) 0) (k + 1)
-            rule_next h =
-                let q : at + step_at a at ≡ at + 4 + get_or a (at + 3) 0 = omega (arith, span_rule (get_or a (at + 1) 0) (get_or a (at + 3) 0) lo hi) in
-                rw q at (moves (sym whole ∙ rw (t, under_last a (at + 4) (get_or a (at + 3) 0) (2 * n) b h)))
+          pub literals_bad : (j : ℕ) → j < length codes → 2 * n ≤ get_or codes j 0 → false ≡ answer
+          literals_bad j l g = fails (sym whole ∙ rw (t, ← codes_are, one_out (2 * n) codes j l g))
+
+          pub rule_next : ((j : ℕ) → j < length codes → get_or codes j 0 < 2 * n) → Checking (at + 4 + get_or a (at + 3) 0) (k + 1)
+          rule_next h =
+              let q : at + step_at a at ≡ at + 4 + get_or a (at + 3) 0 = omega (arith, span_rule (get_or a (at + 1) 0) (get_or a (at + 3) 0) lo hi) in
+              rw q at (moves (sym whole ∙ rw (t, ← codes_are, all_in (2 * n) codes h)))
 
   pub checking_last : {at k : ℕ} → Checking at k → count ≤ k → eqb at used ≡ answer
   checking_last {at} {k} s l = sym (s.is ∙ lines_last top n (count - k) a at used s.in_used (omega (arith, s.in_count)))

@@ -16,13 +16,23 @@ use Rattle.semantics.specs.Page.{Line, defaults}
 use Rattle.semantics.specs.Table.{all_below}
 use Rattle.semantics.proofs.Soundness.{every_true, every_of}
 use Rattle.semantics.proofs.Table.{iff_eq, all_true, all_at}
-use Rattle.bits.specs.Words.{has, Inserted}
-use Rattle.page.specs.Checks.{Lined, CollectedAt, Collected, number_tells}
-use Rattle.page.specs.Lines.{Next}
+use Rattle.bits.specs.Words.{has}
+use Rattle.page.specs.Checks.{Lined, CollectedAt, number_tells}
+use Rattle.page.specs.Lines.{Next, Scanning}
 use Rattle.page.proofs.Scan.{line_at_lem, default_kind_lem, entry_head}
-use Rattle.page.proofs.Scanning.{Scanning, lines_left, scanning_begun, lines_first, entry_ok, scanning_moved, lines_moved, lines_none}
+use Rattle.page.proofs.Scanning.{lines_left, scanning_begun, lines_first, entry_ok, scanning_moved, lines_moved, lines_none}
 use Rattle.page.specs.Solvable.{solvable}
 use Rattle.page.proofs.Solvable.{solvable_parts}
+
+-- the set has the conditions of the D lines, each of which has one
+pub record Collected (a seen : List ℕ) : Type 0 where
+  pub all : (c : ℕ) → c < 512 → defaults (page_of a).lines c ≡ bit (has seen c)
+
+-- some condition has two D lines
+pub record Twice (a : List ℕ) : Type 0 where
+  pub condition : ℕ
+  pub in_page : condition < conditions_of a
+  pub two : 2 ≤ defaults (page_of a).lines condition
 
 -- only 7 is the kind of a D line
 kind_seven : (k : ℕ) → kind k ≡ default_kind → k ≡ 7
@@ -59,34 +69,21 @@ bit_or true true n = absurd (n refl refl)
 bit_or true false n = refl
 bit_or false y n = omega arith
 
--- one entry
-module _ (a : List ℕ) (at : ℕ) {seen : List ℕ} where
-  pub at_past : length seen ≡ 8 → get_or a (at + 1) 0 ≢ 7 → CollectedAt a at seen seen true
-  at_past z n = record { size = z; past = λ e. (refl, refl); taken = λ e. absurd (n e); again = λ e. absurd (false≢true (sym e)) }
-
-  pub at_again : length seen ≡ 8 → get_or a (at + 1) 0 ≡ 7 → has seen (get_or a at 0) ≡ true → CollectedAt a at seen seen false
-  at_again z e h = record { size = z; past = λ n. absurd (n e); taken = λ f g. absurd (false≢true g); again = λ f. (e, h, refl) }
-
-  pub at_taken : get_or a (at + 1) 0 ≡ 7 → has seen (get_or a at 0) ≡ false → {seen' : List ℕ} → Inserted (get_or a at 0) seen seen' → CollectedAt a at seen seen' true
-  at_taken e h i = record { size = i.0; past = λ n. absurd (n e); taken = λ f g. (h, i); again = λ f. absurd (false≢true (sym f)) }
-
 module _ (a : List ℕ) where
   -- the scan stands at `at`, behind k lines: the set and the lines still to come make up all D lines
   pub record Collecting (at k : ℕ) (seen : List ℕ) : Type 0 where
     pub scanning : Scanning a at k
     pub few : conditions_of a ≤ 512
     pub lines : count_of a ≤ 1024
-    pub size : length seen ≡ 8
     pub split : (c : ℕ) → c < 512 → defaults (page_of a).lines c ≡ bit (has seen c) + defaults (lines_left a at k) c
 
-  pub collecting_first : Lined a → {seen : List ℕ} → length seen ≡ 8 → ((c : ℕ) → c < 512 → has seen c ≡ false) → {at k : ℕ} → (at ≡ first_line a) × (k ≡ 0) → Collecting at k seen
-  collecting_first l {seen} z e {at} {k} p =
+  pub collecting_first : Lined a → {seen : List ℕ} → ((c : ℕ) → c < 512 → has seen c ≡ false) → {at k : ℕ} → (at ≡ first_line a) × (k ≡ 0) → Collecting at k seen
+  collecting_first l {seen} e {at} {k} p =
       rw (p.0, p.1)
       (record {
         scanning = scanning_begun a l.begins l.inside l.entries;
         few = l.few;
         lines = l.lines;
-        size = z;
         split = λ c h. rw (e c h) (ap (λ (ls : List Line). defaults ls c) (sym (lines_first a)) ∙ omega arith);
       })
 
@@ -120,40 +117,34 @@ module _ (a : List ℕ) where
             scanning = scanning_moved a s.scanning l m;
             few = s.few;
             lines = s.lines;
-            size = t.size;
             split = λ c h. s.split c h ∙ sym (split_on t r c h);
           }
 
-      pub collected_twice : get_or a at 0 < conditions_of a → {seen' : List ℕ} {first : Bool} → CollectedAt a at seen seen' first → first ≡ false → Collected a seen' false
+      pub collected_twice : get_or a at 0 < conditions_of a → {seen' : List ℕ} {first : Bool} → CollectedAt a at seen seen' first → first ≡ false → Twice a
       collected_twice below t r =
           let d = get_or a at 0 in
           let q = t.again r in
           record {
-            size = t.size;
-            all = λ e. absurd (false≢true e);
-            twice = λ e. (
-              d,
-              below,
-              omega (arith, s.split d (omega (arith, s.few)), ap bit q.1, moved d, defaults_on a at d left q.0, ap bit (eq-eqb d d refl)),
-            );
+            condition = d;
+            in_page = below;
+            two = omega (arith, s.split d (omega (arith, s.few)), ap bit q.1, moved d, defaults_on a at d left q.0, ap bit (eq-eqb d d refl));
           }
 
   pub lined_four : Lined a → 4 ≤ length a
   lined_four l = omega (arith, l.begins, l.inside)
+
+  pub lined_scanning : Lined a → Scanning a (first_line a) 0
+  lined_scanning l = scanning_begun a l.begins l.inside l.entries
 
   -- the condition of the entry here
   pub head_below : {at k : ℕ} {seen : List ℕ} → Collecting at k seen → k < count_of a → get_or a at 0 < conditions_of a
   head_below {at} s l = entry_head _ (conditions_of a) _ a at (entry_ok a s.scanning l)
 
   -- all lines are passed
-  pub collected_all : {at k : ℕ} {seen : List ℕ} → Collecting at k seen → count_of a ≤ k → Collected a seen true
+  pub collected_all : {at k : ℕ} {seen : List ℕ} → Collecting at k seen → count_of a ≤ k → Collected a seen
   unfolding defaults
   collected_all {at} {k} {seen} s l =
-      record {
-        size = s.size;
-        all = λ e c h. s.split c h ∙ ap (λ (ls : List Line). bit (has seen c) + defaults ls c) (lines_none a at k l) ∙ omega arith;
-        twice = λ e. absurd (false≢true (sym e));
-      }
+      record { all = λ c h. s.split c h ∙ ap (λ (ls : List Line). bit (has seen c) + defaults ls c) (lines_none a at k l) ∙ omega arith }
 
   -- what the D numbers are held to
   told : defaults_ok a ≡ true → (c : ℕ) → c < conditions_of a → (default_of a c ≤ 1) × (default_of a c ≡ defaults (page_of a).lines c)
@@ -163,21 +154,14 @@ module _ (a : List ℕ) where
       (leb-true (default_of a c) 1 h.0, eqb-true (default_of a c) (defaults (page_of a).lines c) h.1.0)
 
   -- a condition with two D lines
-  pub defaults_twice : {seen : List ℕ} → Collected a seen false → false ≡ defaults_ok a
+  pub defaults_twice : Twice a → false ≡ defaults_ok a
   defaults_twice s =
-      let t = s.twice refl in
-      iff_eq false (defaults_ok a) (λ e. absurd (false≢true e)) (λ e. let d = told e t.0 t.1 in absurd (omega (arith, d.0, d.1, t.2)))
+      iff_eq false (defaults_ok a) (λ e. absurd (false≢true e))
+      (λ e. let d = told e s.condition s.in_page in absurd (omega (arith, d.0, d.1, s.two)))
 
   bit_most : (t : Bool) → bit t ≤ 1
   bit_most true = omega arith
   bit_most false = omega arith
-
-  -- what a D number is compared with
-  pub told_in : (seen : List ℕ) (c : ℕ) → has seen c ≡ true → eqb (default_of a c) 1 ≡ number_tells a seen c
-  told_in seen c e = ap (λ (t : Bool). eqb (default_of a c) (bit t)) (sym e)
-
-  pub told_out : (seen : List ℕ) (c : ℕ) → has seen c ≡ false → eqb (default_of a c) 0 ≡ number_tells a seen c
-  told_out seen c e = ap (λ (t : Bool). eqb (default_of a c) (bit t)) (sym e)
 
   -- a D number that does not tell
   pub number_bad : (seen : List ℕ) {c : ℕ} → c < conditions_of a → number_tells a seen c ≡ false → false ≡ all_below (conditions_of a) (number_tells a seen)
@@ -186,7 +170,7 @@ module _ (a : List ℕ) where
       (λ e. absurd (false≢true (sym f ∙ all_at (conditions_of a) (number_tells a seen) e c l)))
 
   -- no condition has two: the set decides
-  module _ {seen : List ℕ} (few : conditions_of a ≤ 512) (s : Collected a seen true) where
+  module _ {seen : List ℕ} (few : conditions_of a ≤ 512) (s : Collected a seen) where
     pub numbers_decide : all_below (conditions_of a) (number_tells a seen) ≡ defaults_ok a
     unfolding defaults_ok
     numbers_decide =
@@ -195,9 +179,9 @@ module _ (a : List ℕ) where
         let h = eqb-true (default_of a c) (bit (has seen c)) (all_at (conditions_of a) (number_tells a seen) e c l) in
         every_of (default_tests a c) (
           le-leb (default_of a c) 1 (omega (arith, h, bit_most (has seen c))),
-          (eq-eqb (default_of a c) (defaults (page_of a).lines c) (h ∙ sym (s.all refl c (omega (arith, few)))), tt),
+          (eq-eqb (default_of a c) (defaults (page_of a).lines c) (h ∙ sym (s.all c (omega (arith, few)))), tt),
         )))
-        (λ e. all_true (conditions_of a) (number_tells a seen) (λ c l. eq-eqb (default_of a c) (bit (has seen c)) ((told e c l).1 ∙ s.all refl c (omega (arith, few)))))
+        (λ e. all_true (conditions_of a) (number_tells a seen) (λ c l. eq-eqb (default_of a c) (bit (has seen c)) ((told e c l).1 ∙ s.all c (omega (arith, few)))))
 
 -- the D number of a condition tells whether it is unknown by default
 pub default_told : (a : List ℕ) → solvable a ≡ true → (c : ℕ) → c < conditions_of a → eqb (default_of a c) 1 ≡ unknown_by_default (page_of a) c

@@ -12,7 +12,7 @@ use borrow.Author.Tests.{leb-true, ltb-true}
 use Rattle.semantics.specs.Area.{Kind, fact_kind, rule_kind, kind, span_as, every, field_tests, line_tests, all_under}
 use Rattle.page.specs.Graded.{RuleAt}
 use Rattle.semantics.proofs.Soundness.{Every, every_true, both_true}
-use Rattle.page.proofs.Scan.{part_cons, rule_kind_lem, fact_kind_lem, entry_fits, entry_four}
+use Rattle.page.proofs.Scan.{part_cons, rule_kind_lem, fact_kind_lem, entry_fits}
 
 -- a product of two grades fits 16 bits
 pub small_product : {p q : ℕ} → p ≤ 200 → q ≤ 200 → p * q < 65536
@@ -50,9 +50,6 @@ module _ (top n left : ℕ) (a : List ℕ) (at : ℕ) (fits : at + left ≤ leng
   tested : Every (field_tests top n t (get_or a (at + 2) 0) (get_or a (at + 3) 0) codes)
   tested =
       rw (get_or-drop at a 1 0, get_or-drop at a 2 0, get_or-drop at a 3 0, drop-drop 4 at a) at (every_true (line_tests top n left (drop at a)) ok).1.1
-
-  pub four_in : at + 4 ≤ length a
-  four_in = omega (arith, entry_four top n left a at ok)
 
   -- both ends of a fact are grades
   pub fact_in : get_or a (at + 1) 0 ≡ 0 → (get_or a (at + 2) 0 ≤ top) × (get_or a (at + 3) 0 ≤ top)

@@ -7,6 +7,8 @@ pub mod Solvable
 pub mod Head
 -- a scan over the lines of a sound area
 pub mod Scanning
+-- a step of the scan
+pub mod Steps
 -- which condition a line names
 pub mod Naming
 -- one entry, field by field

@@ -16,8 +16,9 @@ use Rattle.semantics.specs.Body.{rule_value, only_if, line_body}
 use Rattle.semantics.specs.Page.{Line, fact, rule, query, default}
 use Rattle.page.specs.Graded.{RuleAt, SoundEntry}
 use Rattle.page.proofs.Scan.{line_at_lem, entry_four, fact_kind_lem, rule_kind_lem, over_five}
-use Rattle.page.proofs.Scanning.{Scanning, lines_left, scanning_first, scanning_next, entry_ok, lines_on}
+use Rattle.page.proofs.Scanning.{lines_left, scanning_first, scanning_next, entry_ok, lines_on}
 use Rattle.page.proofs.Entries.{rule_at}
+use Rattle.page.specs.Lines.{Scanning}
 use Rattle.page.specs.Places.{place_of, LineOf}
 use Rattle.page.specs.Solvable.{solvable}
 

@@ -1,17 +1,17 @@
 -- Which condition the R lines of an area name, literal by literal and line by line, in the code's own terms. Assumes nothing.
-use mathlib.Core.Path.{◌≡◌, refl, sym, ◌∙◌}
-use mathlib.Core.Logic.{◌≢◌, ⊎_elim}
+use mathlib.Core.Path.{◌≡◌, refl}
+use mathlib.Core.Logic.{⊎_elim}
 use mathlib.Core.Bool.{Bool, true, false, cond, ◌&&◌, ◌||◌, and-false}
-use mathlib.Core.List.{List, ◌∷◌, map}
-use Prim.Native.Nat.{ℕ, ◌+◌, ◌-◌, ◌/◌, ◌%◌, ◌≤◌, ◌<◌}
+use mathlib.Core.List.{List, [], ◌∷◌, map}
+use Rattle.std.specs.List.{list_any}
+use Prim.Native.Nat.{ℕ, ◌+◌, ◌/◌, ◌%◌, ◌≤◌, ◌<◌}
 use native.Mathlib.Omega.{arith}
-use lib.Dec.{eqb, ltb}
+use lib.Dec.{eqb}
 use lib.ListN.{get_or, take, drop}
-use borrow.Author.Tests.{eq-eqb, ne_eqb, lt-ltb, le-ltb}
 use Rattle.semantics.specs.Area.{Kind, fact_kind, rule_kind, query_kind, default_kind, no_kind, kind, literal_of, line_as, line_at}
 use Rattle.semantics.specs.Page.{positive, negative, condition_of, Line, mentions, lines_name}
 use Rattle.page.specs.Lines.{line_names}
-use Rattle.page.proofs.Scan.{part_cons, Remaining, remaining_next, rule_kind_lem, fact_kind_lem, over_five, line_at_lem}
+use Rattle.page.proofs.Scan.{rule_kind_lem, fact_kind_lem, over_five, line_at_lem}
 
 -- c is the condition of one of the literals
 abbrev pub codes_name : ℕ → List ℕ → Bool
@@ -24,23 +24,11 @@ condition_of_lem x = go (eqb (x % 2) 0)
     go true = refl
     go false = refl
 
--- literals that name c
-module _ (a : List ℕ) (from m c : ℕ) {j : ℕ} (s : Remaining (codes_name c) a from m j) where
-  pub codes_last : m ≤ j → ltb j m ≡ codes_name c (take m (drop from a))
-  unfolding mentions
-  codes_last h = let e : m - j ≡ 0 = omega arith in le-ltb j m h ∙ sym (s.is ∙ rw e)
-
-  pub codes_break : j < m → get_or a (from + j) 0 / 2 ≡ c → ltb j m ≡ codes_name c (take m (drop from a))
-  unfolding mentions
-  codes_break l h =
-      lt-ltb j m l
-      ∙ sym (s.is ∙ rw (part_cons a (from + j) (m - j) (omega (arith, s.in_area)) (omega arith), condition_of_lem (get_or a (from + j) 0), eq-eqb (get_or a (from + j) 0 / 2) c h))
-
-  pub codes_next : j < m → get_or a (from + j) 0 / 2 ≢ c → Remaining (codes_name c) a from m (j + 1)
-  unfolding mentions
-  codes_next l h =
-      remaining_next (codes_name c) a from m s l
-      (rw (part_cons a (from + j) (m - j) (omega (arith, s.in_area)) (omega arith), condition_of_lem (get_or a (from + j) 0), ne_eqb (get_or a (from + j) 0 / 2) c h))
+-- a search for c among literals
+pub codes_any : (c : ℕ) (xs : List ℕ) → list_any (λ x. eqb (x / 2) c) xs ≡ codes_name c xs
+unfolding mentions
+codes_any c [] = refl
+codes_any c (x ∷ xs) = rw (condition_of_lem x, codes_any c xs)
 
 -- the line at a place names c if it is a rule whose literals do
 module _ (a : List ℕ) (at c : ℕ) where

@@ -12,7 +12,7 @@ use lib.Dec.{eqb, leb, ltb}
 use lib.ListN.{length, get_or, take, drop, get_or-eq_default}
 use lib.Seq.{get_or-drop, drop-drop, drop-cons}
 use borrow.Author.Tests.{le-leb, lt-leb, lt-ltb, le-ltb, eq-eqb, ne_eqb, leb-true, leb-false, ltb-true, ltb-false, eqb-true, eqb-false}
-use Rattle.semantics.specs.Area.{Kind, fact_kind, rule_kind, query_kind, default_kind, no_kind, kind, span_as, span, line_as, line_at, every, all_under, field_tests, line_tests, lines_ok, head_tests, defaults_ok, sound_to, sound, first_line, top_of, conditions_of, count_of, used_of}
+use Rattle.semantics.specs.Area.{Kind, fact_kind, rule_kind, query_kind, default_kind, no_kind, kind, span_as, span, line_as, line_at, every, all_under, field_tests, line_tests, lines_ok, count_of, used_of}
 use Rattle.semantics.specs.Grade.{Op, M, X, L, B, P}
 use Rattle.semantics.proofs.Soundness.{every_true, both_true}
 use Rattle.page.specs.Lines.{step_at, EntryIn}
@@ -25,49 +25,17 @@ pub part_cons : (a : List ℕ) (x r : ℕ) → x < length a → 0 < r → take r
 part_cons a x zero l z = absurd (omega arith)
 part_cons a x (suc r) l z = let e : suc r - 1 ≡ r = omega arith in rw (drop-cons a x 0 l, e, add-one x)
 
--- A scan of the m numbers from `from` on that has passed j of them: what f says of all, it says of those still to come.
-module _ (f : List ℕ → Bool) (a : List ℕ) (from m : ℕ) where
-  pub record Remaining (j : ℕ) : Type 0 where
-    pub in_count : j ≤ m
-    pub in_area : from + m ≤ length a
-    pub is : f (take m (drop from a)) ≡ f (take (m - j) (drop (from + j) a))
-
-  pub remaining_first : from + m ≤ length a → Remaining 0
-  remaining_first h =
-      let e : m - 0 ≡ m = omega arith in
-      let d : from + 0 ≡ from = omega arith in
-      record { in_count = omega arith; in_area = h; is = rw (e, d) }
-
-  pub remaining_next : {j : ℕ} → Remaining j → j < m → f (take (m - j) (drop (from + j) a)) ≡ f (take (m - j - 1) (drop (from + j + 1) a)) → Remaining (j + 1)
-  remaining_next {j} s l g =
-      let e : m - j - 1 ≡ m - (j + 1) = omega arith in
-      let d : from + j + 1 ≡ from + (j + 1) = omega arith in
-      record { in_count = omega arith; in_area = s.in_area; is = s.is ∙ rw (e, d) at g }
-
--- r numbers from x on, under a limit or not
-module _ (a : List ℕ) (x limit : ℕ) (l : x < length a) where
-  pub under_bad : (r : ℕ) → 0 < r → limit ≤ get_or a x 0 → all_under limit (take r (drop x a)) ≡ false
-  unfolding all_under
-  under_bad r z h = rw (part_cons a x r l z, le-ltb (get_or a x 0) limit h)
-
-  pub under_ok : (r : ℕ) → 0 < r → get_or a x 0 < limit → all_under limit (take r (drop x a)) ≡ all_under limit (take (r - 1) (drop (x + 1) a))
-  unfolding all_under
-  under_ok r z h = rw (part_cons a x r l z, lt-ltb (get_or a x 0) limit h)
-
-pub under_none : (a : List ℕ) (limit r : ℕ) → r ≡ 0 → all_under limit (take r a) ≡ true
+-- numbers that are all under a limit, and numbers of which one is not
+pub all_in : (limit : ℕ) (xs : List ℕ) → ((j : ℕ) → j < length xs → get_or xs j 0 < limit) → all_under limit xs ≡ true
 unfolding all_under
-under_none a limit r e = rw e
+all_in limit [] h = refl
+all_in limit (x ∷ xs) h = rw (lt-ltb x limit (h 0 (omega arith))) (all_in limit xs (λ j l. h (suc j) (omega arith)))
 
--- the scan of literals: one that is not under the limit decides, and behind the last all are
-module _ (a : List ℕ) (from m limit : ℕ) {j : ℕ} (s : Remaining (all_under limit) a from m j) where
-  pub under_next : j < m → get_or a (from + j) 0 < limit → Remaining (all_under limit) a from m (j + 1)
-  under_next l h = remaining_next (all_under limit) a from m s l (under_ok a (from + j) limit (omega arith) (m - j) (omega arith) h)
-
-  pub under_break : j < m → limit ≤ get_or a (from + j) 0 → all_under limit (take m (drop from a)) ≡ false
-  under_break l h = s.is ∙ under_bad a (from + j) limit (omega arith) (m - j) (omega arith) h
-
-  pub under_last : m ≤ j → all_under limit (take m (drop from a)) ≡ true
-  under_last h = s.is ∙ under_none (drop (from + j) a) limit (m - j) (omega arith)
+pub one_out : (limit : ℕ) (xs : List ℕ) (j : ℕ) → j < length xs → limit ≤ get_or xs j 0 → all_under limit xs ≡ false
+unfolding all_under
+one_out limit [] j l h = absurd (omega arith)
+one_out limit (x ∷ xs) zero l h = rw (le-ltb x limit h)
+one_out limit (x ∷ xs) (suc j) l h = rw (one_out limit xs j (omega arith) h, and-false (ltb x limit))
 
 -- the kinds: 0 a fact, 1 to 5 a rule, 6 a query, 7 a D line, no other
 pub rule_kind_lem : (k : ℕ) → 1 ≤ k → k ≤ 5 → (op : Op) × (kind k ≡ rule_kind op)
@@ -136,46 +104,13 @@ every_last [] b = and-true b
 every_last (t ∷ ts) b = ap (λ (u : Bool). t && u) (every_last ts b) ∙ and_assoc t (every ts) b
 
 module _ (top x y : ℕ) where
-  pub rule_fails : (i : ℕ) → get_or (rule_tests top x y) i true ≡ false → every (rule_tests top x y) ≡ false
-  rule_fails = every_fails (rule_tests top x y)
-
-  pub rule_last : 1 ≤ x → x ≤ top → 1 ≤ y → leb y 8 ≡ every (rule_tests top x y)
-  rule_last a b c = rw (le-leb 1 x a, le-leb x top b, le-leb 1 y c, and-true (leb y 8))
-
   pub rule_split : (n : ℕ) (op : Op) (lits : List ℕ) → every (field_tests top n (rule_kind op) x y lits) ≡ (every (rule_tests top x y) && all_under (2 * n) lits)
   rule_split n op lits = every_last (rule_tests top x y) (all_under (2 * n) lits)
 
 -- the fields of an entry, by its kind
 module _ (top n k x y : ℕ) (lits : List ℕ) where
-  pub fields_fact : k ≡ 0 → every (field_tests top n (kind k) x y lits) ≡ (leb x y && (leb y top && true))
-  fields_fact e = rw (fact_kind_lem k e)
-
-  pub fact_fails : k ≡ 0 → y < x → every (field_tests top n (kind k) x y lits) ≡ false
-  fact_fails e l = fields_fact e ∙ rw (lt-leb x y l)
-
-  pub fact_decides : k ≡ 0 → x ≤ y → leb y top ≡ every (field_tests top n (kind k) x y lits)
-  fact_decides e l = sym (fields_fact e ∙ rw (le-leb x y l, and-true (leb y top)))
-
   pub fields_rule : 1 ≤ k → k ≤ 5 → every (field_tests top n (kind k) x y lits) ≡ (every (rule_tests top x y) && all_under (2 * n) lits)
   fields_rule l h = let q = rule_kind_lem k l h in rw q.1 (rule_split top x y n q.0 lits)
-
-  pub fields_query : k ≡ 6 → every (field_tests top n (kind k) x y lits) ≡ (leb x 1 && (eqb y 0 && true))
-  fields_query e = rw (query_kind_lem k e)
-
-  pub query_fails : k ≡ 6 → 1 < x → every (field_tests top n (kind k) x y lits) ≡ false
-  query_fails e l = fields_query e ∙ rw (lt-leb x 1 l)
-
-  pub query_decides : k ≡ 6 → x ≤ 1 → eqb y 0 ≡ every (field_tests top n (kind k) x y lits)
-  query_decides e l = sym (fields_query e ∙ rw (le-leb x 1 l, and-true (eqb y 0)))
-
-  pub fields_default : k ≡ 7 → every (field_tests top n (kind k) x y lits) ≡ (eqb x 0 && (eqb y 0 && true))
-  fields_default e = rw (default_kind_lem k e)
-
-  pub default_fails : k ≡ 7 → 0 < x → every (field_tests top n (kind k) x y lits) ≡ false
-  default_fails e l = fields_default e ∙ rw (ne_eqb x 0 (λ z. omega arith))
-
-  pub default_decides : k ≡ 7 → x ≤ 0 → eqb y 0 ≡ every (field_tests top n (kind k) x y lits)
-  default_decides e l = sym (fields_default e ∙ rw (eq-eqb x 0 (omega arith), and-true (eqb y 0)))
 
   pub fields_none : 7 < k → every (field_tests top n (kind k) x y lits) ≡ false
   fields_none l = rw (other_kind k l)
@@ -310,23 +245,8 @@ pub lines_last : (top n m : ℕ) (a : List ℕ) (at used : ℕ) → at ≤ used 
 unfolding lines_ok
 lines_last top n m a at used l e = rw e (eqb_go (used - at) 0 at used (λ q. omega arith) (λ q. omega arith) (eqb (used - at) 0) refl)
 
--- the head's tests, then the lines, then the D numbers
+-- what the head of a solvable area says
 module _ (a : List ℕ) where
-  abbrev lines_sound : Bool
-  lines_sound = lines_ok (top_of a) (conditions_of a) (count_of a) (used_of a - first_line a) (drop (first_line a) a)
-
-  pub head_fails_at : (i : ℕ) → get_or (head_tests 1024 a) i true ≡ false → sound a ≡ false
-  unfolding sound_to
-  head_fails_at i e = rw (every_fails (head_tests 1024 a) i e)
-
-  pub lines_fail : every (head_tests 1024 a) ≡ true → lines_sound ≡ false → sound a ≡ false
-  unfolding sound_to
-  lines_fail h e = rw (h, e)
-
-  pub defaults_decide : {r : Bool} → every (head_tests 1024 a) ≡ true → lines_sound ≡ true → r ≡ defaults_ok a → r ≡ sound a
-  unfolding sound_to
-  defaults_decide h l e = rw (h, l) (e ∙ sym (and-true (defaults_ok a)))
-
   pub solvable_head : solvable a ≡ true → (4 ≤ length a) × (used_of a ≤ length a) × (count_of a ≤ 1536)
   solvable_head e =
       let h = (solvable_parts a e).head in

@@ -12,7 +12,7 @@ use Rattle.semantics.specs.Page.{Line}
 use Rattle.semantics.specs.Area.{kind, span_as, span, line_at, lines_of, page_of, every, line_tests, lines_ok, first_line, top_of, conditions_of, count_of, used_of}
 use Rattle.semantics.proofs.Soundness.{both_true}
 use Rattle.page.specs.Graded.{SoundEntry}
-use Rattle.page.specs.Lines.{EntryIn, Next}
+use Rattle.page.specs.Lines.{EntryIn, Next, Scanning}
 use Rattle.page.proofs.Scan.{span_at, entry_fits, entry_four, entry_in, lines_behind, at_suc}
 use Rattle.page.specs.Solvable.{solvable}
 use Rattle.page.proofs.Solvable.{solvable_parts}
@@ -22,27 +22,20 @@ module _ (a : List ℕ) where
   abbrev pub lines_left : ℕ → ℕ → List Line
   lines_left at k = lines_of (count_of a - k) (drop at a)
 
-  -- the scan stands at `at`, behind k lines of a sound page
-  pub record Scanning (at k : ℕ) : Type 0 where
-    pub in_count : k ≤ count_of a
-    pub in_used : at ≤ used_of a
-    pub in_area : used_of a ≤ length a
-    pub entries : lines_ok (top_of a) (conditions_of a) (count_of a - k) (used_of a - at) (drop at a) ≡ true
-
   pub scanning_begun : first_line a ≤ used_of a → used_of a ≤ length a
-      → lines_ok (top_of a) (conditions_of a) (count_of a) (used_of a - first_line a) (drop (first_line a) a) ≡ true → Scanning (first_line a) 0
+      → lines_ok (top_of a) (conditions_of a) (count_of a) (used_of a - first_line a) (drop (first_line a) a) ≡ true → Scanning a (first_line a) 0
   scanning_begun f u e =
       let z : count_of a - 0 ≡ count_of a = omega arith in
       record { in_count = omega arith; in_used = f; in_area = u; entries = rw z e }
 
-  pub scanning_first : solvable a ≡ true → Scanning (first_line a) 0
+  pub scanning_first : solvable a ≡ true → Scanning a (first_line a) 0
   scanning_first e = let s = solvable_parts a e in scanning_begun (leb-true (first_line a) (used_of a) s.head.1.0) (leb-true (used_of a) (length a) s.head.1.1.0) s.lines
 
   pub lines_first : lines_left (first_line a) 0 ≡ (page_of a).lines
   unfolding page_of
   lines_first = let z : count_of a - 0 ≡ count_of a = omega arith in rw z
 
-  module _ {at k : ℕ} (s : Scanning at k) (l : k < count_of a) where
+  module _ {at k : ℕ} (s : Scanning a at k) (l : k < count_of a) where
     -- the entry at `at` passes its tests
     pub entry_ok : every (line_tests (top_of a) (conditions_of a) (used_of a - at) (drop at a)) ≡ true
     unfolding lines_ok
@@ -75,7 +68,7 @@ module _ (a : List ℕ) where
         ∙ ap (λ (q : List ℕ). line_at (drop at a) ∷ lines_of (count_of a - (k + 1)) q)
         (drop-drop (span (drop at a)) at a ∙ ap (λ (j : ℕ). drop (at + j) a) (span_at (top_of a) (conditions_of a) (used_of a - at) a at))
 
-    pub scanning_next : Scanning (at + step) (k + 1)
+    pub scanning_next : Scanning a (at + step) (k + 1)
     scanning_next =
         let f : step ≤ used_of a - at = entry_fits (top_of a) (conditions_of a) (used_of a - at) a at entry_ok in
         record {
@@ -87,7 +80,7 @@ module _ (a : List ℕ) where
 
     -- the same where the cursor moved to
     module _ {at' k' : ℕ} (m : Next a at k at' k') where
-      pub scanning_moved : Scanning at' k'
+      pub scanning_moved : Scanning a at' k'
       scanning_moved = rw (m.place, m.count) scanning_next
 
       pub lines_moved : lines_left at k ≡ line_at (drop at a) ∷ lines_left at' k'

@@ -1,8 +1,7 @@
 -- The tests of a page area in the order of the code: the first numbers of an entry, those of a rule but for its literals, and the D numbers. Assumes nothing.
 use Rattle.std.specs.Prelude.{◌≡◌, ◌≢◌, Bool, true, false, ◌&&◌, List, [], ◌∷◌, ℕ, ◌+◌, ◌-◌, ◌≤◌, ◌<◌, eqb, ltb, leb, length, get_or, drop}
 use Rattle.fixpoint.specs.Sum.{bit}
-use Rattle.semantics.specs.Page.{defaults}
-use Rattle.semantics.specs.Area.{every, lines_ok, page_of, first_line, default_of, top_of, conditions_of, count_of, used_of}
+use Rattle.semantics.specs.Area.{every, lines_ok, first_line, default_of, top_of, conditions_of, count_of, used_of}
 use Rattle.bits.specs.Words.{has, Inserted}
 
 -- the four numbers of the entry at a place end at `used` or before, and its condition is below C, which is n
@@ -27,16 +26,9 @@ pub record Lined (a : List ℕ) : Type 0 where
 
 -- the entry at a place is no D line, or the first of its condition, which is put into the set, or another one
 pub record CollectedAt (a : List ℕ) (at : ℕ) (seen seen' : List ℕ) (first : Bool) : Type 0 where
-  pub size : length seen' ≡ 8
   pub past : get_or a (at + 1) 0 ≢ 7 → (first ≡ true) × (seen' ≡ seen)
   pub taken : get_or a (at + 1) 0 ≡ 7 → first ≡ true → (has seen (get_or a at 0) ≡ false) × Inserted (get_or a at 0) seen seen'
-  pub again : first ≡ false → (get_or a (at + 1) 0 ≡ 7) × (has seen (get_or a at 0) ≡ true) × (seen' ≡ seen)
-
--- the set has the conditions of the D lines, each of which has one; or some condition has two
-pub record Collected (a seen : List ℕ) (single : Bool) : Type 0 where
-  pub size : length seen ≡ 8
-  pub all : single ≡ true → (c : ℕ) → c < 512 → defaults (page_of a).lines c ≡ bit (has seen c)
-  pub twice : single ≡ false → (c : ℕ) × (c < conditions_of a) × (2 ≤ defaults (page_of a).lines c)
+  pub again : first ≡ false → (get_or a (at + 1) 0 ≡ 7) × (has seen (get_or a at 0) ≡ true) × ((c : ℕ) → c < 512 → has seen' c ≡ has seen c)
 
 -- the D number of c tells whether c is in the set
 abbrev pub number_tells : (a seen : List ℕ) → ℕ → Bool

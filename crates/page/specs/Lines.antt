@@ -1,6 +1,6 @@
 -- The cursor over the lines of a page area, and which condition a line names. Assumes nothing.
-use Rattle.std.specs.Prelude.{◌≡◌, Bool, false, List, ℕ, ◌+◌, ◌≤◌, length, get_or}
-use Rattle.semantics.specs.Area.{kind, span_as}
+use Rattle.std.specs.Prelude.{◌≡◌, Bool, true, false, List, ℕ, ◌+◌, ◌-◌, ◌≤◌, ◌<◌, length, get_or, drop, Option, MatchOption}
+use Rattle.semantics.specs.Area.{kind, span_as, lines_ok, first_line, top_of, conditions_of, count_of, used_of}
 use Rattle.semantics.specs.Page.{Line, fact, rule, query, default, mentions}
 
 -- how many numbers the entry at a place takes
@@ -16,6 +16,24 @@ pub record EntryIn (a : List ℕ) (at : ℕ) : Type 0 where
 pub record Next (a : List ℕ) (at passed at' passed' : ℕ) : Type 0 where
   pub place : at' ≡ at + step_at a at
   pub count : passed' ≡ passed + 1
+
+-- a scan over the lines stands at `at`, with k lines passed, and those still to come pass every test
+pub record Scanning (a : List ℕ) (at k : ℕ) : Type 0 where
+  pub in_count : k ≤ count_of a
+  pub in_used : at ≤ used_of a
+  pub in_area : used_of a ≤ length a
+  pub entries : lines_ok (top_of a) (conditions_of a) (count_of a - k) (used_of a - at) (drop at a) ≡ true
+
+-- a scan of the lines of an area a stands before the first one
+pub record BeginsAt (a a' : List ℕ) (at passed : ℕ) : Type 0 where
+  pub same : a' ≡ a
+  pub place : at ≡ first_line a
+  pub count : passed ≡ 0
+
+-- a scan at (at, passed) gives the place of the next line and stands behind it, or there is no other line
+pub record Proceeds (a : List ℕ) (at passed : ℕ) (given : Option ℕ) (a' : List ℕ) (at' passed' : ℕ) : Type 0 where
+  pub same : a' ≡ a
+  pub gives : MatchOption given ((count_of a ≤ passed) × (at' ≡ at) × (passed' ≡ passed)) (λ place. (passed < count_of a) × (place ≡ at) × Next a at passed at' passed')
 
 -- a line is an R line that "names" c: c is among its literals, plain or negated
 abbrev pub line_names : Line → ℕ → Bool

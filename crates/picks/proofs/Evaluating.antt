@@ -80,10 +80,10 @@ module _ (a : List ℕ) {m : List Bool} {b : Worklist} {reached waiting values :
     unfolding evaluated waiting_after page_of
     beyond k g = get_or-eq_default (table (conditions_of a) said) false (omega (arith, length_from (conditions_of a) 0 said))
 
-    set_after : (few : conditions_of a ≤ 512) {t : Bool} → t ≡ changes (page_of a) b c → {waiting' : List ℕ} → length waiting' ≡ 8
+    set_after : (few : conditions_of a ≤ 512) {t : Bool} → t ≡ changes (page_of a) b c → (waiting' : List ℕ)
         → ((k : ℕ) → k < 512 → has waiting' k ≡ ((has waiting k && not (eqb k c)) || (t && (has reached k && names (page_of a) k c))))
         → SetIs (conditions_of a) (evaluated (page_of a) m b c).waiting waiting'
-    set_after few {t} e {waiting'} s w = record { size = s; is = λ k j. w k j ∙ read k j ∙ sym (after k); inside = beyond }
+    set_after few {t} e waiting' w = record { is = λ k j. w k j ∙ read k j ∙ sym (after k); inside = beyond }
       where
         read : (k : ℕ) → k < 512 → ((has waiting k && not (eqb k c)) || (t && (has reached k && names (page_of a) k c))) ≡ said k
         read k j = rw (h.waiting_set.is k j, h.reached_set.is k j, e)
@@ -101,14 +101,14 @@ module _ (a : List ℕ) {m : List Bool} {b : Worklist} {reached waiting values :
       unfolding changes
       changes_is = d ∙ rw (held, holds_at c l, value)
 
-      module _ (few : conditions_of a ≤ 512) {waiting₁ : List ℕ} (r : Removed c waiting waiting₁) where
+      module _ (few : conditions_of a ≤ 512) (waiting₁ : List ℕ) (r : Removed c waiting waiting₁) where
         -- c changes: its literals are stored, and its dependants wait
-        pub holds_changed : t ≡ true → {waiting₂ : List ℕ} → Joins has 8 (λ k. has reached k && names (page_of a) k c) waiting₁ waiting₂
+        pub holds_changed : t ≡ true → {waiting₂ : List ℕ} → Joins (λ k. has reached k && names (page_of a) k c) (has waiting₁) (has waiting₂)
             → Holds a m (evaluated (page_of a) m b c) reached waiting₂ (set (set values (2 * c) p) (2 * c + 1) (top_of a - q))
-        holds_changed e j =
+        holds_changed e {waiting₂} j =
             record {
               reached_set = h.reached_set;
-              waiting_set = set_after few (sym e ∙ changes_is) j.size (λ k g. j.is k g ∙ ap (λ (z : Bool). z || (has reached k && names (page_of a) k c)) (r.1 k g));
+              waiting_set = set_after few (sym e ∙ changes_is) waiting₂ (λ k g. j.is k g ∙ ap (λ (z : Bool). z || (has reached k && names (page_of a) k c)) (r.1 k g));
               long = omega (arith, h.long, length-set (set values (2 * c) p) (2 * c + 1) (top_of a - q), length-set values (2 * c) p);
               table = table_stored lower (top_of a) (conditions_of a) I (interval_of (evaluated (page_of a) m b c).intervals) values c (λ k g n. there k n) l h.long h.table
                   (ap (end_of lower) (sym here)) (ap (λ (i : Interval). top_of a - i.high) (sym here));
@@ -121,7 +121,7 @@ module _ (a : List ℕ) {m : List Bool} {b : Worklist} {reached waiting values :
         holds_same e =
             record {
               reached_set = h.reached_set;
-              waiting_set = set_after few (sym e ∙ changes_is) r.0 (λ k g. r.1 k g ∙ sym (or-false (has waiting k && not (eqb k c))));
+              waiting_set = set_after few (sym e ∙ changes_is) waiting₁ (λ k g. r.1 k g ∙ sym (or-false (has waiting k && not (eqb k c))));
               long = h.long;
               table = table_agrees lower (top_of a) (conditions_of a) I (interval_of (evaluated (page_of a) m b c).intervals) values as_held h.table;
               grades = grades_after;

@@ -2,7 +2,7 @@
 use mathlib.Core.Path.{◌≡◌, refl, sym, ◌∙◌, ap, subst}
 use mathlib.Core.Bool.{Bool, true, false, ◌&&◌}
 use mathlib.Core.List.{List}
-use mathlib.Core.Option.{none}
+use mathlib.Core.Option.{none, some}
 use Prim.Native.Nat.{ℕ, ◌+◌, ◌*◌, ◌-◌, ◌≤◌, ◌<◌}
 use native.Mathlib.Decide.{ℕ_discrete, dec_le}
 use native.Mathlib.Numerals.{add-one}
@@ -28,11 +28,14 @@ use Rattle.semantics.proofs.Keeps.{ends_listed}
 use Rattle.semantics.proofs.Picks.{pick_is, book_next, waits_spent, none_rests, picks_sound, picks_proper, picks_inside, picks_in_time, plain_figures}
 use Rattle.semantics.proofs.Soundness.{both_true}
 use Rattle.semantics.proofs.Table.{length_from, get_d_table}
-use Rattle.bits.specs.Words.{has, LowestIn}
+use Rattle.bits.specs.Words.{has}
+use Rattle.bits.specs.Sets.{Nobody}
 use Rattle.value.specs.Table.{Grades}
 use Rattle.value.proofs.Tables.{table_of_lem}
 use Rattle.reach.specs.Sets.{ClosureSet}
+use Rattle.reach.specs.Queries.{list_causes}
 use Rattle.reach.proofs.Bounds.{bound_few}
+use Rattle.reach.proofs.Passing.{some_has}
 use Rattle.page.specs.Solvable.{solvable}
 use Rattle.page.proofs.Solvable.{sound_solvable}
 use Rattle.picks.specs.Answer.{Judged}
@@ -69,7 +72,6 @@ module _ (a qs : List ℕ) (e : first_of (query_causes a qs) ≡ none) where
     unfolding page_of
     reached_is =
         record {
-          size = s.size;
           is = s.same;
           inside = λ c l. get_or-eq_default (closure (page_of a) qs) false (omega (arith, closure_length (page_of a) qs));
         }
@@ -152,59 +154,57 @@ module _ (a qs : List ℕ) (e : first_of (query_causes a qs) ≡ none) where
         last : b ≡ book_after (page_of a) qs picks
         last = ap (book_after (page_of a) qs) (take_all i picks l)
 
-        module _ {r : ℕ} (least : LowestIn waiting r) where
-          pub judged_not_at_rest : r < 512 → (figures : List ℕ) → Judged not_at_rest (page_of a) qs picks figures
-          judged_not_at_rest g figures =
-              record { is = (all_wait, ap status (sym last) ∙ waits_spent b r (sym (s.holds.waiting_set.is r g) ∙ least.found g)) }
+        pub judged_not_at_rest : (Nobody waiting → ⊥) → (figures : List ℕ) → Judged not_at_rest (page_of a) qs picks figures
+        judged_not_at_rest n figures =
+            let c = some_has 512 (has waiting) n in
+            record { is = (all_wait, ap status (sym last) ∙ waits_spent b c.0 (sym (s.holds.waiting_set.is c.0 c.1) ∙ c.2)) }
 
-          module _ (g : 512 ≤ r) where
-            none_waits : (c : ℕ) → member b.waiting c ≡ false
-            none_waits c =
-                elim (dec_le (conditions_of a) c) [
-                  | yes k ↦ s.holds.waiting_set.inside c k
-                  | no k ↦ sym (s.holds.waiting_set.is c (omega (arith, few))) ∙ least.below c (omega (arith, few))
-                ]
+        module _ (none : Nobody waiting) where
+          none_waits : (c : ℕ) → member b.waiting c ≡ false
+          none_waits c =
+              elim (dec_le (conditions_of a) c) [
+                | yes k ↦ s.holds.waiting_set.inside c k
+                | no k ↦ sym (s.holds.waiting_set.is c (omega (arith, few))) ∙ none c (omega (arith, few))
+              ]
 
-            at_rest : status (book_after (page_of a) qs picks) ≡ rest
-            at_rest = ap status (sym last) ∙ none_rests b none_waits
+          at_rest : status (book_after (page_of a) qs picks) ≡ rest
+          at_rest = ap status (sym last) ∙ none_rests b none_waits
 
-            -- the figures of what is held
-            held : ends (table_at (top_of a) values) qs ≡ ends (interval_of (book_after (page_of a) qs picks).intervals) qs
-            held =
-                ends_listed (table_at (top_of a) values) (interval_of b.intervals) qs (λ c k. holds_at a s.holds c (under_listed (conditions_of a) qs queries_inside c k))
-                ∙ ap (λ (x : Worklist). ends (interval_of x.intervals) qs) last
+          -- the figures of what is held
+          held : ends (table_at (top_of a) values) qs ≡ ends (interval_of (book_after (page_of a) qs picks).intervals) qs
+          held =
+              ends_listed (table_at (top_of a) values) (interval_of b.intervals) qs (λ c k. holds_at a s.holds c (under_listed (conditions_of a) qs queries_inside c k))
+              ∙ ap (λ (x : Worklist). ends (interval_of x.intervals) qs) last
 
-            module _ {figures : List ℕ} {t : Bool} (told : Compared (top_of a) qs figures values t) where
-              pub judged_wrong : t ≡ false → Judged wrong_figures (page_of a) qs picks figures
-              judged_wrong q = record { is = (all_wait, at_rest, λ f. told.differ q ((plain_figures a qs e picks figures at_rest).1 f ∙ sym held)) }
+          module _ {figures : List ℕ} {t : Bool} (told : Compared (top_of a) qs figures values t) where
+            pub judged_wrong : t ≡ false → Judged wrong_figures (page_of a) qs picks figures
+            judged_wrong q = record { is = (all_wait, at_rest, λ f. told.differ q ((plain_figures a qs e picks figures at_rest).1 f ∙ sym held)) }
 
-              pub judged_accepted : t ≡ true → Judged accepted_picks (page_of a) qs picks figures
-              judged_accepted q = record { is = (all_wait, at_rest, (plain_figures a qs e picks figures at_rest).0 (told.equal q ∙ held)) }
+            pub judged_accepted : t ≡ true → Judged accepted_picks (page_of a) qs picks figures
+            judged_accepted q = record { is = (all_wait, at_rest, (plain_figures a qs e picks figures at_rest).0 (told.equal q ∙ held)) }
 
       pub judging_grades : Grades (top_of a) (conditions_of a) values
       judging_grades = (holds_grades a s.holds).low
 
--- the check, cause by cause
+-- the check: the queries are refused, or the picks are judged
 module _ (a qs picks figures : List ℕ) where
   pub check_10 : sound a ≡ false → PicksOf (refused_queries 10) a qs picks figures
   unfolding PicksOf
   check_10 e = rw e
 
   module _ (ok : sound a ≡ true) where
-    pub check_11 : (leb 1 (length qs) && leb (length qs) 16) ≡ false → PicksOf (refused_queries 11) a qs picks figures
+    causes_are : first_of (query_causes a qs) ≡ first_of (list_causes (conditions_of a) qs)
+    unfolding page_of
+    causes_are = rw ok
+
+    pub check_refused : {k : ℕ} → some k ≡ first_of (list_causes (conditions_of a) qs) → PicksOf (refused_queries k) a qs picks figures
     unfolding PicksOf
-    check_11 e = rw (ok, e)
+    check_refused e = rw (causes_are ∙ sym e)
 
-    module _ (counted : (leb 1 (length qs) && leb (length qs) 16) ≡ true) where
-      pub check_12 : all_under (conditions_of a) qs ≡ false → PicksOf (refused_queries 12) a qs picks figures
-      unfolding PicksOf page_of
-      check_12 e = rw (ok, counted, e)
+    module _ (fine : none ≡ first_of (list_causes (conditions_of a) qs)) where
+      pub check_none : first_of (query_causes a qs) ≡ none
+      check_none = causes_are ∙ sym fine
 
-      module _ (inside : all_under (conditions_of a) qs ≡ true) where
-        pub check_none : first_of (query_causes a qs) ≡ none
-        unfolding page_of
-        check_none = rw (ok, counted, inside)
-
-        pub check_judged : {answer : PicksAnswer} → Judged answer (page_of a) qs picks figures → PicksOf answer a qs picks figures
-        unfolding PicksOf
-        check_judged w = rw check_none w.is
+      pub check_judged : {answer : PicksAnswer} → Judged answer (page_of a) qs picks figures → PicksOf answer a qs picks figures
+      unfolding PicksOf
+      check_judged w = rw check_none w.is

@@ -10,7 +10,6 @@ use Rattle.value.specs.Table.{EndTable}
 
 -- a set of conditions as words: those of m, which are below n
 pub record SetIs (n : ℕ) (m : List Bool) (words : List ℕ) : Type 0 where
-  pub size : length words ≡ 8
   pub is : (c : ℕ) → c < 512 → has words c ≡ member m c
   pub inside : (c : ℕ) → n ≤ c → member m c ≡ false
 

@@ -1,2 +1,4 @@
--- bytes written at a place
+-- items written at a place
 pub mod Wrote
+-- what is written to a text
+pub mod Texts

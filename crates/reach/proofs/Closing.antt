@@ -20,10 +20,8 @@ use Rattle.semantics.proofs.Readings.{names_inside}
 use Rattle.semantics.proofs.Soundness.{both_true}
 use Rattle.semantics.proofs.Table.{or_cases, iff_eq}
 use Rattle.bits.specs.Words.{has}
-use Rattle.index.specs.Groups.{Cleared}
 use Rattle.reach.specs.Marks.{Unmarked, ClosureMarks}
 use Rattle.reach.specs.Sets.{Joins, Swept}
-use Rattle.reach.proofs.Visiting.{blank_none}
 
 -- queries are conditions
 pub asked_in : (n : ℕ) (xs : List ℕ) → all_under n xs ≡ true → (c : ℕ) → listed c xs ≡ true → c < n
@@ -65,8 +63,8 @@ module _ (page : Page) (qs : List ℕ) where
       closed_same c l = iff_eq (member marks c) (reached page qs c) (in_closure c l) (λ q. grown (reached_sound page qs c (closure_inside c q) q))
 
     -- the set of the queries
-    pub queries_in : {blank words : List ℕ} → Cleared blank → Joins has 8 (λ c. listed c qs) blank words → (c : ℕ) → c < 512 → has words c ≡ listed c qs
-    queries_in {blank} z h c l = h.is c l ∙ ap (λ (t : Bool). t || listed c qs) (blank_none blank z c)
+    pub queries_in : (blank words : List ℕ) → ((c : ℕ) → has blank c ≡ false) → Joins (λ c. listed c qs) (has blank) (has words) → (c : ℕ) → c < 512 → has words c ≡ listed c qs
+    queries_in blank words z h c l = h.is c l ∙ ap (λ (t : Bool). t || listed c qs) (z c)
 
 -- the loop of passes
 module _ (page : Page) (qs : List ℕ) where
@@ -75,31 +73,31 @@ module _ (page : Page) (qs : List ℕ) where
     pub has_asked : (c : ℕ) → listed c qs ≡ true → member marks c ≡ true
     pub in_closure : (c : ℕ) → c < 512 → member marks c ≡ true → reached page qs c ≡ true
 
-  pub spreading_first : (w : Proper page) (asked : all_under page.conditions qs ≡ true) {blank marks : List Bool} → Unmarked blank → Joins member 512 (λ c. listed c qs) blank marks → Spreading marks
-  spreading_first w asked {blank} {marks} z h =
+  pub spreading_first : (w : Proper page) (asked : all_under page.conditions qs ≡ true) (blank marks : List Bool) → Unmarked blank → Joins (λ c. listed c qs) (member blank) (member marks) → length marks ≡ 512 → Spreading marks
+  spreading_first w asked blank marks z h size =
       let in_range = asked_in page.conditions qs asked in
       let is : (c : ℕ) → c < 512 → member marks c ≡ listed c qs = λ c l. h.is c l ∙ ap (λ (t : Bool). t || listed c qs) (z.1 c) in
       record {
-        size = h.size;
+        size = size;
         has_asked = λ c e. is c (omega (arith, w.conditions_most, in_range c e)) ∙ e;
         in_closure = λ c l e. reached_complete page qs (names_inside page w) in_range (queried (sym (is c l) ∙ e));
       }
 
-  module _ (w : Proper page) (asked : all_under page.conditions qs ≡ true) {marks marks' : List Bool} {new : ℕ} (p : Spreading marks) (s : Swept page marks marks' new) where
+  module _ (w : Proper page) (asked : all_under page.conditions qs ≡ true) {marks marks' : List Bool} {new : ℕ} (p : Spreading marks) (s : Swept page marks marks' new) (size : length marks' ≡ 512) where
     pub spreading_next : Spreading marks'
     spreading_next =
         record {
-          size = s.size;
+          size = size;
           has_asked = λ c q. s.grows c (omega (arith, w.conditions_most, asked_in page.conditions qs asked c q)) (p.has_asked c q);
           in_closure = s.inside (reached page qs) (reached_closed page qs) p.in_closure;
         }
 
     pub spreading_last : new ≡ 0 → ClosureMarks page qs marks'
-    spreading_last e = record { size = s.size; same = same }
+    spreading_last e = record { size = size; same = same }
       where
         same : (c : ℕ) → member marks' c ≡ member (closure page qs) c
         same c =
             elim (dec_le 512 c) [
-              | yes l ↦ get_or-eq_default marks' false (omega (arith, s.size)) ∙ sym (get_or-eq_default (closure page qs) false (omega (arith, closure_length page qs, w.conditions_most)))
+              | yes l ↦ get_or-eq_default marks' false (omega (arith, size)) ∙ sym (get_or-eq_default (closure page qs) false (omega (arith, closure_length page qs, w.conditions_most)))
               | no l ↦ closed_same page qs w asked marks' spreading_next.has_asked spreading_next.in_closure (s.settled e) c (omega arith)
             ]

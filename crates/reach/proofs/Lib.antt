@@ -14,7 +14,7 @@ pub mod Passing
 pub mod Counting
 -- R + top × E fits 32 bits
 pub mod Bounds
--- one mark, and a set of words as marks
+-- a set of words as marks
 pub mod Marking
 -- the run area that an opening writes
 pub mod Writing

@@ -1,13 +1,13 @@
 -- The passes of an opening: each follows what the one before it added, with one scan for each condition. Assumes nothing.
 use mathlib.Core.Path.{◌≡◌, refl, sym, ◌∙◌, ap}
 use mathlib.Core.Logic.{◌≢◌, inl, inr}
-use mathlib.Core.Bool.{Bool, true, false, cond, not, ◌&&◌, ◌||◌, or-true, or-false, and-true, and-false, true≢false, false≢true}
+use mathlib.Core.Bool.{Bool, true, false, cond, not, ◌&&◌, ◌||◌, or-true, or-false, and-true, and-false, and-not_self, true≢false, false≢true}
 use mathlib.Core.List.{List}
 use Prim.Native.Nat.{ℕ, zero, suc, ◌+◌, ◌-◌, ◌*◌, ◌≤◌, ◌<◌}
 use native.Mathlib.Decide.{dec_le, ℕ_discrete}
 use native.Mathlib.Omega.{arith}
 use lib.Dec.{eqb}
-use lib.ListN.{length, get_or-eq_default}
+use lib.ListN.{get_or-eq_default}
 use borrow.Author.Tests.{eq-eqb, ne_eqb}
 use Rattle.fixpoint.specs.Sum.{sum, bit, count}
 use Rattle.fixpoint.proofs.Sum.{sum_eq, sum_add, sum_zero}
@@ -20,13 +20,12 @@ use Rattle.semantics.proofs.Proper.{Proper}
 use Rattle.semantics.proofs.Readings.{names_inside}
 use Rattle.semantics.proofs.Soundness.{both_true}
 use Rattle.semantics.proofs.Table.{or_cases, iff_eq, any_true, any_found}
-use Rattle.index.specs.Groups.{Cleared}
+use Rattle.bits.specs.Sets.{Nobody}
 use Rattle.bits.specs.Words.{has, Removed}
 use Rattle.reach.specs.Sets.{Joins, Inside, Followed, named_by, Passed, FoundIn, Counted}
 use Rattle.reach.proofs.Closing.{queries_in, asked_in}
 use Rattle.reach.proofs.Counting.{set_few}
 use Rattle.reach.proofs.Inserting.{sum_grown, size_most}
-use Rattle.reach.proofs.Visiting.{blank_none}
 
 -- one more is followed
 any_more : (n c : ℕ) (p p' q : ℕ → Bool) → c < n → p c ≡ false → p' c ≡ true → ((k : ℕ) → k < n → k ≢ c → p' k ≡ p k)
@@ -52,6 +51,17 @@ any_more n c p p' q l no-c yes-c other = iff_eq _ _ there back
               any_true n (λ a. p' a && q a) f.0 f.1 (rw (other f.0 f.1 (λ i. true≢false (sym b.0 ∙ ap p i ∙ no-c)) ∙ b.0, b.1))
         ]
 
+-- what is not empty has some
+pub some_has : (n : ℕ) (p : ℕ → Bool) → (((c : ℕ) → c < n → p c ≡ false) → ⊥) → (c : ℕ) × (c < n) × (p c ≡ true)
+some_has zero p h = absurd (h (λ c l. absurd (omega arith)))
+some_has (suc n) p h = go (p n) refl (some_has n p)
+  where
+    go : (t : Bool) → p n ≡ t → ((((c : ℕ) → c < n → p c ≡ false) → ⊥) → (c : ℕ) × (c < n) × (p c ≡ true)) → (c : ℕ) × (c < suc n) × (p c ≡ true)
+    go true e below = (n, omega arith, e)
+    go false e below =
+        let r = below (λ f. h (λ c l. elim (ℕ_discrete c n) [ yes q ↦ ap p q ∙ e | no q ↦ f c (omega arith) ])) in
+        (r.0, omega arith, r.2)
+
 any_none : (n : ℕ) (p : ℕ → Bool) → ((x : ℕ) → p x ≡ false) → any_below n p ≡ false
 any_none n p h = iff_eq _ _ (λ e. let f = any_found n p e in absurd (true≢false (sym f.2 ∙ h f.0))) (λ e. absurd (false≢true e))
 
@@ -73,10 +83,6 @@ new_more false false false = refl
 abbrev done : List ℕ → List ℕ → ℕ → Bool
 done fresh rest c = has fresh c && not (has rest c)
 
-none_done : (t : Bool) → (t && not t) ≡ false
-none_done true = refl
-none_done false = refl
-
 -- the loop of a pass: r conditions are done, which name e
 module _ (page : Page) (fresh found₀ : List ℕ) where
   abbrev degree : ℕ → ℕ
@@ -87,30 +93,24 @@ module _ (page : Page) (fresh found₀ : List ℕ) where
   reaching rest b = any_below page.conditions (λ a. done fresh rest a && names page a b)
 
   pub record Following (rest found new : List ℕ) (r e : ℕ) : Type 0 where
-    pub rest_size : length rest ≡ 8
-    pub found_size : length found ≡ 8
-    pub new_size : length new ≡ 8
     pub inside : (c : ℕ) → c < 512 → has rest c ≡ true → has fresh c ≡ true
     pub found_is : (c : ℕ) → c < 512 → has found c ≡ (has found₀ c || reaching rest c)
     pub new_is : (c : ℕ) → c < 512 → has new c ≡ (reaching rest c && not (has found₀ c))
     pub reached_is : r ≡ count page.conditions (done fresh rest)
     pub edges_is : e ≡ sum page.conditions (λ c. cond (done fresh rest c) (degree c) 0)
 
-  pub following_first : {blank : List ℕ} → length fresh ≡ 8 → length found₀ ≡ 8 → length blank ≡ 8 → Cleared blank → Following fresh found₀ blank 0 0
-  following_first {blank} s t u z =
+  pub following_first : {blank : List ℕ} → Nobody blank → Following fresh found₀ blank 0 0
+  following_first {blank} z =
       record {
-        rest_size = s;
-        found_size = t;
-        new_size = u;
         inside = λ c l e. e;
         found_is = λ c l. rw (nobody c, or-false (has found₀ c));
-        new_is = λ c l. rw (blank_none blank z c, nobody c);
-        reached_is = sym (sum_eq page.conditions _ (λ c. 0) (λ c l. ap bit (none_done (has fresh c))) ∙ sum_zero page.conditions);
-        edges_is = sym (sum_eq page.conditions _ (λ c. 0) (λ c l. ap (λ (t : Bool). cond t (degree c) 0) (none_done (has fresh c))) ∙ sum_zero page.conditions);
+        new_is = λ c l. rw (z c l, nobody c);
+        reached_is = sym (sum_eq page.conditions _ (λ c. 0) (λ c l. ap bit (and-not_self (has fresh c))) ∙ sum_zero page.conditions);
+        edges_is = sym (sum_eq page.conditions _ (λ c. 0) (λ c l. ap (λ (t : Bool). cond t (degree c) 0) (and-not_self (has fresh c))) ∙ sum_zero page.conditions);
       }
     where
       nobody : (b : ℕ) → reaching fresh b ≡ false
-      nobody b = any_none page.conditions _ (λ x. rw (none_done (has fresh x)))
+      nobody b = any_none page.conditions _ (λ x. rw (and-not_self (has fresh x)))
 
   module _ (most : page.conditions ≤ 512) {rest found new : List ℕ} {r e : ℕ} (f : Following rest found new r e) where
     pub following_few : (r ≤ page.conditions) × (e ≤ 512 * 512)
@@ -136,9 +136,6 @@ module _ (page : Page) (fresh found₀ : List ℕ) where
       pub following_next : Following rest' found' new' (r + 1) (e + d)
       following_next =
           record {
-            rest_size = x.0;
-            found_size = v.found_size;
-            new_size = v.new_size;
             inside = λ k m q. f.inside k m (both_true (has rest k) (not (eqb k c)) (sym (x.1 k m) ∙ q)).0;
             found_is = λ k m. rw (v.found_is k m, f.found_is k m, reaching_more k) (found_more (has found₀ k) (reaching rest k) (names page c k));
             new_is = λ k m. rw (v.new_is k m, f.new_is k m, f.found_is k m, reaching_more k) (new_more (has found₀ k) (reaching rest k) (names page c k));
@@ -167,8 +164,6 @@ module _ (page : Page) (fresh found₀ : List ℕ) where
       pub following_last : Passed page fresh found₀ found new × Counted page fresh r e
       following_last = (
         record {
-          found_size = f.found_size;
-          fresh_size = f.new_size;
           found_is = λ c l. f.found_is c l ∙ ap (λ (t : Bool). has found₀ c || t) (all_reaching c);
           fresh_is = λ c l. f.new_is c l ∙ ap (λ (t : Bool). t && not (has found₀ c)) (all_reaching c);
         },
@@ -201,8 +196,6 @@ module _ (page : Page) (qs : List ℕ) where
 
   -- r and e are R and E of those that were followed
   pub record Finding (found fresh : List ℕ) (k r e : ℕ) : Type 0 where
-    pub found_size : length found ≡ 8
-    pub fresh_size : length fresh ≡ 8
     pub found_is : (c : ℕ) → c < 512 → has found c ≡ member (at page qs k) c
     pub fresh_is : (c : ℕ) → c < 512 → has fresh c ≡ (member (at page qs k) c && not (earlier k c))
     pub adding : (i : ℕ) → i < k → adds page (at page qs i) ≡ true
@@ -217,27 +210,21 @@ module _ (page : Page) (qs : List ℕ) where
     beyond : (k c : ℕ) → n ≤ c → member (at page qs k) c ≡ false
     beyond k c l = get_or-eq_default (at page qs k) false (omega (arith, at_length page qs k))
 
-    pub finding_first : {blank found : List ℕ} → Cleared blank → Joins has 8 (λ c. listed c qs) blank found → Finding found found 0 0 0
-    finding_first {found = found} z h =
+    pub finding_first : (blank found : List ℕ) → ((c : ℕ) → has blank c ≡ false) → Joins (λ c. listed c qs) (has blank) (has found) → Finding found found 0 0 0
+    finding_first blank found z h =
         record {
-          found_size = h.size;
-          fresh_size = h.size;
           found_is = is;
-          fresh_is = λ c l. is c l ∙ sym (and_not_false (member (at page qs 0) c));
+          fresh_is = λ c l. is c l ∙ sym (and-true (member (at page qs 0) c));
           adding = λ i l. absurd (omega arith);
           reached_is = sym (sum_zero n);
           edges_is = sym (sum_zero n);
         }
       where
-        and_not_false : (t : Bool) → (t && not false) ≡ t
-        and_not_false true = refl
-        and_not_false false = refl
-
         is : (c : ℕ) → c < 512 → has found c ≡ member (at page qs 0) c
         is c l =
             elim (dec_le n c) [
-              | yes m ↦ queries_in page qs w asked z h c l ∙ none c m (listed c qs) refl ∙ sym (beyond 0 c m)
-              | no m ↦ queries_in page qs w asked z h c l ∙ sym (at_first page qs c (omega arith))
+              | yes m ↦ queries_in page qs w asked blank found z h c l ∙ none c m (listed c qs) refl ∙ sym (beyond 0 c m)
+              | no m ↦ queries_in page qs w asked blank found z h c l ∙ sym (at_first page qs c (omega arith))
             ]
           where
             none : (c : ℕ) → n ≤ c → (t : Bool) → listed c qs ≡ t → t ≡ false
@@ -336,8 +323,6 @@ module _ (page : Page) (qs : List ℕ) where
           let s : k + 1 ≡ suc k = omega arith in
           rw s
           (record {
-            found_size = p.found_size;
-            fresh_size = p.fresh_size;
             found_is = found_next;
             fresh_is = fresh_next;
             adding = λ i m. elim (dec_le k i) [ yes j ↦ ap (λ (j : ℕ). adds page (at page qs j)) (omega arith) ∙ adds_next c l q | no j ↦ f.adding i (omega arith) ];
@@ -349,7 +334,7 @@ module _ (page : Page) (qs : List ℕ) where
       finding_last none =
           let s : k + 1 - 1 ≡ k = omega arith in (
             record {
-              set = record { size = p.found_size; same = λ c l. found_next c l ∙ ap (λ (m : List Bool). member m c) settled };
+              set = record { same = λ c l. found_next c l ∙ ap (λ (m : List Bool). member m c) settled };
               counted = record { some_pass = omega arith; last = ap (λ (j : ℕ). adds page (at page qs j)) s ∙ no_more; before = λ i l. f.adding i (omega arith) };
             },
             record {
@@ -383,7 +368,7 @@ module _ (page : Page) (qs : List ℕ) where
 
       -- the fresh ones are conditions
       pub fresh_inside : Inside n fresh
-      fresh_inside = (f.fresh_size, λ c l q. real c (both_true (member (at page qs k) c) (not (earlier k c)) (sym (f.fresh_is c l) ∙ q)).0)
+      fresh_inside c l q = real c (both_true (member (at page qs k) c) (not (earlier k c)) (sym (f.fresh_is c l) ∙ q)).0
         where
           real : (c : ℕ) → member (at page qs k) c ≡ true → c < n
           real c q = elim (dec_le n c) [ yes m ↦ absurd (false≢true (sym (beyond k c m) ∙ q)) | no m ↦ omega arith ]

@@ -1,8 +1,8 @@
 -- The first cause that holds, in the order of the code's tests. Assumes nothing.
-use mathlib.Core.Path.{◌≡◌, sym, ◌∙◌, ap}
-use mathlib.Core.Bool.{true, false, not, ◌&&◌}
+use mathlib.Core.Path.{◌≡◌, refl, sym, ◌∙◌, ap}
+use mathlib.Core.Bool.{Bool, true, false, not, ◌&&◌}
 use mathlib.Core.List.{List, [], ◌∷◌, ◌++◌}
-use mathlib.Core.Option.{Option, none, some}
+use mathlib.Core.Option.{Option, none, some, none-ne-some}
 use Prim.Native.Nat.{ℕ, ◌*◌, ◌≤◌, ◌<◌}
 use lib.Dec.{leb}
 use lib.ListN.{length}
@@ -12,6 +12,7 @@ use Rattle.semantics.specs.Call.{Cause, cause, first_of}
 use Rattle.semantics.specs.Operation.{Opened, refused_opening, query_causes, open_causes, open_as, open_of}
 use Rattle.semantics.specs.Reading.{closure, pass_count}
 use Rattle.reach.specs.Opening.{accepted}
+use Rattle.reach.specs.Queries.{list_causes}
 
 -- 10, 11 and 12, whatever causes come behind them
 module _ (a qs : List ℕ) (rest : List Cause) where
@@ -21,17 +22,25 @@ module _ (a qs : List ℕ) (rest : List Cause) where
   pub first_10 : sound a ≡ false → causes ≡ some 10
   first_10 e = rw e
 
-  pub first_11 : sound a ≡ true → (leb 1 (length qs) && leb (length qs) 16) ≡ false → causes ≡ some 11
-  first_11 e f = rw (e, f)
+-- the causes of a part of the list come first
+pub first_before : (xs ys : List Cause) {k : ℕ} → first_of xs ≡ some k → first_of (xs ++ ys) ≡ some k
+first_before [] ys e = absurd (none-ne-some _ e)
+first_before (cause true k ∷ xs) ys e = e
+first_before (cause false k ∷ xs) ys e = first_before xs ys e
 
-  module _ (e : sound a ≡ true) (f : (leb 1 (length qs) && leb (length qs) 16) ≡ true) where
-    pub first_12 : all_under (conditions_of a) qs ≡ false → causes ≡ some 12
-    unfolding page_of
-    first_12 g = rw (e, f, g)
+pub first_after : (xs ys : List Cause) → first_of xs ≡ none → first_of (xs ++ ys) ≡ first_of ys
+first_after [] ys e = refl
+first_after (cause true k ∷ xs) ys e = absurd (none-ne-some _ (sym e))
+first_after (cause false k ∷ xs) ys e = first_after xs ys e
 
-    pub first_behind : all_under (conditions_of a) qs ≡ true → causes ≡ first_of rest
-    unfolding page_of
-    first_behind g = rw (e, f, g)
+-- a list that is not refused
+pub list_fine : (n : ℕ) (qs : List ℕ) → first_of (list_causes n qs) ≡ none → ((leb 1 (length qs) && leb (length qs) 16) ≡ true) × (all_under n qs ≡ true)
+list_fine n qs = go (leb 1 (length qs) && leb (length qs) 16) (all_under n qs)
+  where
+    go : (s t : Bool) → first_of (cause (not s) 11 ∷ cause (not t) 12 ∷ []) ≡ none → (s ≡ true) × (t ≡ true)
+    go true true e = (refl, refl)
+    go true false e = absurd (none-ne-some _ (sym e))
+    go false t e = absurd (none-ne-some _ (sym e))
 
 -- an opening
 module _ (a qs r : List ℕ) where
@@ -50,18 +59,19 @@ module _ (a qs r : List ℕ) where
   open_10 e = open_as_lem (first_10 a qs behind e)
 
   module _ (e : sound a ≡ true) where
-    pub open_11 : (leb 1 (length qs) && leb (length qs) 16) ≡ false → (refused_opening 11 ≡ (open_of a qs r).answer) × (r ≡ (open_of a qs r).run)
-    open_11 f = open_as_lem (first_11 a qs behind e f)
+    -- past 10 the causes of the list come first
+    causes_are : first_of (open_causes a qs r) ≡ first_of (list_causes (conditions_of a) qs ++ behind)
+    unfolding page_of
+    causes_are = rw e
 
-    module _ (f : (leb 1 (length qs) && leb (length qs) 16) ≡ true) where
-      pub open_12 : all_under (conditions_of a) qs ≡ false → (refused_opening 12 ≡ (open_of a qs r).answer) × (r ≡ (open_of a qs r).run)
-      open_12 g = open_as_lem (first_12 a qs behind e f g)
+    pub open_refused : {k : ℕ} → some k ≡ first_of (list_causes (conditions_of a) qs) → (refused_opening k ≡ (open_of a qs r).answer) × (r ≡ (open_of a qs r).run)
+    open_refused {k} f = open_as_lem {o = some k} (causes_are ∙ first_before (list_causes (conditions_of a) qs) behind (sym f))
 
-      module _ (g : all_under (conditions_of a) qs ≡ true) where
-        pub open_13 : length r < 3 * conditions_of a → (refused_opening 13 ≡ (open_of a qs r).answer) × (r ≡ (open_of a qs r).run)
-        unfolding page_of
-        open_13 l = open_as_lem {o = some 13} (first_behind a qs behind e f g ∙ rw (lt-leb (3 * conditions_of a) (length r) l))
+    module _ (f : none ≡ first_of (list_causes (conditions_of a) qs)) where
+      pub open_13 : length r < 3 * conditions_of a → (refused_opening 13 ≡ (open_of a qs r).answer) × (r ≡ (open_of a qs r).run)
+      unfolding page_of
+      open_13 l = open_as_lem {o = some 13} (causes_are ∙ first_after (list_causes (conditions_of a) qs) behind (sym f) ∙ rw (lt-leb (3 * conditions_of a) (length r) l))
 
-        pub open_none : 3 * conditions_of a ≤ length r → ((accepted a qs r).answer ≡ (open_of a qs r).answer) × ((accepted a qs r).run ≡ (open_of a qs r).run)
-        unfolding page_of
-        open_none l = open_as_lem {o = none} (first_behind a qs behind e f g ∙ rw (le-leb (3 * conditions_of a) (length r) l))
+      pub open_none : 3 * conditions_of a ≤ length r → ((accepted a qs r).answer ≡ (open_of a qs r).answer) × ((accepted a qs r).run ≡ (open_of a qs r).run)
+      unfolding page_of
+      open_none l = open_as_lem {o = none} (causes_are ∙ first_after (list_causes (conditions_of a) qs) behind (sym f) ∙ rw (le-leb (3 * conditions_of a) (length r) l))

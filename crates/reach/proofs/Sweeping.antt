@@ -6,7 +6,7 @@ use mathlib.Core.List.{List}
 use Prim.Native.Nat.{ℕ, ◌+◌, ◌≤◌, ◌<◌}
 use native.Mathlib.Omega.{arith}
 use lib.Dec.{eqb}
-use lib.ListN.{length, get_or, drop}
+use lib.ListN.{get_or, drop}
 use borrow.Author.Tests.{eqb-true, eq-eqb}
 use Rattle.fixpoint.specs.ChaoticIteration.{DependencyClosed}
 use Rattle.fixpoint.specs.Sum.{bit, count}
@@ -19,7 +19,8 @@ use Rattle.semantics.proofs.Soundness.{both_true}
 use Rattle.semantics.proofs.Table.{or_cases}
 use Rattle.page.specs.Lines.{Next, line_names}
 use Rattle.page.proofs.Naming.{lines_name_lem}
-use Rattle.page.proofs.Scanning.{Scanning, lines_left, scanning_first, lines_first, scanning_moved, lines_moved, lines_none}
+use Rattle.page.specs.Lines.{Scanning}
+use Rattle.page.proofs.Scanning.{lines_left, scanning_first, lines_first, scanning_moved, lines_moved, lines_none}
 use Rattle.reach.specs.Sets.{Inserts, Swept}
 use Rattle.reach.proofs.Inserting.{size_most}
 use Rattle.reach.proofs.Visiting.{scanned_head}
@@ -36,7 +37,7 @@ bit_le : (a b : Bool) → (a ≡ true → b ≡ true) → bit a ≤ bit b
 bit_le true b h = rw (h refl) (omega arith)
 bit_le false b h = omega arith
 
-module _ {f : ℕ → Bool} {marks marks' : List Bool} {added : ℕ} (h : Inserts member 512 f marks marks' added) where
+module _ {f : ℕ → Bool} (marks marks' : List Bool) {added : ℕ} (h : Inserts f (member marks) (member marks') added) where
   pub inserts_grows : (c : ℕ) → c < 512 → member marks c ≡ true → member marks' c ≡ true
   inserts_grows c l e = h.joins.is c l ∙ rw e
 
@@ -52,7 +53,6 @@ module _ (a : List ℕ) (marks₀ : List Bool) where
 
   pub record Sweeping (marks : List Bool) (at k new : ℕ) : Type 0 where
     pub scan : Scanning a at k
-    pub size : length marks ≡ 512
     pub suffix : (x b : ℕ) → ahead at k x b ≡ true → names (page_of a) x b ≡ true
     pub grows : (c : ℕ) → c < 512 → member marks₀ c ≡ true → member marks c ≡ true
     pub inside : (s : ℕ → Bool) → DependencyClosed (page_of a).conditions (names (page_of a)) s → ((c : ℕ) → c < 512 → member marks₀ c ≡ true → s c ≡ true) → (c : ℕ) → c < 512 → member marks c ≡ true → s c ≡ true
@@ -67,12 +67,11 @@ module _ (a : List ℕ) (marks₀ : List Bool) where
     small : {c : ℕ} → c < (page_of a).conditions → c < 512
     small l = omega (arith, (solvable_proper a ok).conditions_most)
 
-    pub sweeping_first : length marks₀ ≡ 512 → {at k : ℕ} → (at ≡ first_line a) × (k ≡ 0) → Sweeping marks₀ at k 0
-    sweeping_first s {at} {k} z =
+    pub sweeping_first : {at k : ℕ} → (at ≡ first_line a) × (k ≡ 0) → Sweeping marks₀ at k 0
+    sweeping_first {at} {k} z =
         rw (z.0, z.1)
         (record {
           scan = scanning_first a ok;
-          size = s;
           suffix = λ x b q. ap (λ (ls : List Line). lines_name ls x b) (sym (lines_first a)) ∙ q;
           grows = λ c l q. q;
           inside = λ s d h. h;
@@ -94,24 +93,23 @@ module _ (a : List ℕ) (marks₀ : List Bool) where
       suffix_on x b q = s.suffix x b (ahead_is x b ∙ rw (q, or-true))
 
       -- the head is marked
-      pub sweeping_next : {marks' : List Bool} {added : ℕ} → member marks head ≡ true → Inserts member 512 (line_names line) marks marks' added → Sweeping marks' at' k' (new + added)
+      pub sweeping_next : {marks' : List Bool} {added : ℕ} → member marks head ≡ true → Inserts (line_names line) (member marks) (member marks') added → Sweeping marks' at' k' (new + added)
       sweeping_next {marks'} {added} here h =
           record {
             scan = scanning_moved a s.scan l e;
-            size = h.joins.size;
             suffix = suffix_on;
-            grows = λ c m q. inserts_grows h c m (s.grows c m q);
+            grows = λ c m q. inserts_grows marks marks' h c m (s.grows c m q);
             inside = λ t d g c m q.
                 ⊎_elim (λ z. s.inside t d g c m z)
                 (λ z. let n = named c z in d head c (scanned_head a s.scan l) (names_inside (page_of a) (solvable_proper a ok) head c n) (s.inside t d g head (small (scanned_head a s.scan l)) here) n)
                 (or_cases (member marks c) (line_names line c) (sym (h.joins.is c m) ∙ q));
             counted = omega (arith, s.counted, h.counted);
             settled = λ z x b m o p q.
-                ⊎_elim (λ i. inl (inserts_grows h b o i))
+                ⊎_elim (λ i. inl (inserts_grows marks marks' h b o i))
                 (λ i.
                 ⊎_elim (λ j. inl (h.joins.is b o ∙ rw ((both_true (eqb head x) (line_names line b) j).1, or-true))) (λ j. inr j)
                 (or_cases (eqb head x && line_names line b) (ahead at' k' x b) (sym (ahead_is x b) ∙ i)))
-                (s.settled (omega arith) x b m o (same_set h (omega arith) x m ∙ p) q);
+                (s.settled (omega arith) x b m o (same_set marks marks' h (omega arith) x m ∙ p) q);
           }
         where
           named : (c : ℕ) → line_names line c ≡ true → names (page_of a) head c ≡ true
@@ -122,7 +120,6 @@ module _ (a : List ℕ) (marks₀ : List Bool) where
       sweeping_skip away =
           record {
             scan = scanning_moved a s.scan l e;
-            size = s.size;
             suffix = suffix_on;
             grows = s.grows;
             inside = s.inside;
@@ -141,7 +138,6 @@ module _ (a : List ℕ) (marks₀ : List Bool) where
     unfolding lines_name
     sweeping_last {at = at} {k = k} s l =
         record {
-          size = s.size;
           grows = s.grows;
           inside = s.inside;
           counted = s.counted;

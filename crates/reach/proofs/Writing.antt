@@ -1,5 +1,5 @@
 -- The run area that an opening writes, cell by cell. Assumes nothing.
-use mathlib.Core.Path.{◌≡◌, refl, sym, ◌∙◌, ap, ap₂, subst}
+use mathlib.Core.Path.{◌≡◌, sym, ◌∙◌, ap, ap₂, subst}
 use mathlib.Core.Bool.{Bool}
 use mathlib.Core.List.{List, ◌++◌}
 use Prim.Native.Nat.{ℕ, ◌+◌, ◌*◌, ◌≤◌, ◌<◌}
@@ -63,9 +63,6 @@ module _ (run : List ℕ) (c high mark : ℕ) (fits : 3 * c + 3 ≤ length run) 
 
 -- the loop over the conditions
 module _ (top : ℕ) (marks : List Bool) (before : List ℕ) where
-  pub written_first : Written 0 top marks before before
-  written_first = record { size = refl; interval = λ c l. absurd (omega arith); mark = λ c l. absurd (omega arith); rest = refl }
-
   pub written_next : {run run' : List ℕ} {c mark : ℕ} → Written c top marks before run → 3 * c + 3 ≤ length run → mark ≡ mark_of (member marks c) (member marks c) → run' ≡ stored c 0 top mark run
       → Written (c + 1) top marks before run'
   written_next {run} {run'} {c} {mark} w fits e f =

@@ -4,3 +4,5 @@ pub mod Marks
 pub mod Sets
 -- the answer of an opening, and the run area that it writes
 pub mod Opening
+-- what queries are refused for
+pub mod Queries

@@ -1,5 +1,5 @@
 -- Document 01, "Open a run": what the answer says, and the run area that an opening writes. Assumes nothing.
-use Rattle.std.specs.Prelude.{◌≡◌, Bool, List, ℕ, ◌*◌, ◌<◌, length, drop}
+use Rattle.std.specs.Prelude.{◌≡◌, Bool, List, ℕ, ◌*◌, ◌<◌, length, drop, Result, Ok, Err}
 use Rattle.fixpoint.specs.KnowledgeOrder.{unknown}
 use Rattle.std.proofs.Math.Option.{none}
 use Rattle.semantics.specs.Area.{page_of}
@@ -7,13 +7,14 @@ use Rattle.semantics.specs.Operation.{Opening, refused_opening, opened_with, Ope
 use Rattle.semantics.specs.Reading.{closure, pass_count}
 use Rattle.semantics.specs.RunArea.{interval_at, mark_at, mark_of}
 use Rattle.semantics.specs.Table.{member}
-use Rattle.reach.specs.declared.OpenAnswer.{OpenAnswer}
-use Rattle.reach.specs.declared.OpenAnswer.TheVariants.{Refused, Opened}
+use Rattle.refusal.specs.Numbers.{number_of}
+use Rattle.refusal.specs.declared.Refusal.{Refusal}
+use Rattle.reach.specs.declared.Opened.{Opened}
 
 -- a refusal's number; or R, E, R + top × E and the count of passes
-abbrev pub opening_of : OpenAnswer → Opening
-opening_of (Refused k) = refused_opening k
-opening_of (Opened reached edges bound passes) = opened_with reached edges bound passes
+abbrev pub opening_of : Result Opened Refusal → Opening
+opening_of (Err r) = refused_opening (number_of r)
+opening_of (Ok o) = opened_with o.reached o.edges o.bound o.passes
 
 -- the outcome where no cause holds
 abbrev pub accepted : List ℕ → List ℕ → List ℕ → Outcome

@@ -1,5 +1,5 @@
 -- Sets of conditions as words or as marks, and what a scan over a page's lines does to them. Assumes nothing.
-use Rattle.std.specs.Prelude.{◌≡◌, Bool, true, cond, not, ◌&&◌, ◌||◌, List, ℕ, ◌+◌, ◌<◌, ltb, length}
+use Rattle.std.specs.Prelude.{◌≡◌, Bool, true, cond, not, ◌&&◌, ◌||◌, List, ℕ, ◌+◌, ◌<◌, eqb, ltb, length}
 use Rattle.fixpoint.specs.ChaoticIteration.{DependencyClosed}
 use Rattle.fixpoint.specs.Sum.{sum, count}
 use Rattle.semantics.specs.Page.{Page, names}
@@ -7,24 +7,25 @@ use Rattle.semantics.specs.Reading.{closure, IsPassCount}
 use Rattle.semantics.specs.Table.{member, any_below}
 use Rattle.bits.specs.Words.{has}
 
--- A list of the length n holds a set: of words (`has`, 8) or of marks (`member`, 512). The set with the conditions of f
-pub record Joins {A : Type 0} (holds : List A → ℕ → Bool) (n : ℕ) (f : ℕ → Bool) (before after : List A) : Type 0 where
-  pub size : length after ≡ n
-  pub is : (c : ℕ) → c < 512 → holds after c ≡ (holds before c || f c)
+-- c comes into a set
+abbrev pub Takes : ℕ → (ℕ → Bool) → (ℕ → Bool) → Type 0
+Takes c before after = (k : ℕ) → k < 512 → after k ≡ (before k || eqb k c)
+
+-- the conditions of f come into a set
+pub record Joins (f before after : ℕ → Bool) : Type 0 where
+  pub is : (c : ℕ) → c < 512 → after c ≡ (before c || f c)
 
 -- the same, and `added` of them are new
-pub record Inserts {A : Type 0} (holds : List A → ℕ → Bool) (n : ℕ) (f : ℕ → Bool) (before after : List A) (added : ℕ) : Type 0 where
-  pub joins : Joins holds n f before after
-  pub counted : count 512 (holds after) ≡ count 512 (holds before) + added
+pub record Inserts (f before after : ℕ → Bool) (added : ℕ) : Type 0 where
+  pub joins : Joins f before after
+  pub counted : count 512 after ≡ count 512 before + added
 
--- eight words whose conditions are below n
+-- the conditions of a set are below n
 abbrev pub Inside : ℕ → List ℕ → Type 0
-Inside n words = (length words ≡ 8) × ((c : ℕ) → c < 512 → has words c ≡ true → c < n)
+Inside n words = (c : ℕ) → c < 512 → has words c ≡ true → c < n
 
 -- c is followed: what it names is found, and new if it was not found before; it names so many
 pub record Followed (page : Page) (c : ℕ) (found new found' new' : List ℕ) (edges : ℕ) : Type 0 where
-  pub found_size : length found' ≡ 8
-  pub new_size : length new' ≡ 8
   pub found_is : (k : ℕ) → k < 512 → has found' k ≡ (has found k || names page c k)
   pub new_is : (k : ℕ) → k < 512 → has new' k ≡ (has new k || (names page c k && not (has found k)))
   pub edges_is : edges ≡ count page.conditions (names page c)
@@ -35,14 +36,11 @@ named_by page words b = any_below page.conditions (λ a. has words a && names pa
 
 -- a pass that follows the fresh conditions: what they name is found, and fresh if it was not found before
 pub record Passed (page : Page) (fresh found found' fresh' : List ℕ) : Type 0 where
-  pub found_size : length found' ≡ 8
-  pub fresh_size : length fresh' ≡ 8
   pub found_is : (c : ℕ) → c < 512 → has found' c ≡ (has found c || named_by page fresh c)
   pub fresh_is : (c : ℕ) → c < 512 → has fresh' c ≡ (named_by page fresh c && not (has found c))
 
 -- the set is the closure of the queries
 pub record ClosureSet (page : Page) (qs words : List ℕ) : Type 0 where
-  pub size : length words ≡ 8
   pub same : (c : ℕ) → c < 512 → has words c ≡ member (closure page qs) c
 
 -- the same, found in so many passes
@@ -57,7 +55,6 @@ pub record Counted (page : Page) (words : List ℕ) (reached edges : ℕ) : Type
 
 -- the marked set grows by `new` conditions that its own name, directly or not; with none new it names only itself
 pub record Swept (page : Page) (before after : List Bool) (new : ℕ) : Type 0 where
-  pub size : length after ≡ 512
   pub grows : (c : ℕ) → c < 512 → member before c ≡ true → member after c ≡ true
   pub inside : (s : ℕ → Bool) → DependencyClosed page.conditions (names page) s → ((c : ℕ) → c < 512 → member before c ≡ true → s c ≡ true) → (c : ℕ) → c < 512 → member after c ≡ true → s c ≡ true
   pub counted : count 512 (member after) ≡ count 512 (member before) + new

@@ -1,244 +1,220 @@
+// What a page needs of queries, and how a run is opened: the closure of the queries, as a set or as marks.
 #![tactic(auto)]
 
-ghost use Rattle.std.specs.Prelude.{◌≡◌, true, ◌&&◌, map, ◌≤◌, ◌+◌, ◌-◌, ◌<◌, ◌*◌, leb, length, get_or, take, drop};
+ghost use Rattle.std.specs.Prelude.{◌≡◌, Bool, ℕ, true, not, ◌&&◌, map, ◌≤◌, ◌+◌, ◌-◌, ◌<◌, ◌*◌, leb, length, drop, Ok};
 ghost use Rattle.semantics.specs.Area.{sound, line_at, all_under, literal_of, page_of, top_of, conditions_of, used_of};
 ghost use Rattle.semantics.specs.Operation.{open_of};
 ghost use Rattle.semantics.specs.Page.{mentions, names};
 ghost use Rattle.semantics.specs.RunArea.{mark_of};
 ghost use Rattle.semantics.specs.Table.{member, listed};
 ghost use Rattle.bits.specs.Words.{has};
-ghost use Rattle.index.specs.Groups.{Cleared};
-ghost use Rattle.page.specs.Graded.{RuleAt, SoundEntry};
+ghost use Rattle.bits.specs.Sets.{Nobody};
+ghost use Rattle.page.specs.Graded.{SoundEntry};
 ghost use Rattle.page.specs.Lines.{line_names};
 ghost use Rattle.reach.specs.Opening.{opening_of, accepted, Written};
 ghost use Rattle.reach.specs.Marks.{Unmarked, ClosureMarks};
-ghost use Rattle.reach.specs.Sets.{Joins, Inserts, Inside, Followed, Passed, ClosureSet, FoundIn, Counted, Swept, MarksBelow};
+ghost use Rattle.reach.specs.Queries.{QueriesChecked};
+ghost use Rattle.reach.specs.Sets.{Takes, Joins, Inserts, Inside, Followed, Passed, ClosureSet, FoundIn, Counted, Swept, MarksBelow};
 ghost use Rattle.page.specs.Solvable.{solvable};
 
-// Puts the queries into the set.
-fn insert_queries(queries: &[u16], words: &mut [u64])
-    requires { (all_under 512 queries.now ≡ true) × (length words.old ≡ 8) }
-    ensures { Joins has 8 (λ c. listed c queries.now) words.old words.new }
-{
-    let mut i: usize = 0;
-    while i < queries.len() {
-        bits::insert(words, queries[i]);
-        i += 1;
+use bits::Set;
+use refusal::Refusal;
+
+// A set of the conditions 0 to 511.
+trait Conditions {
+    // whether c is in the set
+    ghost holds: { Self → ℕ → Bool };
+
+    // Puts c into the set; whether it is new.
+    fn add(&mut self, c: u16) -> bool
+        requires { c < 512 }
+        ensures set { Takes c (holds self.old) (holds self.new) }
+        ensures new { result ≡ not (holds self.old c) };
+}
+
+impl Conditions for Set {
+    ghost holds = { λ s. has s.words };
+
+    fn add(&mut self, c: u16) -> bool {
+        self.insert(c)
     }
 }
 
-// Puts the conditions that the literals of the rule at `at` name into the set; answers how many are new.
-fn insert_literals(a: &[u16], at: usize, words: &mut [u64]) -> u32
-    requires { RuleAt (top_of a.now) (conditions_of a.now) a.now at × (conditions_of a.now ≤ 512) × (length words.old ≡ 8) }
-    ensures { Inserts has 8 (mentions (map literal_of (take (get_or a.now (at + 3) 0) (drop (at + 4) a.now)))) words.old words.new result }
+// A mark for each condition.
+impl Conditions for [bool; 512] {
+    ghost holds = { λ s. member s };
+
+    fn add(&mut self, c: u16) -> bool {
+        let was = self[c as usize];
+        self[c as usize] = true;
+        !was
+    }
+}
+
+// Puts the queries into the set.
+fn insert_queries<S: Conditions>(queries: &[u16], set: &mut S)
+    requires { all_under 512 queries.now ≡ true }
+    ensures { Joins (λ c. listed c queries.now) (S.holds set.old) (S.holds set.new) }
 {
-    let y = a[at + 3];
+    for &c in queries {
+        set.add(c);
+    }
+}
+
+// Puts the conditions that the literals name into the set; answers how many are new.
+fn insert_literals<S: Conditions>(codes: &[u16], set: &mut S) -> u32
+    requires { all_under 1024 codes.now ≡ true }
+    ensures { Inserts (mentions (map literal_of codes.now)) (S.holds set.old) (S.holds set.new) result }
+{
     let mut new: u32 = 0;
-    let mut j: u16 = 0;
-    while j < y {
-        new += bits::insert_new(words, a[at + 4 + j as usize] / 2);
-        j += 1;
+    for &code in codes {
+        if set.add(code / 2) {
+            new += 1;
+        }
     }
     new
 }
 
 // Puts the conditions that the line at `at` names into the set, if it is an R line; answers how many are new.
-fn insert_line(a: &[u16], at: usize, words: &mut [u64]) -> u32
-    requires { SoundEntry (top_of a.now) (conditions_of a.now) (used_of a.now - at) a.now at × (conditions_of a.now ≤ 512) × (length words.old ≡ 8) }
-    ensures { Inserts has 8 (line_names (line_at (drop at a.now))) words.old words.new result }
+fn insert_line<S: Conditions>(a: &[u16], at: usize, set: &mut S) -> u32
+    requires { SoundEntry (top_of a.now) (conditions_of a.now) (used_of a.now - at) a.now at × (conditions_of a.now ≤ 512) }
+    ensures { Inserts (line_names (line_at (drop at a.now))) (S.holds set.old) (S.holds set.new) result }
 {
     let k = a[at + 1];
     match k {
-        1..=5 => insert_literals(a, at, words),
+        1..=5 => insert_literals(page::literals_at(a, at), set),
         _ => 0,
     }
 }
 
 // Puts the conditions that the R lines of c name into the set, in one scan over the lines; answers how many are new.
-fn insert_named(a: &[u16], c: u16, words: &mut [u64]) -> u32
-    requires { (solvable a.now ≡ true) × (length words.old ≡ 8) }
-    ensures { Inserts has 8 (names (page_of a.now) c) words.old words.new result }
+fn insert_named(a: &[u16], c: u16, set: &mut Set) -> u32
+    requires { solvable a.now ≡ true }
+    ensures { Inserts (names (page_of a.now) c) (has set.old.words) (has set.new.words) result }
 {
-    let mut left = a[2];
-    let mut line = page::Cursor::first(a);
     let mut new: u32 = 0;
-    while 0 < left {
-        let at = line.at;
+    for at in page::Lines::of(a) {
         if a[at] == c {
-            new += insert_line(a, at, words);
+            new += insert_line(a, at, set);
         }
-        line = line.next(a);
-        left -= 1;
     }
     new
 }
 
 // Follows the condition c, in one scan. What its R lines name is found, and new if it was not found before; answers how many they name.
-fn follow(a: &[u16], c: u16, found: &mut [u64], new: &mut [u64]) -> u32
-    requires { (solvable a.now ≡ true) × (length found.old ≡ 8) × (length new.old ≡ 8) }
-    ensures { Followed (page_of a.now) c found.old new.old found.new new.new result }
+fn follow(a: &[u16], c: u16, found: &mut Set, new: &mut Set) -> u32
+    requires { solvable a.now ≡ true }
+    ensures { Followed (page_of a.now) c found.old.words new.old.words found.new.words new.new.words result }
 {
-    let mut named = [0u64; 8];
+    let mut named = Set::empty();
     let edges = insert_named(a, c, &mut named);
-    bits::absorb(&named, found, new);
+    found.absorb(&named, new);
     edges
 }
 
-// How many conditions a pass followed, and how many those name.
+// How many conditions were followed, and how many those name.
 #[derive(Clone, Copy)]
 struct Counts {
     reached: u32,
     edges: u32,
 }
 
-// A pass: it follows the conditions of `fresh`, takes them from that set, and puts what it adds into the empty set `new`.
-fn pass(a: &[u16], fresh: &mut [u64], found: &mut [u64], new: &mut [u64]) -> Counts
-    requires { (solvable a.now ≡ true) × Inside (conditions_of a.now) fresh.old × (length found.old ≡ 8) × (length new.old ≡ 8) × Cleared new.old }
-    ensures passed { Passed (page_of a.now) fresh.old found.old found.new new.new }
-    ensures counted { Counted (page_of a.now) fresh.old result.reached result.edges }
+// A pass: it follows the conditions of `fresh`, takes them from that set, and puts what it adds into the empty set `new`. A `while let`, since
+// the set is emptied on the way.
+fn pass(a: &[u16], fresh: &mut Set, found: &mut Set, new: &mut Set) -> Counts
+    requires { (solvable a.now ≡ true) × Inside (conditions_of a.now) fresh.old.words × Nobody new.old.words }
+    ensures passed { Passed (page_of a.now) fresh.old.words found.old.words found.new.words new.new.words }
+    ensures counted { Counted (page_of a.now) fresh.old.words result.reached result.edges }
 {
     let mut reached: u32 = 0;
     let mut edges: u32 = 0;
-    loop {
-        let c = bits::lowest_in(fresh);
-        if 512 <= c {
-            return Counts { reached, edges };
-        }
-        bits::remove(fresh, c);
+    while let Some(c) = fresh.lowest() {
+        fresh.remove(c);
         edges += follow(a, c, found, new);
         reached += 1;
     }
+    Counts { reached, edges }
 }
 
 // A set of conditions, the count of passes that found it, and its R and E.
 #[derive(Clone, Copy)]
 struct Found {
-    set: [u64; 8],
+    set: Set,
     passes: u32,
-    reached: u32,
-    edges: u32,
+    counts: Counts,
 }
 
-// The closure of the queries, in passes: the first that adds none is the last.
+// The closure of the queries, in passes: the first that adds none is the last. How many there are only that one tells, and one is made for any
+// queries, so the test stands at the end of a `loop`.
 fn find(a: &[u16], queries: &[u16]) -> Found
     requires { (solvable a.now ≡ true) × (all_under (conditions_of a.now) queries.now ≡ true) }
-    ensures found { FoundIn (page_of a.now) queries.now result.set result.passes }
-    ensures counted { Counted (page_of a.now) result.set result.reached result.edges }
+    ensures found { FoundIn (page_of a.now) queries.now result.set.words result.passes }
+    ensures counted { Counted (page_of a.now) result.set.words result.counts.reached result.counts.edges }
 {
-    let mut set = [0u64; 8];
+    let mut set = Set::empty();
     insert_queries(queries, &mut set);
     let mut fresh = set;
     let mut passes: u32 = 0;
     let mut reached: u32 = 0;
     let mut edges: u32 = 0;
     loop {
-        let mut new = [0u64; 8];
-        let counts = pass(a, &mut fresh, &mut set, &mut new);
+        let mut new = Set::empty();
+        let more = pass(a, &mut fresh, &mut set, &mut new);
         passes += 1;
-        reached += counts.reached;
-        edges += counts.edges;
+        reached += more.reached;
+        edges += more.edges;
         fresh = new;
-        if 512 <= bits::lowest_in(&fresh) {
-            return Found {
-                set,
-                passes,
-                reached,
-                edges,
-            };
+        if fresh.is_empty() {
+            break;
         }
+    }
+    Found {
+        set,
+        passes,
+        counts: Counts { reached, edges },
     }
 }
 
 // Marks the conditions of the set that are below n, where nothing is marked yet.
-fn mark_set(words: &[u64], n: u16, marks: &mut [bool])
-    requires { (length words.now ≡ 8) × (n ≤ 512) × Unmarked marks.old }
-    ensures { MarksBelow n words.now marks.new }
+fn mark_set(set: &Set, n: u16, marks: &mut [bool])
+    requires { (n ≤ 512) × Unmarked marks.old }
+    ensures { MarksBelow n set.now.words marks.new }
 {
-    let mut c: u16 = 0;
-    while c < n {
-        marks[c as usize] = bits::contains(words, c);
-        c += 1;
+    for c in 0..n {
+        marks[c as usize] = set.contains(c);
     }
 }
 
-// Marks the queries.
-fn mark_queries(queries: &[u16], marks: &mut [bool])
-    requires { (all_under 512 queries.now ≡ true) × (length marks.old ≡ 512) }
-    ensures { Joins member 512 (λ c. listed c queries.now) marks.old marks.new }
-{
-    let mut i: usize = 0;
-    while i < queries.len() {
-        marks[queries[i] as usize] = true;
-        i += 1;
-    }
-}
-
-// Marks the conditions that the literals of the rule at `at` name; answers how many are new.
-fn mark_literals(a: &[u16], at: usize, marks: &mut [bool]) -> u32
-    requires { RuleAt (top_of a.now) (conditions_of a.now) a.now at × (conditions_of a.now ≤ 512) × (length marks.old ≡ 512) }
-    ensures { Inserts member 512 (mentions (map literal_of (take (get_or a.now (at + 3) 0) (drop (at + 4) a.now)))) marks.old marks.new result }
-{
-    let y = a[at + 3];
-    let mut new: u32 = 0;
-    let mut j: u16 = 0;
-    while j < y {
-        let c = (a[at + 4 + j as usize] / 2) as usize;
-        if !marks[c] {
-            marks[c] = true;
-            new += 1;
-        }
-        j += 1;
-    }
-    new
-}
-
-// Marks the conditions that the line at `at` names, if it is an R line; answers how many are new.
-fn mark_line(a: &[u16], at: usize, marks: &mut [bool]) -> u32
-    requires { SoundEntry (top_of a.now) (conditions_of a.now) (used_of a.now - at) a.now at × (conditions_of a.now ≤ 512) × (length marks.old ≡ 512) }
-    ensures { Inserts member 512 (line_names (line_at (drop at a.now))) marks.old marks.new result }
-{
-    let k = a[at + 1];
-    match k {
-        1..=5 => mark_literals(a, at, marks),
-        _ => 0,
-    }
-}
-
-// One pass over the lines: what a line of a marked condition names is marked; answers how many are new.
-fn sweep(a: &[u16], marks: &mut [bool]) -> u32
-    requires { (solvable a.now ≡ true) × (length marks.old ≡ 512) }
+// One pass over the lines: what a line of a marked condition names is marked; answers how many are new. It stands beside `insert_named`, since
+// its test reads the marks that it changes: with the test as a parameter no one fact says what both have done.
+fn sweep(a: &[u16], marks: &mut [bool; 512]) -> u32
+    requires { solvable a.now ≡ true }
     ensures { Swept (page_of a.now) marks.old marks.new result }
 {
-    let mut left = a[2];
-    let mut line = page::Cursor::first(a);
     let mut new: u32 = 0;
-    while 0 < left {
-        let at = line.at;
+    for at in page::Lines::of(a) {
         if marks[a[at] as usize] {
-            new += mark_line(a, at, marks);
+            new += insert_line(a, at, marks);
         }
-        line = line.next(a);
-        left -= 1;
     }
     new
 }
 
 // The closure of the queries as a set.
-pub fn spread(a: &[u16], queries: &[u16]) -> [u64; 8]
+pub fn spread(a: &[u16], queries: &[u16]) -> Set
     requires { (solvable a.now ≡ true) × (all_under (conditions_of a.now) queries.now ≡ true) }
-    ensures { ClosureSet (page_of a.now) queries.now result }
+    ensures { ClosureSet (page_of a.now) queries.now result.words }
 {
-    let found = find(a, queries);
-    found.set
+    find(a, queries).set
 }
 
-// Marks the closure of the queries, where nothing is marked yet, by passes over all lines until one adds nothing: fewer scans, where E is
-// not asked for.
-pub fn mark_closure(a: &[u16], queries: &[u16], marks: &mut [bool])
+// Marks the closure of the queries, where nothing is marked yet, by passes over all lines until one adds nothing, which alone tells how many
+// there are: fewer scans, where E is not asked for.
+pub fn mark_closure(a: &[u16], queries: &[u16], marks: &mut [bool; 512])
     requires { (solvable a.now ≡ true) × (all_under (conditions_of a.now) queries.now ≡ true) × Unmarked marks.old }
     ensures { ClosureMarks (page_of a.now) queries.now marks.new }
 {
-    mark_queries(queries, marks);
+    insert_queries(queries, marks);
     while 0 < sweep(a, marks) {}
 }
 
@@ -254,10 +230,7 @@ fn bound_of(reached: u32, top: u16, edges: u32) -> u32
 fn first_mark(reached: bool) -> u16
     ensures { result ≡ mark_of reached reached }
 {
-    if reached {
-        return 2;
-    }
-    0
+    if reached { 2 } else { 0 }
 }
 
 // Writes n conditions: each holds [0;top], and waits if it is marked.
@@ -265,97 +238,90 @@ pub fn write_run(run: &mut [u16], n: u16, top: u16, marks: &[bool])
     requires { (3 * n ≤ length run.old) × (n ≤ length marks.now) }
     ensures { Written n top marks.now run.old run.new }
 {
-    let mut c: u16 = 0;
-    while c < n {
+    for c in 0..n {
         let mark = first_mark(marks[c as usize]);
         worklist::store_cell(run, c, 0, top, mark);
-        c += 1;
     }
 }
 
-// Refusal 11: whether a list has 1 to 16 queries.
+// Whether a list has 1 to 16 queries.
 pub fn count_ok(queries: &[u16]) -> bool
     ensures { result ≡ (leb 1 (length queries.now) && leb (length queries.now) 16) }
 {
-    if queries.len() < 1 {
-        return false;
-    }
-    queries.len() <= 16
+    (1..=16).contains(&queries.len())
 }
 
-// Refusal 12: whether every query is below n.
+// Whether every query is below n.
 pub fn all_below(queries: &[u16], n: u16) -> bool
     ensures { result ≡ all_under n queries.now }
 {
-    let mut i: usize = 0;
-    while i < queries.len() {
-        if n <= queries[i] {
-            return false;
-        }
-        i += 1;
-    }
-    true
+    queries.iter().all(|&c| c < n)
 }
 
+// Whether a list has 1 to 16 queries, and every query is below n.
+pub fn check_queries(queries: &[u16], n: u16) -> Result<(), Refusal>
+    ensures { QueriesChecked n queries.now result }
+{
+    if !count_ok(queries) {
+        return Err(Refusal::QueryCount);
+    }
+    if !all_below(queries, n) {
+        return Err(Refusal::QueryOutOfRange);
+    }
+    Ok(())
+}
+
+// What an opening answers: R, E, R + top × E, and the count of passes.
 #[derive(Clone, Copy)]
-pub enum OpenAnswer {
-    Refused(u8),
-    Opened {
-        reached: u32,
-        edges: u32,
-        bound: u32,
-        passes: u32,
-    },
+pub struct Opened {
+    pub reached: u32,
+    pub edges: u32,
+    pub bound: u32,
+    pub passes: u32,
 }
 
 // The work of an opening that no cause refuses: "all 512 possible conditions begin as not reached", and the closure is then marked.
-fn open_accepted(page: &[u16], queries: &[u16], run: &mut [u16]) -> OpenAnswer
+#[tactic(auto, using(page::proofs::Head::head_of))]
+fn open_accepted(page: &[u16], queries: &[u16], run: &mut [u16]) -> Opened
     requires { (solvable page.now ≡ true) × (all_under (conditions_of page.now) queries.now ≡ true) × (3 * conditions_of page.now ≤ length run.old) }
-    ensures answer { opening_of result ≡ (accepted page.now queries.now run.old).answer }
+    ensures answer { opening_of (Ok result) ≡ (accepted page.now queries.now run.old).answer }
     ensures left { run.new ≡ (accepted page.now queries.now run.old).run }
 {
     let top = page[0];
     let n = page[1];
-    let closure = find(page, queries);
-    let set = closure.set;
-    let reached = closure.reached;
-    let edges = closure.edges;
+    let found = find(page, queries);
+    let Counts { reached, edges } = found.counts;
     let mut marks = [false; 512];
-    mark_set(&set, n, &mut marks);
+    mark_set(&found.set, n, &mut marks);
     write_run(run, n, top, &marks);
-    OpenAnswer::Opened {
+    Opened {
         reached,
         edges,
         bound: bound_of(reached, top, edges),
-        passes: closure.passes,
+        passes: found.passes,
     }
 }
 
 // Open a run on a page that is sound.
-pub fn open_sound(page: &[u16], queries: &[u16], run: &mut [u16]) -> OpenAnswer
+pub fn open_sound(page: &[u16], queries: &[u16], run: &mut [u16]) -> Result<Opened, Refusal>
     requires { sound page.now ≡ true }
     ensures answer { opening_of result ≡ (open_of page.now queries.now run.old).answer }
     ensures left { run.new ≡ (open_of page.now queries.now run.old).run }
 {
-    if !count_ok(queries) {
-        return OpenAnswer::Refused(11);
-    }
-    if !all_below(queries, page[1]) {
-        return OpenAnswer::Refused(12);
-    }
+    check_queries(queries, page[1])?;
     if run.len() < 3 * page[1] as usize {
-        return OpenAnswer::Refused(13);
+        return Err(Refusal::RunShort);
     }
-    open_accepted(page, queries, run)
+    Ok(open_accepted(page, queries, run))
 }
 
 // Open a run.
-pub fn open_run(page: &[u16], queries: &[u16], run: &mut [u16]) -> OpenAnswer
+pub fn open_run(page: &[u16], queries: &[u16], run: &mut [u16]) -> Result<Opened, Refusal>
     ensures answer { opening_of result ≡ (open_of page.now queries.now run.old).answer }
     ensures left { run.new ≡ (open_of page.now queries.now run.old).run }
 {
     if !page::page_sound(page) {
-        return OpenAnswer::Refused(10);
+        return Err(Refusal::PageNotSound);
     }
     open_sound(page, queries, run)
 }

@@ -1,9 +1,10 @@
 -- A line that is known to have a form: what stands at its places. Assumes nothing.
+use Rattle.std.proofs.Common.{Option, Some, None}
 use mathlib.Core.Path.{◌≡◌, refl, sym, ◌∙◌, ap}
 use mathlib.Core.Bool.{Bool, true, false, false≢true}
 use mathlib.Core.List.{List, [], ◌∷◌, map, map-map}
 use mathlib.Core.Logic.{◌⊎◌, inl, inr}
-use Prim.Native.Nat.{ℕ, ◌+◌, ◌≤◌, ◌<◌}
+use Prim.Native.Nat.{ℕ, ◌+◌, ◌≤◌}
 use native.Mathlib.Omega.{arith}
 use native.Mathlib.Decide.{ℕ_discrete}
 use lib.Dec.{leb}
@@ -14,7 +15,7 @@ use Rattle.semantics.specs.Text.{is_number, op_in, reading_in, literal_in, all_l
 use Rattle.semantics.proofs.Soundness.{both_true}
 use Rattle.fields.specs.Cursor.{InText, fields_at, field_at, letter_then, NumberTo}
 use Rattle.fields.proofs.Fields.{some_field}
-use Rattle.fields.proofs.Letters.{Plain, plain, LetterThen, letter_here, letter_next, letter_gone, letter_last, no_letter_last}
+use Rattle.fields.proofs.Letters.{Plain, plain, LetterThen, letter_here, letter_gone, letter_last, no_letter_last}
 use Rattle.fields.proofs.Tokens.{NumberThen, NumberLast, number_more, number_only}
 use Rattle.lines.specs.Lines.{Ends, Says, PairLetter, PairThen, are_literals, kind_at, reading_at}
 use Rattle.lines.proofs.LetterCodes.{op_known, kind_plain, zero_kind, none_kind, reading_plain, zero_reading, none_reading}
@@ -29,6 +30,11 @@ neither {P} {t} {f} h e = (go t refl, λ p. false≢true (sym (h (inr p)) ∙ e)
     go : (u : Bool) → t ≡ u → t ≡ true
     go true p = p
     go false p = absurd (false≢true (sym (h (inl p)) ∙ e))
+
+-- an option that is not none
+some_of : (o : Option ℕ) → (None ≡ o → ⊥) → (k : ℕ) × (Some k ≡ o)
+some_of None n = absurd (n refl)
+some_of (Some k) n = (k, refl)
 
 -- a letter with a comma behind it, where there is one
 pub letter_unless : (s : List ℕ) (at : ℕ) → InText s at → {x : ℕ} → get_or s at 10 ≡ x → Plain x → (letter_then (fields_at (drop at s)) ≡ 0 → ⊥) → LetterThen s at x
@@ -85,17 +91,17 @@ module _ (s : List ℕ) (at : ℕ) (w : Formed s at) where
 
   -- The op letter and the literals of a rule.
   module _ (x : get_or s at 10 ≡ 82) {v u b : ℕ} (k : PairThen s at v u b) where
-    an_op : kind_at (get_or s b 10) ≡ 0 → ⊥
-    an_op z = never (no_op s at x k (none_kind s b z))
+    pub an_op : (k : ℕ) × (Some k ≡ kind_at (get_or s b 10))
+    an_op = some_of (kind_at (get_or s b 10)) (λ z. never (no_op s at x k (none_kind s b z)))
 
     op_letter_lem : LetterThen s b (get_or s b 10)
-    op_letter_lem = letter_unless s b k.place refl (kind_plain (get_or s b 10) an_op) (λ z. never (no_op s at x k (zero_kind z)))
+    op_letter_lem = letter_unless s b k.place refl (kind_plain (get_or s b 10) an_op.1) (λ z. never (no_op s at x k (zero_kind z)))
 
     pub literals_place : InText s (b + 2)
     literals_place = op_letter_lem.place
 
     are_literals_lem : are_literals (fields_at (drop (b + 2) s)) ≡ true
-    are_literals_lem = sym (literals_form s at x k op_letter_lem an_op) ∙ w.form
+    are_literals_lem = sym (literals_form s at x k op_letter_lem an_op.1) ∙ w.form
 
     pub literals_known : (leb (length (fields_at (drop (b + 2) s))) 8 ≡ true) × (all_literals (fields_at (drop (b + 2) s)) ≡ true)
     literals_known = let hs = fields_at (drop (b + 2) s) in both_true (leb (length hs) 8) (all_literals hs) are_literals_lem
@@ -104,10 +110,10 @@ module _ (s : List ℕ) (at : ℕ) (w : Formed s at) where
     literals_rest = ap (drop 4) k.fields ∙ ap (drop 1) op_letter_lem.fields
 
     pub rule_known : {next : ℕ} → Ends s (b + 2) next → Says s at (rule v u (op_in (get_or s b 10 ∷ [])) (map literal_in (fields_at (drop (b + 2) s)))) next
-    rule_known e = a_rule s at x k op_letter_lem an_op are_literals_lem e
+    rule_known e = a_rule s at x k op_letter_lem an_op.1 are_literals_lem e
 
-    pub rule_codes : v ∷ kind_at (get_or s b 10) ∷ u ∷ length (fields_at (drop (b + 2) s)) ∷ map code_in (fields_at (drop (b + 2) s)) ≡ line_code (rule v u (op_in (get_or s b 10 ∷ [])) (map literal_in (fields_at (drop (b + 2) s))))
-    rule_codes = let hs = fields_at (drop (b + 2) s) in rw ((op_known (get_or s b 10) an_op).1, length-map hs literal_in, map-map code_of literal_in hs)
+    pub rule_codes : {i : ℕ} → Some i ≡ kind_at (get_or s b 10) → v ∷ i ∷ u ∷ length (fields_at (drop (b + 2) s)) ∷ map code_in (fields_at (drop (b + 2) s)) ≡ line_code (rule v u (op_in (get_or s b 10 ∷ [])) (map literal_in (fields_at (drop (b + 2) s))))
+    rule_codes n = let hs = fields_at (drop (b + 2) s) in rw ((op_known (get_or s b 10) n).1, length-map hs literal_in, map-map code_of literal_in hs)
 
   -- A line that begins with neither `F`, `R` nor `Q` is a D line.
   pub must_default : (get_or s at 10 ≡ 70 → ⊥) → (get_or s at 10 ≡ 82 → ⊥) → (get_or s at 10 ≡ 81 → ⊥) → get_or s at 10 ≡ 68
@@ -125,12 +131,12 @@ module _ (s : List ℕ) (at : ℕ) (w : Formed s at) where
     pub reading_place : InText s (at + 2)
     reading_place = query_letter.place
 
-    a_reading : reading_at (get_or s (at + 2) 10) ≡ 2 → ⊥
-    a_reading z = never (no_reading_letter s at query_letter (none_reading s (at + 2) z))
+    pub a_reading : (k : ℕ) × (Some k ≡ reading_at (get_or s (at + 2) 10))
+    a_reading = some_of (reading_at (get_or s (at + 2) 10)) (λ z. never (no_reading_letter s at query_letter (none_reading s (at + 2) z)))
 
     reading_letter_lem : LetterThen s (at + 2) (get_or s (at + 2) 10)
     reading_letter_lem =
-        letter_unless s (at + 2) reading_place refl (reading_plain (get_or s (at + 2) 10) a_reading)
+        letter_unless s (at + 2) reading_place refl (reading_plain (get_or s (at + 2) 10) a_reading.1)
         (λ z. never (no_reading_letter s at query_letter (zero_reading z)))
 
     pub condition_place : InText s (at + 4)
@@ -146,10 +152,10 @@ module _ (s : List ℕ) (at : ℕ) (w : Formed s at) where
           number_only s (at + 4) n (omega (arith, some_field (drop (at + 4) s)))
 
       pub query_known : Says s at (query (reading_in (get_or s (at + 2) 10 ∷ [])) v) (e + 1)
-      query_known = a_query s at query_letter reading_letter_lem a_reading the_condition
+      query_known = a_query s at query_letter reading_letter_lem a_reading.1 the_condition
 
-      pub known_codes : v ∷ 6 ∷ reading_at (get_or s (at + 2) 10) ∷ 0 ∷ [] ≡ line_code (query (reading_in (get_or s (at + 2) 10 ∷ [])) v)
-      known_codes = query_codes s at query_letter reading_letter_lem a_reading the_condition
+      pub known_codes : {k : ℕ} → Some k ≡ reading_at (get_or s (at + 2) 10) → v ∷ 6 ∷ k ∷ 0 ∷ [] ≡ line_code (query (reading_in (get_or s (at + 2) 10 ∷ [])) v)
+      known_codes r = query_codes s at query_letter reading_letter_lem r the_condition
 
   -- The condition of a D line.
   module _ (x : get_or s at 10 ≡ 68) where
@@ -178,9 +184,6 @@ module _ (s : List ℕ) (at : ℕ) (w : Formed s at) where
           go (yes p) (yes q) = (p, q)
           go (yes p) (no q) = absurd (not_so (λ y z. q z))
           go (no p) q = absurd (not_so (λ y z. p y))
-
-      pub default_inside : e + 2 < length s
-      default_inside = omega (arith, (letter_next s (e + 1) default_condition.place unknown_here.0 (plain 85 (omega arith))).inside)
 
       pub default_known : Says s at (default v) (e + 3)
       default_known =

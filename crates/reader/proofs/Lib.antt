@@ -2,6 +2,8 @@
 pub mod LinePlaces
 -- the ranges of a line
 pub mod Ranges
+-- a result whose error is mapped
+pub mod Mapped
 -- the first line, and the lines after it
 pub mod Heads
 pub mod Passes

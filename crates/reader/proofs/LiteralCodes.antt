@@ -3,16 +3,16 @@ use mathlib.Core.Path.{◌≡◌, refl, sym, ◌∙◌, ap}
 use mathlib.Core.Bool.{true}
 use mathlib.Core.List.{List, [], ◌∷◌, map}
 use mathlib.Core.Logic.{⊎_elim}
-use Prim.Native.Nat.{ℕ, suc, ◌+◌, ◌-◌, ◌≤◌, ◌<◌}
+use Prim.Native.Nat.{ℕ, suc, ◌+◌, ◌-◌, ◌<◌}
 use native.Mathlib.Omega.{arith}
 use lib.ListN.{length, get_or, drop, set, length-set, length-map}
 use lib.Seq.{sets}
 use Rattle.semantics.specs.Text.{is_literal, all_literals}
 use Rattle.semantics.proofs.Soundness.{both_true}
-use Rattle.fields.specs.Cursor.{InText, fields_at, field_at, CodeTo}
+use Rattle.fields.specs.Cursor.{fields_at, field_at, CodeTo}
 use Rattle.fields.proofs.Places.{byte_here}
-use Rattle.fields.proofs.Fields.{some_field, first_here, Comma, Newline, follows, newline_after}
-use Rattle.lines.proofs.LiteralFields.{Passed, passed_none, passed_more, last_size, last_ends}
+use Rattle.fields.proofs.Fields.{first_here, Comma, Newline, follows, newline_after}
+use Rattle.lines.proofs.LiteralFields.{Passed, passed_more, last_size, last_ends}
 use Rattle.reader.specs.Entries.{Put, code_in, LiteralsPut}
 use Rattle.reader.proofs.Writes.{sets_before}
 
@@ -24,9 +24,6 @@ pub record Putting (s : List ℕ) (at : ℕ) (area₀ : List ℕ) (start : ℕ) 
   pub same : length area ≡ length area₀
   pub put : sets area₀ start (map code_in (fields_at (drop at s))) ≡ sets area end (map code_in (fields_at (drop i s)))
 
-pub putting_none : (s : List ℕ) (at : ℕ) (area : List ℕ) (start : ℕ) → InText s at → Putting s at area start area start at
-putting_none s at area start w = record { count = 0; passed = passed_none s at w; size = omega arith; same = refl; put = refl }
-
 module _ (s : List ℕ) (at : ℕ) (area₀ : List ℕ) (start : ℕ) {area : List ℕ} {end i : ℕ} (w : Putting s at area₀ start area end i) (all : all_literals (fields_at (drop at s)) ≡ true) where
   -- the next field is a literal, and has its place
   pub literal_known : is_literal (field_at s i) ≡ true
@@ -34,9 +31,6 @@ module _ (s : List ℕ) (at : ℕ) (area₀ : List ℕ) (start : ℕ) {area : Li
   literal_known =
       (both_true (is_literal (field_at s i)) (all_literals (drop 1 (fields_at (drop i s))))
       (ap all_literals (sym (first_here s i (i + length (field_at s i)) refl)) ∙ sym w.passed.all ∙ all)).0
-
-  pub literal_room : start + length (fields_at (drop at s)) ≤ length area₀ → end < length area
-  literal_room r = omega (arith, w.size, w.same, w.passed.size, some_field (drop i s))
 
   module _ {code e : ℕ} (q : CodeTo s i code e) where
     byte_behind : get_or s e 0 ≡ get_or s e 10

@@ -1,5 +1,5 @@
 -- The lines after the first, one after the other: which is bad, how many there are, and their used length. Assumes nothing.
-use mathlib.Core.Path.{◌≡◌, refl, ◌∙◌, ap, subst}
+use mathlib.Core.Path.{◌≡◌, refl, ◌∙◌, ap}
 use mathlib.Core.List.{List, [], ◌∷◌, ◌++◌}
 use mathlib.Core.Option.{some}
 use Prim.Native.Nat.{ℕ, suc, ◌+◌, ◌*◌, ◌-◌, ◌≤◌, ◌<◌}
@@ -13,20 +13,11 @@ use Rattle.semantics.specs.Area.{head_length, line_code, line_codes}
 use Rattle.semantics.specs.Text.{text_lines, fields_of, line_in, lines_in}
 use Rattle.semantics.specs.ReadPage.{told_at, or_else, line_fault, bad_line}
 use Rattle.semantics.proofs.Repeats.{defaults_pass}
-use Rattle.bits.proofs.Sets.{zeros_none}
 use Rattle.fields.specs.Cursor.{fields_at, lines_after}
-use Rattle.reader.specs.declared.check.Line.{Line}
-use Rattle.reader.specs.declared.check.Line.TheVariants.{Good, Bad}
-use Rattle.reader.specs.Checks.{Seen, fault_in, LineGood, LineAs, AllGood, entries_of}
+use mathlib.Core.Bool.{false}
+use Rattle.bits.specs.Words.{has}
+use Rattle.reader.specs.Checks.{Seen, fault_in, LineGood, AllGood, entries_of}
 use Rattle.reader.proofs.LinePlaces.{line_here}
-
--- what a line comes to, by the cases of the answer
-module _ (s : List ℕ) (at top n : ℕ) (before : List PageLine) (words : List ℕ) {r : Line} (q : LineAs s at top n before words r) where
-  pub good_told : {next size : ℕ} → r ≡ Good next size → LineGood s at top n before words next size
-  good_told e = subst (LineAs s at top n before words) e q
-
-  pub bad_told : {number place : ℕ} → r ≡ Bad number place → fault_in top n before (fields_at (drop at s)) ≡ some (record { number = number; place = place })
-  bad_told e = subst (LineAs s at top n before words) e q
 
 -- The first of the lines at a place, and their entries.
 module _ (s : List ℕ) (i : ℕ) (h : i < length s) where
@@ -69,9 +60,9 @@ pub record Checking (s : List ℕ) (from top n : ℕ) (words : List ℕ) (i k u 
   pub short : u + 24 ≤ head_length n + 12 * k
 
 -- an empty set
-pub seen_none : Seen [] (0 ∷ 0 ∷ 0 ∷ 0 ∷ 0 ∷ 0 ∷ 0 ∷ 0 ∷ [])
+pub seen_none : {words : List ℕ} → length words ≡ 8 → ((c : ℕ) → has words c ≡ false) → Seen [] words
 unfolding defaults
-seen_none = record { size = refl; are = λ c l. zeros_none c }
+seen_none z n = record { size = z; are = λ c l. n c }
 
 pub checking_first : (s : List ℕ) (from top n : ℕ) {words : List ℕ} → Seen [] words → Checking s from top n words from 2 (head_length n)
 unfolding defaults

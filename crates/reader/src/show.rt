@@ -7,14 +7,12 @@ pub fn line_end(bytes: &[u8], at: usize) -> usize
     requires { at ≤ length bytes.now }
     ensures { LineStop bytes.now at result }
 {
-    let mut i = at;
-    while i < bytes.len() {
+    for i in at..bytes.len() {
         if bytes[i] == b'\n' {
             return i;
         }
-        i += 1;
     }
-    i
+    bytes.len()
 }
 
 // The place behind the line at a place.

@@ -1,7 +1,8 @@
 -- The high ends of the conditions that are unknown by default fall, one after the other. Assumes nothing.
-use mathlib.Core.Path.{◌≡◌, refl, sym, ◌∙◌, ap, subst}
+use mathlib.Core.Path.{◌≡◌, sym, ◌∙◌, ap, subst}
 use mathlib.Core.Logic.{◌≢◌, ◌⊎◌, inl, inr, ⊎_elim}
-use mathlib.Core.Bool.{Bool, true, false, true≢false, false≢true}
+use mathlib.Core.Bool.{Bool, true, false, ◌||◌, or-true, or-false, true≢false}
+use Rattle.fixpoint.proofs.Cond.{by_bool}
 use mathlib.Core.List.{List}
 use Prim.Native.Nat.{ℕ, ◌+◌, ◌*◌, ◌-◌, ◌≤◌, ◌<◌}
 use native.Mathlib.Decide.{ℕ_discrete}
@@ -15,28 +16,8 @@ use Rattle.index.specs.Readers.{lines_read}
 use Rattle.index.proofs.Readers.{reads_below}
 use Rattle.settle.specs.Waiting.{WaitSet}
 use Rattle.unknowns.specs.NextHighs.{sought}
-use Rattle.rounds.specs.Round.{Renegated, Fallible, Falls, Lowered, Fell}
+use Rattle.rounds.specs.Round.{Renegated, Fallible, Falls, Lowered}
 use Rattle.rounds.proofs.Starting.{upto}
-
--- nothing is done at c
-pub lowered_not : {a : List ℕ} {m : List Bool} {users next : List ℕ} {c : ℕ} {s words : List ℕ} → (sought a m c ≡ true → get_or s (2 * conditions_of a + 2 * c) 0 ≤ get_or next c 0)
-    → Lowered a m users next c s s words words false
-lowered_not h = record { still = λ z. (refl, refl, h); falls = λ z. absurd (false≢true z) }
-
--- its high end becomes the next one
-module _ (a : List ℕ) (c : ℕ) (s : List ℕ) (v : ℕ) where
-  pub stored_in : 4 * conditions_of a ≤ length s → c < conditions_of a → v < get_or s (2 * conditions_of a + 2 * c) 0 → get_or s (2 * conditions_of a + 2 * c) 0 ≤ top_of a
-      → get_or (set s (2 * conditions_of a + 2 * c) v) (2 * conditions_of a + 2 * c) 0 ≤ top_of a
-  stored_in h l u w = omega (arith, get_or-set_same s (2 * conditions_of a + 2 * c) v 0 (omega arith))
-
-  pub stored_length : {users s' words words' : List ℕ} → Renegated a users c (set s (2 * conditions_of a + 2 * c) v) s' words words' → length s' ≡ length s
-  stored_length r =
-      ap length r.stored ∙ length-set (set s (2 * conditions_of a + 2 * c) v) (2 * c + 1) (top_of a - get_or (set s (2 * conditions_of a + 2 * c) v) (2 * conditions_of a + 2 * c) 0)
-      ∙ length-set s (2 * conditions_of a + 2 * c) v
-
-pub lowered_here : {a : List ℕ} {m : List Bool} {users next : List ℕ} {c : ℕ} {s s' words words' : List ℕ} → sought a m c ≡ true → get_or next c 0 < get_or s (2 * conditions_of a + 2 * c) 0
-    → Renegated a users c (set s (2 * conditions_of a + 2 * c) (get_or next c 0)) s' words words' → Lowered a m users next c s s' words words' true
-lowered_here q l r = record { still = λ z. absurd (true≢false z); falls = λ z. ((q, l), r) }
 
 module _ (a : List ℕ) (m : List Bool) (users next s₀ words₀ : List ℕ) where
   abbrev n : ℕ
@@ -68,24 +49,6 @@ module _ (a : List ℕ) (m : List Bool) (users next s₀ words₀ : List ℕ) wh
     pub still : fell ≡ false → (d : ℕ) → d < n → high s d ≡ high s₀ d
     pub moves : fell ≡ true → (d : ℕ) × (d < c) × Falls a m next s₀ d × (high s d ≡ get_or next d 0)
 
-  pub falling_first : Fallible a m users next s₀ words₀ → Falling s₀ words₀ false 0
-  falling_first r =
-      record {
-        ready = r;
-        within = omega arith;
-        same_length = refl;
-        lows = λ d l. refl;
-        behind = λ d l. refl;
-        falls = λ d l. absurd (omega arith);
-        down = λ d l. absurd (omega arith);
-        negated = r.negated;
-        beyond = refl;
-        set_in = r.set_in;
-        woken = inr (λ d l. absurd (omega arith));
-        still = λ z d l. refl;
-        moves = λ z. absurd (false≢true z);
-      }
-
   module _ {s words : List ℕ} {fell : Bool} {c : ℕ} (v : Falling s words fell c) (l : c < n) where
     pub high_in : high s c ≤ top_of a
     high_in = omega (arith, v.behind c (omega arith), v.ready.within c l)
@@ -95,7 +58,7 @@ module _ (a : List ℕ) (m : List Bool) (users next s₀ words₀ : List ℕ) wh
 
     module _ {s' words' : List ℕ} {t : Bool} (r : Lowered a m users next c s s' words words' t) where
       -- it stays
-      pub falling_still : t ≡ false → Falling s' words' fell (c + 1)
+      falling_still : t ≡ false → Falling s' words' fell (c + 1)
       falling_still z =
           let q = r.still z in
           let same : high s c ≡ high s₀ c = v.behind c (omega arith) in
@@ -178,7 +141,7 @@ module _ (a : List ℕ) (m : List Bool) (users next s₀ words₀ : List ℕ) wh
             another : get_or s₁ (2 * c + 1) 0 ≢ top_of a - get_or s₁ (2 * conditions_of a + 2 * c) 0
             another e = omega (arith, e, get_or-set_other s i (2 * c + 1) (get_or next c 0) 0 (λ q. omega arith), v.negated c l, here₁, high_in, (r.falls z).0.1)
 
-        pub falling_fell : Falling s' words' true (c + 1)
+        falling_fell : Falling s' words' true (c + 1)
         unfolding x s₁
         falling_fell =
             record {
@@ -200,17 +163,7 @@ module _ (a : List ℕ) (m : List Bool) (users next s₀ words₀ : List ℕ) wh
               moves = λ e. (c, omega arith, falls_here, high_here);
             }
 
-  pub falling_last : {s words : List ℕ} {fell : Bool} {c : ℕ} → Falling s words fell c → n ≤ c → Fell a m users next s₀ s words fell
-  falling_last v l =
-      record {
-        same_length = v.same_length;
-        lows = v.lows;
-        falls = λ d k. v.falls d (omega arith);
-        down = λ d k. v.down d (omega arith);
-        negated = v.negated;
-        beyond = v.beyond;
-        set_in = v.set_in;
-        woken = ⊎_elim (λ e. inl e) (λ f. inr (λ d k. f d (omega arith))) v.woken;
-        still = v.still;
-        moves = λ z. let p = v.moves z in (p.0, omega (arith, p.1, v.within), p.2, p.3);
-      }
+  pub falling_next : {s words : List ℕ} {fell : Bool} {c : ℕ} → Falling s words fell c → c < n → {s' words' : List ℕ} {t : Bool} → Lowered a m users next c s s' words words' t
+      → Falling s' words' (fell || t) (c + 1)
+  falling_next {fell = fell} v l {t = t} r =
+      by_bool t (λ z. rw (z, or-true) (falling_fell v l r z)) (λ z. rw (z, or-false) (falling_still v l r z))

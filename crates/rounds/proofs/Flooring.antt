@@ -21,20 +21,17 @@ use Rattle.semantics.specs.Body.{T, unknown_by_default}
 use Rattle.semantics.specs.Grade.{lower}
 use Rattle.semantics.specs.Table.{member}
 use Rattle.bits.specs.Words.{has}
-use Rattle.index.specs.Parts.{Users, MaybeUsers}
+use Rattle.index.specs.Parts.{Users}
 use Rattle.settle.specs.Ends.{nobody, room}
 use Rattle.settle.specs.Scratch.{held, room_at, Half, RestsAt, Settled}
 use Rattle.settle.specs.Waiting.{WaitSet, MaybeIndex, MaybeIndexed}
 use Rattle.settle.proofs.Halves.{settled_others}
 use Rattle.settle.proofs.Raising.{S, E, room_less}
-use Rattle.unknowns.specs.NextHighs.{HighTable, NextHighs}
+use Rattle.unknowns.specs.NextHighs.{NextHighs}
 use Rattle.unknowns.proofs.Sought.{sought_here, sought_free}
-use Rattle.rounds.specs.Round.{Comparable, Refreshed, Fallible, Fell, free_highs, to_learn, next_floor_at, FloorHalf, FloorKept, AllRest, SameIntervals, FloorStep, Floored}
+use Rattle.rounds.specs.Round.{Refreshed, Fell, free_highs, to_learn, next_floor_at, FloorHalf, FloorKept, AllRest, SameIntervals, FloorStep, Floored}
 use Rattle.rounds.proofs.Turns.{low_eq, high_eq, lows_under, highs_over, floor_done, lows_same}
 use Rattle.page.specs.Solvable.{solvable}
-
-pub index_users : {a lines users : List ℕ} → MaybeIndex a lines users → MaybeUsers a users
-index_users = ⊎_elim (λ z. inl z) (λ i. inr i.1)
 
 module _ (a : List ℕ) (m : List Bool) where
   abbrev n : ℕ
@@ -164,28 +161,6 @@ module _ (a : List ℕ) (m : List Bool) where
     pub rests₁ : AllRest a m s → AllRest a m s₁
     rests₁ = rests_same s s₁ same₁ H.page_solvable
 
-    pub table₁ : HighTable a s₁
-    table₁ = record { long = half₁.half.long; within = half₁.half.within; negated = h.fresh }
-
-  pub indexed_index : {lines users s words : List ℕ} → MaybeIndexed lower a m lines users s words → MaybeIndex a lines users
-  indexed_index = ⊎_elim (λ z. inl z) (λ i. inr (i.lines_in, i.users_in))
-
-  pub half_comparable : {s : List ℕ} → FloorHalf a m s → Comparable a s
-  half_comparable F = record { page_solvable = F.half.page_solvable; long = F.half.long; within = λ c l. (F.half.within c l).low_in }
-
-  pub half_fallible : {users next s words : List ℕ} → FloorHalf a m s → MaybeUsers a users → conditions_of a ≤ length next → WaitSet n words → Fallible a m users next s words
-  half_fallible {s = s} F u x w =
-      record {
-        page_solvable = F.half.page_solvable;
-        users_in = u;
-        long = F.half.long;
-        marked = F.half.marked;
-        room_for = x;
-        within = λ c l. (F.half.within c l).high_in;
-        negated = λ c l. ap (λ (i : ℕ). get_or s i 0) (omega arith) ∙ F.half.negated c l;
-        set_in = w;
-      }
-
   -- high ends of conditions that are unknown by default fall
   module _ {users next₀ next words s s₂ : List ℕ} {fell : Bool} (F : FloorHalf a m s) (x : NextHighs a m s next₀ next) (g : Fell a m users next s s₂ words fell) where
     high_fall : (c : ℕ) → c < n → (held n s₂ c).high ≤ (held n s c).high
@@ -305,17 +280,6 @@ module _ (a : List ℕ) (m : List Bool) where
       record { kept = kept_same; half = settled_half F w; rests = w.rests; progress = inl (refl, λ c l. refl); set_in = q; room_for = refl }
 
   module _ {s₁ s s' words next₁ next : List ℕ} {moved₁ moved fell : Bool} (v : Flooring s₁ s words next₁ next moved₁ moved) (r : FloorStep a m s s' fell) where
-    pub flooring_next : fell ≡ true → {words' next' : List ℕ} → WaitSet n words' → length next' ≡ length next → Flooring s₁ s' words' next₁ next' moved₁ true
-    flooring_next z q e =
-        record {
-          kept = kept_on v.kept r.kept;
-          half = r.half;
-          rests = r.rests;
-          progress = inr (refl, omega (arith, v.kept.less, r.moves z));
-          set_in = q;
-          room_for = e ∙ v.room_for;
-        }
-
     pub flooring_last : {s₀ : List ℕ} → FloorHalf a m s₀ → Settled lower a m s₀ s₁ moved₁ → fell ≡ false → Floored a m s₀ s' moved
     flooring_last {s₀} F₀ w z =
         let F = r.half in

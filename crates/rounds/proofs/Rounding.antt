@@ -23,7 +23,7 @@ use Rattle.settle.specs.Scratch.{held, Half, RestsAt, Settled}
 use Rattle.settle.specs.Waiting.{WaitSet, MaybeIndex, MaybeIndexed}
 use Rattle.unknowns.specs.NextHighs.{sought}
 use Rattle.unknowns.proofs.Sought.{none_free}
-use Rattle.rounds.specs.Round.{MarkedWait, HighsBegun, LowsBegun, Woke, past, LowsWait, TurnedAt, ToppedAt, closed_at, Comparable, Fresh, Searched, LinesHave, to_learn, FloorHalf, Floored, RoundReady, Rounded, Alternated}
+use Rattle.rounds.specs.Round.{MarkedWait, HighsBegun, LowsBegun, Woke, past, LowsWait, TurnedAt, ToppedAt, closed_at, Fresh, Searched, LinesHave, to_learn, FloorHalf, Floored, RoundReady, Rounded}
 use Rattle.settle.proofs.Halves.{settled_alike}
 use Rattle.settle.proofs.Raising.{S, E}
 use Rattle.rounds.proofs.Turns.{low_eq, high_eq, turned_same, topped_same, topped_by, capped_by, turned_by, lows_same, floor_first, lows_known, rounds_end}
@@ -35,9 +35,6 @@ module _ (a : List ℕ) (m : List Bool) (s : List ℕ) (b : RoundReady a m s) wh
 
   abbrev free : ℕ → Bool
   free = unknown_by_default (page_of a)
-
-  pub comparable : Comparable a s
-  comparable = record { page_solvable = b.page_solvable; long = b.long; within = b.within }
 
   -- the first half
   module _ {s₁ : List ℕ} (h : HighsBegun a s s₁) where
@@ -220,9 +217,6 @@ module _ (a : List ℕ) (m : List Bool) (s : List ℕ) (b : RoundReady a m s) wh
         pub plain : Floored a m s₃ s₄ changed
         plain = floored_plain a m none lows_half w
 
-        pub comparable₄ : Comparable a s₄
-        comparable₄ = record { page_solvable = b.page_solvable; long = w.half.long; within = λ c l. (w.half.within c l).low_in }
-
         -- no low end rose
         pub rounded_still : changed ≡ false → Rounded a m s s₄ false
         rounded_still z = subst (Rounded a m s s₄) z (rounded_told plain)
@@ -237,21 +231,6 @@ module _ (a : List ℕ) (m : List Bool) (s₀ : List ℕ) where
     pub same_length : length s ≡ length s₀
     pub beyond : drop (4 * conditions_of a) s ≡ drop (4 * conditions_of a) s₀
     pub ready : RoundReady a m s
-
-  pub alternating_first : RoundReady a m s₀ → Alternating s₀
-  alternating_first b = record { same_length = refl; beyond = refl; ready = b }
-
-  module _ {s s' : List ℕ} {moved : Bool} (v : Alternating s) (r : Rounded a m s s' moved) where
-    pub alternating_next : Alternating s'
-    alternating_next = record { same_length = r.same_length ∙ v.same_length; beyond = r.beyond ∙ v.beyond; ready = r.next }
-
-    pub alternating_last : moved ≡ false → Alternated a m s₀ s'
-    alternating_last z =
-        record {
-          same_length = r.same_length ∙ v.same_length;
-          beyond = r.beyond ∙ v.beyond;
-          reads_closed = r.ends z;
-        }
 
 -- no reached condition is unknown by default
 pub none_reached : (a : List ℕ) (m : List Bool) {t : Bool} → t ≡ any_below (conditions_of a) (sought a m) → t ≡ false

@@ -21,7 +21,7 @@ use Rattle.fixpoint.proofs.PlainReading.{operator}
 use Rattle.fixpoint.proofs.AlternatingHalves.{lift_operator, lows_within, lows_anti, highs_within, highs_anti}
 use Rattle.fixpoint.proofs.AlternatingFixpoint.{turns_floor, turns_low, turns_grow, turns_rise}
 use Rattle.fixpoint.proofs.Reachable.{T_alike, highs_alike, lift_alike, lows_alike}
-use Rattle.fixpoint.proofs.Tables.{turned_first, turned_closed}
+use Rattle.fixpoint.proofs.Tables.{turned_closed}
 use Rattle.semantics.specs.Grade.{upper}
 use Rattle.settle.specs.Ends.{nobody, settled_end}
 
@@ -179,9 +179,6 @@ module _ {n top : ℕ} {T : Assign → ℕ → Interval} {names : ℕ → ℕ �
 
   -- The rounds, told of the ends held.
   module _ {reached : ℕ → Bool} (shut : DependencyClosed n names reached) where
-    pub turned_none : (I : Assign) → ((c : ℕ) → c < n → reached c ≡ true → floor top free I c ≡ unknown top) → Turned n top T free reached 0 I
-    turned_none I z = turned_first S shut free z
-
     pub turned_same : {k : ℕ} {I J : Assign} → ((c : ℕ) → c < n → reached c ≡ true → floor top free J c ≡ floor top free I c) → Turned n top T free reached k I
         → Turned n top T free reached k J
     turned_same h t = record { turned = λ c l r. h c l r ∙ t.turned c l r }

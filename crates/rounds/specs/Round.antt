@@ -92,10 +92,6 @@ pub record Searched (a s : List ℕ) (literal : ℕ → Type 0) (found : Bool) :
   pub one : found ≡ true → (c : ℕ) × (c < conditions_of a) × (Fresh a s c → ⊥)
   pub all : found ≡ false → (c : ℕ) → literal (2 * c + 1) → Fresh a s c
 
--- the literal stands at a place from one up to another
-abbrev pub Between : (a : List ℕ) (from to : ℕ) → ℕ → Type 0
-Between a from to code = (j : ℕ) × (from ≤ j) × (j < to) × (get_or a j 0 ≡ code)
-
 -- some line of a list, of whatever head, has the literal
 abbrev pub LinesHave : List Line → ℕ → Type 0
 LinesHave ls code = (h : ℕ) × (lines_read code ls h ≡ true)

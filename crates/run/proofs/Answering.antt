@@ -1,15 +1,12 @@
 -- The answers of evaluate, value and line held, cause by cause, in the code's own terms. Assumes nothing.
 use mathlib.Core.Path.{◌≡◌, sym, ◌∙◌, ap, ap₂}
 use mathlib.Core.Logic.{◌≢◌}
-use mathlib.Core.Bool.{Bool, true, false, cond}
+use mathlib.Core.Bool.{Bool, true, false, not, cond, true≢false}
 use mathlib.Core.List.{List}
 use mathlib.Core.Option.{none, some}
 use Prim.Native.Nat.{ℕ, ◌*◌, ◌≤◌, ◌<◌}
-use native.Mathlib.Decide.{ℕ_discrete}
 use native.Mathlib.Omega.{arith}
-use lib.Dec.{eqb}
 use lib.ListN.{length}
-use borrow.Author.Tests.{eq-eqb, ne_eqb}
 use Rattle.fixpoint.specs.Interval.{Interval, Within, Assign}
 use Rattle.semantics.specs.Area.{sound, page_of, top_of, conditions_of}
 use Rattle.semantics.specs.Call.{Call, evaluate, value, line_held, Answer, refused, changed, unchanged, valued, held_by}
@@ -22,7 +19,8 @@ use Rattle.semantics.specs.Worklist.{lowest, holder, Status, status}
 use Rattle.semantics.proofs.Areas.{held_at}
 use Rattle.semantics.proofs.Drives.{lowest_some_of, lowest_none_of}
 use Rattle.semantics.proofs.Operations.{page_unsound, run_unsound, evaluate_beyond, evaluate_idle, evaluate_done, value_beyond, value_unreached, value_done, line_beyond, line_unreached, line_done}
-use Rattle.worklist.specs.Cells.{Lowest}
+use Rattle.std.specs.Prelude.{Option, None, Some, is_some, Result, Ok, Err}
+use Rattle.worklist.specs.Cells.{LowestAt, Lowest}
 use Rattle.worklist.specs.Evaluation.{Evaluated}
 use Rattle.worklist.proofs.Evaluation.{graded_of}
 use Rattle.value.specs.Table.{EndTable}
@@ -32,7 +30,11 @@ use Rattle.ends.proofs.Stores.{table_agrees}
 use Rattle.body.specs.Body.{Body}
 use Rattle.body.specs.FirstLine.{FirstLine}
 use Rattle.page.proofs.Head.{conditions_is}
+use Rattle.refusal.specs.declared.Refusal.{Refusal}
+use Rattle.refusal.specs.declared.Refusal.TheVariants.{PageNotSound}
+use Rattle.semantics.proofs.Workspaces.{drive_kept_10, drive_kept_14}
 use Rattle.run.specs.Answers.{Answered, status_if}
+use Rattle.run.specs.Checks.{Refuses, RunChecked, AreasChecked}
 use Rattle.page.specs.Solvable.{solvable}
 
 pub answered : {left : Left} {x : Answer} {r : List ℕ} → left ≡ record { answer = x; run = r } → Answered left x r
@@ -84,6 +86,14 @@ module _ (a r : List ℕ) where
               run_is = s.0.area ∙ sym (ap (λ (l : Left). l.run) d);
             }
 
+-- 10 and 14 refuse every operation, and leave a workspace as it is
+pub refuses_10 : (a r : List ℕ) → sound a ≡ false → Refuses a r PageNotSound
+refuses_10 a r e = record { answers = refused_10 a r e; workspace = λ w. drive_kept_10 a r w e }
+
+pub areas_checked : {U : Type 0} (a r : List ℕ) → sound a ≡ true → (x : Result U Refusal) → RunChecked a r x → AreasChecked a r x
+areas_checked a r ok (Ok u) e = (ok, e)
+areas_checked a r ok (Err e) f = rw f.0 (record { answers = refused_14 a r ok f.1; workspace = λ w. drive_kept_14 a r w ok f.1 })
+
 -- the line that holds the low end of T of the intervals held
 module _ (a r values : List ℕ) (ok : solvable a ≡ true) (rs : run_sound (page_of a) r ≡ true) (long : 2 * conditions_of a ≤ length values) (t : EndTable lower (top_of a) (conditions_of a) (interval_at r) values) where
   abbrev I : Assign
@@ -108,17 +118,16 @@ module _ (a r values : List ℕ) (ok : solvable a ≡ true) (rs : run_sound (pag
       ∙ ap (λ (i : Interval). first_with (top_of a) I c i.low 2 (page_of a).lines) (b.is I table_held (high_table (top_of a) (conditions_of a) I values long grades table_held))
 
 -- the lowest waiting condition
-module _ (a r : List ℕ) {k : ℕ} (s : Lowest (conditions_of a) r k) where
-  pub rest_of : conditions_of a ≤ k → lowest (worklist_of (page_of a) r) ≡ none
-  rest_of l = lowest_none_of (page_of a) r (λ j m. s.below j (omega (arith, conditions_is a)))
+module _ (a r : List ℕ) where
+  pub rest_of : Lowest (conditions_of a) r None → lowest (worklist_of (page_of a) r) ≡ none
+  rest_of s = lowest_none_of (page_of a) r (λ j m. s j (omega (arith, conditions_is a)))
 
-  pub waits_of : k < conditions_of a → lowest (worklist_of (page_of a) r) ≡ some k
-  waits_of l = lowest_some_of (page_of a) r k (rw (conditions_is a) l) (s.found l) s.below
+  pub waits_of : {k : ℕ} → LowestAt (conditions_of a) r k → lowest (worklist_of (page_of a) r) ≡ some k
+  waits_of {k} s = lowest_some_of (page_of a) r k (rw (conditions_is a) s.within) s.found s.below
 
--- whether a run is at rest, by the lowest waiting condition
-pub status_of : (a r : List ℕ) (n k : ℕ) → n ≡ conditions_of a → Lowest n r k → status_if (eqb k n) ≡ status (worklist_of (page_of a) r)
-status_of a r n k e s =
-    elim (ℕ_discrete k n) [
-      | yes q ↦ rw (eq-eqb k n q, rest_of a r (rw e at s) (omega arith))
-      | no q ↦ rw (ne_eqb k n q, waits_of a r (rw e at s) (omega (arith, s.within)))
-    ]
+  -- whether a run is at rest, by the lowest waiting condition
+  pub status_of : (t : Bool) (k : Option ℕ) → is_some k ≡ not t → Lowest (conditions_of a) r k → status_if t ≡ status (worklist_of (page_of a) r)
+  status_of true None e s = rw (rest_of s)
+  status_of true (Some k) e s = absurd (true≢false e)
+  status_of false None e s = absurd (true≢false (sym e))
+  status_of false (Some k) e s = rw (waits_of s)

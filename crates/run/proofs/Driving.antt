@@ -1,6 +1,5 @@
 -- A drive, evaluation by evaluation, in the code's own terms. Assumes nothing.
 use mathlib.Core.Path.{◌≡◌, refl, sym, ◌∙◌, ap, ap₂}
-use mathlib.Core.Logic.{◌⊎◌, inl, inr, ⊎_elim}
 use mathlib.Core.Bool.{Bool, true, false}
 use mathlib.Core.List.{List, ◌++◌}
 use Prim.Native.Nat.{ℕ, suc, ◌+◌, ◌*◌, ◌-◌, ◌≤◌, ◌<◌}
@@ -10,22 +9,25 @@ use Rattle.semantics.specs.Area.{sound, page_of, top_of, conditions_of}
 use Rattle.semantics.specs.Call.{drove, Answer, outcome}
 use Rattle.semantics.specs.Operation.{Left, drive_of}
 use Rattle.semantics.specs.Page.{Page}
-use Rattle.semantics.specs.RunArea.{mark_at, run_of, worklist_of, reached_of, run_sound}
+use Rattle.fixpoint.specs.Interval.{Within}
+use Rattle.semantics.specs.RunArea.{interval_at, mark_at, run_of, worklist_of, reached_of, run_sound}
 use Rattle.semantics.specs.Worklist.{Worklist, evaluated, holder, Status, status_as, status, Driven, last_of, one_more, driven}
 use Rattle.semantics.proofs.Areas.{Encodable, sound_encodable, state_back, reached_back, rest_back, reencoded, waits_at}
 use Rattle.semantics.proofs.Drives.{driven_none, driven_spent, driven_next, driven_line}
 use Rattle.semantics.proofs.Operations.{drive_done}
 use Rattle.semantics.proofs.Steps.{encodable_evaluated}
 use borrow.Author.Tests.{eq-eqb}
-use Rattle.worklist.specs.Cells.{Lowest}
+use Rattle.std.specs.Prelude.{Option, None, Some}
+use Rattle.worklist.specs.Cells.{LowestAt, Lowest}
 use Rattle.worklist.specs.Evaluation.{Evaluated}
 use Rattle.worklist.proofs.Evaluation.{graded_of}
 use Rattle.step.specs.Before.{ToldBefore}
+use Rattle.step.specs.declared.Before.{Before}
 use Rattle.step.specs.Beside.{Beside}
 use Rattle.step.proofs.Telling.{told_holder}
 use Rattle.page.proofs.Head.{conditions_is}
 use Rattle.run.specs.Answers.{Answered}
-use Rattle.run.specs.Steps.{drive_left, Ready, LastLine, Stopped}
+use Rattle.run.specs.Steps.{drive_left, InGrades, LastInGrades, Ready, LastLine, Stopped}
 use Rattle.run.proofs.Answering.{rest_of, waits_of}
 use Rattle.page.specs.Solvable.{solvable}
 use Rattle.page.proofs.Solvable.{solvable_proper}
@@ -60,16 +62,25 @@ module _ (a run₀ : List ℕ) (allowance : ℕ) where
       → Answered (drive_of a run₀ allowance) x run
   drive_answers ok rs h = rw (drive_left_lem ok rs) h
 
-  -- the last of so many evaluations was of c, which held the grades low and high before: what is told of that is the line `told`
-  pub record Last (run : List ℕ) (taken c low high told : ℕ) : Type 0 where
-    pub some : 0 < taken
-    pub inside : c < conditions_of a
-    pub low_in : low ≤ top_of a
-    pub high_in : high ≤ top_of a
-    pub tells : (line : ℕ) → ToldBefore a run c low high line → line ≡ told
+  -- the last evaluation, of a condition that held b before: what is told of that is the line `told`; 0 where there is none
+  pub record LastTold (run : List ℕ) (b : Before) (told : ℕ) : Type 0 where
+    pub grades : InGrades a b
+    pub tells : (line : ℕ) → ToldBefore a run b.condition b.ends.low b.ends.high line → line ≡ told
+
+  abbrev pub Last : List ℕ → Option Before → ℕ → Type 0
+  Last run None told = told ≡ 0
+  Last run (Some b) told = LastTold run b told
+
+  last_line : (run : List ℕ) (before : Option Before) {told line : ℕ} → Last run before told → LastLine a run before line → line ≡ told
+  last_line run None t f = f ∙ sym t
+  last_line run (Some b) t f = t.tells _ f
+
+  last_grades : (run : List ℕ) (before : Option Before) (told : ℕ) → Last run before told → LastInGrades a before
+  last_grades run None told t = tt
+  last_grades run (Some b) told t = t.grades
 
   -- After so many evaluations: the whole drive is these and the one from here on.
-  pub record Driving (run : List ℕ) (taken c low high : ℕ) : Type 0 where
+  pub record Driving (run : List ℕ) (taken : ℕ) (before : Option Before) : Type 0 where
     pub page_solvable : solvable a ≡ true
     pub start_sound : run_sound (page_of a) run₀ ≡ true
     pub run_sound : run_sound (page_of a) run ≡ true
@@ -85,9 +96,9 @@ module _ (a run₀ : List ℕ) (allowance : ℕ) where
     pub line : (driven (page_of a) (reached_of (page_of a) run₀) allowance (worklist_of (page_of a) run₀)).line
         ≡ last_of (driven (page_of a) (reached_of (page_of a) run₀) (allowance - taken) (worklist_of (page_of a) run)).taken told
         (driven (page_of a) (reached_of (page_of a) run₀) (allowance - taken) (worklist_of (page_of a) run)).line
-    pub last : ((taken ≡ 0) × (told ≡ 0)) ⊎ Last run taken c low high told
+    pub last : Last run before told
 
-  pub driving_first : {c low high : ℕ} → solvable a ≡ true → run_sound (page_of a) run₀ ≡ true → Driving run₀ 0 c low high
+  pub driving_first : solvable a ≡ true → run_sound (page_of a) run₀ ≡ true → Driving run₀ 0 None
   driving_first ok rs =
       let z : allowance - 0 ≡ allowance = omega arith in
       record {
@@ -102,13 +113,13 @@ module _ (a run₀ : List ℕ) (allowance : ℕ) where
         state = rw z;
         told = 0;
         line = rw z (driven_line page m (worklist_of page run₀) allowance);
-        last = inl (refl, refl);
+        last = refl;
       }
 
-  module _ {run : List ℕ} {taken c₀ low₀ high₀ : ℕ} (s : Driving run taken c₀ low₀ high₀) {c : ℕ} (low : Lowest (conditions_of a) run c) where
+  module _ {run : List ℕ} {taken : ℕ} {before : Option Before} (s : Driving run taken before) where
     -- the line of the last evaluation is the one told
-    line_is : {line : ℕ} → LastLine a run taken c₀ low₀ high₀ line → line ≡ s.told
-    line_is f = ⊎_elim (λ z. f.none z.0 ∙ sym z.1) (λ z. z.tells _ (f.some z.some)) s.last
+    line_is : {line : ℕ} → LastLine a run before line → line ≡ s.told
+    line_is f = last_line run before s.last f
 
     -- the run is at rest, or the allowance is used: the drive ends here
     ends : onward run taken ≡ record { taken = 0; line = 0; state = worklist_of page run } → {x : Status} → status (worklist_of page run) ≡ x
@@ -126,22 +137,20 @@ module _ (a run₀ : List ℕ) (allowance : ℕ) where
         }
 
     -- what the last evaluation's line is worked from
-    ready : {words values : List ℕ} → Beside a run words values → Ready a run values taken c₀ low₀ high₀
+    ready : {values : List ℕ} → Beside a run values → Ready a run values before
     ready b =
         record {
           page_solvable = s.page_solvable;
           run_sound = s.run_sound;
           long = b.long;
           table = b.table;
-          inside = λ k. ⊎_elim (λ z. absurd (omega (arith, z.0))) (λ z. z.inside) s.last;
-          low_in = λ k. ⊎_elim (λ z. absurd (omega (arith, z.0))) (λ z. z.low_in) s.last;
-          high_in = λ k. ⊎_elim (λ z. absurd (omega (arith, z.0))) (λ z. z.high_in) s.last;
+          last = last_grades run before s.told s.last;
         }
 
-    module _ {words values : List ℕ} (b : Beside a run words values) where
-      pub driving_rests : conditions_of a ≤ c → Stopped a run₀ allowance run values taken true c₀ low₀ high₀
-      driving_rests l =
-          let e = rest_of a run low l in
+    module _ {values : List ℕ} (b : Beside a run values) where
+      pub driving_rests : Lowest (conditions_of a) run None → Stopped a run₀ allowance run values taken true before
+      driving_rests low =
+          let e = rest_of a run low in
           let n = driven_none page m (worklist_of page run) (allowance - taken) e in
           record {
             ready = ready b;
@@ -149,21 +158,21 @@ module _ (a run₀ : List ℕ) (allowance : ℕ) where
             answers = λ line f. ends n (ap status_as e) (line_is f);
           }
 
-      pub driving_spends : c < conditions_of a → allowance ≤ taken → Stopped a run₀ allowance run values taken false c₀ low₀ high₀
-      driving_spends l k =
+      pub driving_spends : {c : ℕ} → LowestAt (conditions_of a) run c → allowance ≤ taken → Stopped a run₀ allowance run values taken false before
+      driving_spends low k =
           let n = driven_spent page m (worklist_of page run) (allowance - taken) (omega arith) in
-          let e = waits_of a run low l in
+          let e = waits_of a run low in
           record {
             ready = ready b;
             drives = record { line = s.told; answered = ends n (ap status_as e) refl };
             answers = λ line f. ends n (ap status_as e) (line_is f);
           }
 
-    module _ (l : c < conditions_of a) where
+    module _ {c : ℕ} (low : LowestAt (conditions_of a) run c) where
       -- one evaluation of the lowest waiting condition
       pub driving_next : taken < allowance → {run' : List ℕ} {t : Bool} → Evaluated (page_of a) c run run' t → length run' ≡ length run
-          → {c' low' high' : ℕ} → (c' ≡ c) × (low' ≡ get_or run (3 * c) 0) × (high' ≡ get_or run (3 * c + 1) 0) → Driving run' (taken + 1) c' low' high'
-      driving_next k {run'} v len q =
+          → {b : Before} → (b.condition ≡ c) × (b.ends.low ≡ get_or run (3 * c) 0) × (b.ends.high ≡ get_or run (3 * c + 1) 0) → Driving run' (taken + 1) (Some b)
+      driving_next k {run'} v len {b} q =
           record {
             page_solvable = s.page_solvable;
             start_sound = s.start_sound;
@@ -176,17 +185,15 @@ module _ (a run₀ : List ℕ) (allowance : ℕ) where
             state = s.state ∙ ap (λ (o : Driven). o.state) step;
             told = holder page here c;
             line = s.line ∙ ap (λ (o : Driven). last_of o.taken s.told o.line) step;
-            last = rw (q.0, q.1, q.2)
-                (inr
-                (record {
-                  some = omega arith;
-                  inside = l;
-                  low_in = ((graded_of a run s.page_solvable s.run_sound).within c l).low_in;
-                  high_in = ((graded_of a run s.page_solvable s.run_sound).within c l).high_in;
-                  tells = λ line f. told_holder a run s.page_solvable s.run_sound c l (low.found l) v f;
-                }));
+            last = record {
+              grades = record { inside = rw q.0 low.within; low_in = rw q.1 grades.low_in; high_in = rw q.2 grades.high_in };
+              tells = λ line f. told_holder a run s.page_solvable s.run_sound c low.within low.found v (rw (q.0, q.1, q.2) at f);
+            };
           }
         where
+          grades : Within (top_of a) (interval_at run c)
+          grades = (graded_of a run s.page_solvable s.run_sound).within c low.within
+
           here : Worklist
           here = worklist_of (page_of a) run
 
@@ -197,10 +204,10 @@ module _ (a run₀ : List ℕ) (allowance : ℕ) where
           tail = drop (3 * (page_of a).conditions) run
 
           inside : c < page.conditions
-          inside = rw (conditions_is a) l
+          inside = rw (conditions_is a) low.within
 
           fits : Encodable page (reached_of page run) next
-          fits = encodable_evaluated page (solvable_proper a s.page_solvable) (reached_of page run) here (sound_encodable page run s.run_sound) c inside (waits_at page run c inside ∙ eq-eqb (mark_at run c) 2 (low.found l))
+          fits = encodable_evaluated page (solvable_proper a s.page_solvable) (reached_of page run) here (sound_encodable page run s.run_sound) c inside (waits_at page run c inside ∙ eq-eqb (mark_at run c) 2 low.found)
 
           held : worklist_of page run' ≡ evaluated page m here c
           held = ap (worklist_of page) v.area ∙ state_back page (reached_of page run) next fits tail ∙ ap (λ (k : List Bool). evaluated page k here c) s.reached
@@ -208,5 +215,5 @@ module _ (a run₀ : List ℕ) (allowance : ℕ) where
           step : onward run taken ≡ one_more (holder page here c) (onward run' (taken + 1))
           step =
               let e : allowance - taken ≡ suc (allowance - (taken + 1)) = omega arith in
-              ap (λ (j : ℕ). driven page m j here) e ∙ driven_next page m here (allowance - (taken + 1)) c (waits_of a run low l)
+              ap (λ (j : ℕ). driven page m j here) e ∙ driven_next page m here (allowance - (taken + 1)) c (waits_of a run low)
               ∙ ap (λ (b : Worklist). one_more (holder page here c) (driven page m (allowance - (taken + 1)) b)) (sym held)

@@ -9,26 +9,61 @@ ghost use Rattle.semantics.specs.Worklist.{holder};
 ghost use Rattle.index.specs.Parts.{MaybeLines, MaybeUsers};
 ghost use Rattle.worklist.specs.Evaluation.{Evaluated};
 ghost use Rattle.worklist.specs.Waiting.{WordsMatch};
-ghost use Rattle.run.specs.Answers.{Answered, Drives, evaluate_answer_of, value_answer_of, line_answer_of, drive_answer_of};
+ghost use Rattle.run.specs.Answers.{Answered, Drives, evaluate_answer_of, value_answer_of, line_answer_of, drove_of, drive_answer_of};
+ghost use Rattle.run.specs.Checks.{PageChecked, RunChecked, AreasChecked, InPage, Reading};
 ghost use Rattle.run.specs.Steps.{drive_left, Ready, LastLine, Stopped};
 ghost use Rattle.step.specs.Beside.{Beside};
 ghost use Rattle.page.specs.Solvable.{solvable};
 
+use bits::Set;
+use refusal::Refusal;
 use step::Before;
-
-// What an evaluation answers: the number of a refusal, or whether the interval changed and which line holds its low end.
-#[derive(Clone, Copy)]
-pub enum EvaluateAnswer {
-    Refused(u8),
-    Unchanged(u16),
-    Changed(u16),
-}
 
 // Whether an evaluation changed the interval, and which line holds its low end.
 #[derive(Clone, Copy)]
-struct Told {
-    changed: bool,
-    line: u16,
+pub struct Told {
+    pub changed: bool,
+    pub line: u16,
+}
+
+// 10 page area not sound.
+fn check_page(page: &[u16]) -> Result<(), Refusal>
+    ensures { PageChecked page.now result }
+{
+    if page::page_sound(page) {
+        return Ok(());
+    }
+    Err(Refusal::PageNotSound)
+}
+
+// 14 run area too short or not sound.
+fn check_run(page: &[u16], run: &[u16]) -> Result<(), Refusal>
+    requires { sound page.now ≡ true }
+    ensures { RunChecked page.now run.now result }
+{
+    if worklist::run_sound(page, run) {
+        return Ok(());
+    }
+    Err(Refusal::RunNotSound)
+}
+
+// 10, then 14.
+fn check_areas(page: &[u16], run: &[u16]) -> Result<(), Refusal>
+    ensures { AreasChecked page.now run.now result }
+{
+    check_page(page)?;
+    check_run(page, run)
+}
+
+// The condition of that number: 15 it is C or more.
+fn condition_in(page: &[u16], condition: u32) -> Result<u16, Refusal>
+    requires { sound page.now ≡ true }
+    ensures { InPage page.now condition result }
+{
+    if page[1] as u32 <= condition {
+        return Err(Refusal::ConditionOutOfRange);
+    }
+    Ok(condition as u16)
 }
 
 // An evaluation that nothing refuses. The set of those that wait is not asked for, so it is left empty.
@@ -36,86 +71,70 @@ fn evaluate_waiting(page: &[u16], run: &mut [u16], c: u16) -> Told
     requires { (solvable page.now ≡ true) × (run_sound (page_of page.now) run.old ≡ true) × (c < conditions_of page.now) × (mark_at run.old c ≡ 2) }
     ensures { Evaluated (page_of page.now) c run.old run.new result.changed × (result.line ≡ holder (page_of page.now) (worklist_of (page_of page.now) run.old) c) }
 {
-    let mut words = [0u64; 8];
+    let mut waiting = Set::empty();
     let mut values = [0u8; 1024];
     ends::fill(run, page[1], page[0], &mut values);
     let none = &page[0..0];
     let before = step::held(run, c);
-    let changed = step::step(page, none, none, run, &mut words, &mut values, c);
+    let changed = step::step(page, none, none, run, &mut waiting, &mut values, c);
     let line = step::line_told(page, run, &mut values, before);
     Told { changed, line }
 }
 
-// Evaluate on a page that is sound: 14 run area too short or not sound, 15 condition C or more, 16 it is not waiting.
-pub fn evaluate_sound(page: &[u16], run: &mut [u16], condition: u32) -> EvaluateAnswer
+// Evaluate on a page that is sound: 14, then 15, then 16 the condition is not waiting.
+pub fn evaluate_sound(page: &[u16], run: &mut [u16], condition: u32) -> Result<Told, Refusal>
     requires { sound page.now ≡ true }
     ensures { Answered (evaluate_of page.now run.old condition) (evaluate_answer_of result) run.new }
 {
-    if !worklist::run_sound(page, run) {
-        return EvaluateAnswer::Refused(14);
+    check_run(page, run)?;
+    let c = condition_in(page, condition)?;
+    let waits = run[3 * c as usize + 2] == 2;
+    if !waits {
+        return Err(Refusal::NotWaiting);
     }
-    let n = page[1];
-    if n as u32 <= condition {
-        return EvaluateAnswer::Refused(15);
-    }
-    let c = condition as u16;
-    if run[3 * c as usize + 2] != 2 {
-        return EvaluateAnswer::Refused(16);
-    }
-    let told = evaluate_waiting(page, run, c);
-    if told.changed {
-        return EvaluateAnswer::Changed(told.line);
-    }
-    EvaluateAnswer::Unchanged(told.line)
+    Ok(evaluate_waiting(page, run, c))
 }
 
-// Evaluate: 10 page area not sound, then as on a page that is sound.
-pub fn evaluate(page: &[u16], run: &mut [u16], condition: u32) -> EvaluateAnswer
+// Evaluate: 10, then as on a page that is sound.
+pub fn evaluate(page: &[u16], run: &mut [u16], condition: u32) -> Result<Told, Refusal>
     ensures { Answered (evaluate_of page.now run.old condition) (evaluate_answer_of result) run.new }
 {
-    if !page::page_sound(page) {
-        return EvaluateAnswer::Refused(10);
-    }
+    check_page(page)?;
     evaluate_sound(page, run, condition)
 }
 
-// What a value call answers: the number of a refusal, or the interval held and whether the whole run is at rest.
-#[derive(Clone, Copy)]
-pub enum ValueAnswer {
-    Refused(u8),
-    Held { low: u16, high: u16, rest: bool },
+// The condition that is read: 10, 14, 15, then 17 it is not reached.
+fn reached(page: &[u16], run: &[u16], condition: u32) -> Result<u16, Refusal>
+    ensures { Reading page.now run.now condition result }
+{
+    check_areas(page, run)?;
+    let c = condition_in(page, condition)?;
+    let marked = 1 <= run[3 * c as usize + 2];
+    if !marked {
+        return Err(Refusal::NotReached);
+    }
+    Ok(c)
 }
 
-// Value: 10 page area not sound, 14 run area too short or not sound, 15 condition C or more, 17 it is not reached.
-pub fn value(page: &[u16], run: &[u16], condition: u32) -> ValueAnswer
+// The interval that a condition holds, and whether the whole run is at rest.
+#[derive(Clone, Copy)]
+pub struct Held {
+    pub low: u16,
+    pub high: u16,
+    pub rest: bool,
+}
+
+// Value: 10, 14, 15 or 17.
+pub fn value(page: &[u16], run: &[u16], condition: u32) -> Result<Held, Refusal>
     ensures { value_answer_of result ≡ value_of page.now run.now condition }
 {
-    if !page::page_sound(page) {
-        return ValueAnswer::Refused(10);
-    }
-    if !worklist::run_sound(page, run) {
-        return ValueAnswer::Refused(14);
-    }
-    let n = page[1];
-    if n as u32 <= condition {
-        return ValueAnswer::Refused(15);
-    }
-    let at = 3 * condition as usize;
-    if run[at + 2] < 1 {
-        return ValueAnswer::Refused(17);
-    }
-    ValueAnswer::Held {
+    let c = reached(page, run, condition)?;
+    let at = 3 * c as usize;
+    Ok(Held {
         low: run[at],
         high: run[at + 1],
-        rest: worklist::lowest_waiting(run, n) == n,
-    }
-}
-
-// What a line call answers: the number of a refusal, or the line.
-#[derive(Clone, Copy)]
-pub enum LineAnswer {
-    Refused(u8),
-    Held(u16),
+        rest: worklist::lowest_waiting(run, page[1]).is_none(),
+    })
 }
 
 // The line that holds the low end of T of the intervals held, where nothing refuses.
@@ -130,33 +149,20 @@ fn line_now(page: &[u16], run: &[u16], c: u16) -> u16
     body::first_line(page, &values, c, body.low)
 }
 
-// Line held: 10 page area not sound, 14 run area too short or not sound, 15 condition C or more, 17 it is not reached.
-pub fn line_held(page: &[u16], run: &[u16], condition: u32) -> LineAnswer
+// Line held: 10, 14, 15 or 17.
+pub fn line_held(page: &[u16], run: &[u16], condition: u32) -> Result<u16, Refusal>
     ensures { line_answer_of result ≡ line_held_of page.now run.now condition }
 {
-    if !page::page_sound(page) {
-        return LineAnswer::Refused(10);
-    }
-    if !worklist::run_sound(page, run) {
-        return LineAnswer::Refused(14);
-    }
-    let n = page[1];
-    if n as u32 <= condition {
-        return LineAnswer::Refused(15);
-    }
-    let c = condition as u16;
-    if run[3 * c as usize + 2] < 1 {
-        return LineAnswer::Refused(17);
-    }
-    LineAnswer::Held(line_now(page, run, c))
+    let c = reached(page, run, condition)?;
+    Ok(line_now(page, run, c))
 }
 
-// What a drive answers: the number of a refusal, or the count of evaluations, the line that the last one told, and whether the run is then at rest.
+// What a drive takes, the line that its last evaluation told, 0 if it took none, and whether the run is then at rest.
 #[derive(Clone, Copy)]
-pub enum DriveAnswer {
-    Refused(u8),
-    Rest { taken: u32, line: u16 },
-    Spent { taken: u32, line: u16 },
+pub struct Drove {
+    pub taken: u32,
+    pub line: u16,
+    pub rest: bool,
 }
 
 // Where the evaluations of a drive stop: how many were taken, whether none waits, and what the condition of the last one held before it.
@@ -164,7 +170,7 @@ pub enum DriveAnswer {
 struct Steps {
     taken: u32,
     rest: bool,
-    before: Before,
+    before: Option<Before>,
 }
 
 // The evaluations, lowest waiting condition first.
@@ -173,50 +179,45 @@ fn drive_steps(
     lines: &[u16],
     users: &[u16],
     run: &mut [u16],
-    words: &mut [u64],
+    waiting: &mut Set,
     values: &mut [u8],
     allowance: u32,
 ) -> Steps
-    requires { (solvable a.now ≡ true) × (run_sound (page_of a.now) run.old ≡ true) × MaybeLines a.now lines.now × MaybeUsers a.now users.now × Beside a.now run.old words.old values.old × WordsMatch (conditions_of a.now) run.old words.old }
-    ensures { Stopped a.now run.old allowance run.new values.new result.taken result.rest result.before.condition result.before.low result.before.high }
+    requires { (solvable a.now ≡ true) × (run_sound (page_of a.now) run.old ≡ true) × MaybeLines a.now lines.now × MaybeUsers a.now users.now × Beside a.now run.old values.old × WordsMatch (conditions_of a.now) run.old waiting.old.words }
+    ensures { Stopped a.now run.old allowance run.new values.new result.taken result.rest result.before }
 {
     let mut taken: u32 = 0;
-    let mut before = Before {
-        condition: 0,
-        low: 0,
-        high: 0,
-    };
-    loop {
-        let c = bits::lowest_in(words);
-        if 512 <= c {
-            return Steps {
-                taken,
-                rest: true,
-                before,
-            };
-        }
-        if allowance <= taken {
+    let mut before = None;
+    // a `while let`: an evaluation takes its condition out of the set and may put others in
+    while let Some(c) = waiting.lowest() {
+        let spent = allowance <= taken;
+        if spent {
             return Steps {
                 taken,
                 rest: false,
                 before,
             };
         }
-        before = step::held(run, c);
-        step::step(a, lines, users, run, words, values, c);
+        before = Some(step::held(run, c));
+        step::step(a, lines, users, run, waiting, values, c);
         taken += 1;
+    }
+    Steps {
+        taken,
+        rest: true,
+        before,
     }
 }
 
-// The line that the last evaluation told, 0 if none was taken.
-fn last_line(a: &[u16], run: &[u16], values: &mut [u8], taken: u32, before: Before) -> u16
-    requires { Ready a.now run.now values.old taken before.condition before.low before.high }
-    ensures { LastLine a.now run.now taken before.condition before.low before.high result }
+// The line that the last evaluation told, 0 if none was taken, as C is told it.
+fn last_line(a: &[u16], run: &[u16], values: &mut [u8], before: Option<Before>) -> u16
+    requires { Ready a.now run.now values.old before }
+    ensures { LastLine a.now run.now before result }
 {
-    if taken == 0 {
-        return 0;
+    match before {
+        None => 0,
+        Some(last) => step::line_told(a, run, values, last),
     }
-    step::line_told(a, run, values, before)
 }
 
 // The table and the set are made of the run area, then the evaluations are taken.
@@ -229,65 +230,51 @@ fn drive_filled(
     allowance: u32,
 ) -> Steps
     requires { (solvable a.now ≡ true) × (run_sound (page_of a.now) run.old ≡ true) × MaybeLines a.now lines.now × MaybeUsers a.now users.now × (2 * conditions_of a.now ≤ length values.old) }
-    ensures { Stopped a.now run.old allowance run.new values.new result.taken result.rest result.before.condition result.before.low result.before.high }
+    ensures { Stopped a.now run.old allowance run.new values.new result.taken result.rest result.before }
 {
-    let mut words = [0u64; 8];
     ends::fill(run, a[1], a[0], values);
-    worklist::fill_words(run, a[1], &mut words);
-    drive_steps(a, lines, users, run, &mut words, values, allowance)
+    let mut waiting = worklist::waiting_set(run, a[1]);
+    drive_steps(a, lines, users, run, &mut waiting, values, allowance)
 }
 
 // A drive that nothing refuses.
-fn drive_over(
-    a: &[u16],
-    lines: &[u16],
-    users: &[u16],
-    run: &mut [u16],
-    allowance: u32,
-) -> DriveAnswer
+fn drive_over(a: &[u16], lines: &[u16], users: &[u16], run: &mut [u16], allowance: u32) -> Drove
     requires { (solvable a.now ≡ true) × (run_sound (page_of a.now) run.old ≡ true) × MaybeLines a.now lines.now × MaybeUsers a.now users.now }
-    ensures { Answered (drive_left a.now run.old allowance) (drive_answer_of result) run.new }
+    ensures { Answered (drive_left a.now run.old allowance) (drove_of result) run.new }
 {
     let mut values = [0u8; 1024];
     let steps = drive_filled(a, lines, users, run, &mut values, allowance);
     let taken = steps.taken;
-    let line = last_line(a, run, &mut values, taken, steps.before);
-    if steps.rest {
-        return DriveAnswer::Rest { taken, line };
-    }
-    DriveAnswer::Spent { taken, line }
+    let rest = steps.rest;
+    let line = last_line(a, run, &mut values, steps.before);
+    Drove { taken, line, rest }
 }
 
-// What a drive takes, and whether the run is then at rest.
+// What a drive that tells no line takes, and whether the run is then at rest.
 #[derive(Clone, Copy)]
-pub struct Drove {
+pub struct Counted {
     pub taken: u32,
     pub rest: bool,
 }
 
 // A drive that nothing refuses and that tells no line.
-pub fn drive_counted(page: &[u16], run: &mut [u16], allowance: u32) -> Drove
+pub fn drive_counted(page: &[u16], run: &mut [u16], allowance: u32) -> Counted
     requires { (sound page.now ≡ true) × (run_sound (page_of page.now) run.old ≡ true) }
     ensures { Drives (drive_of page.now run.old allowance) result.taken result.rest run.new }
 {
     let mut values = [0u8; 1024];
     let none = &page[0..0];
     let steps = drive_filled(page, none, none, run, &mut values, allowance);
-    Drove {
+    Counted {
         taken: steps.taken,
         rest: steps.rest,
     }
 }
 
-// The same with an index, which is built in the workspace.
-pub fn drive_built(
-    page: &[u16],
-    run: &mut [u16],
-    workspace: &mut [u16],
-    allowance: u32,
-) -> DriveAnswer
+// The same with a line and with an index, which is built in the workspace.
+pub fn drive_built(page: &[u16], run: &mut [u16], workspace: &mut [u16], allowance: u32) -> Drove
     requires { (solvable page.now ≡ true) × (run_sound (page_of page.now) run.old ≡ true) × (length workspace.old ≡ index_length page.now) }
-    ensures { Answered (drive_left page.now run.old allowance) (drive_answer_of result) run.new }
+    ensures { Answered (drive_left page.now run.old allowance) (drove_of result) run.new }
 {
     index::build(page, workspace);
     let k = index::lines_length(page);
@@ -296,18 +283,13 @@ pub fn drive_built(
     drive_over(page, lines, users, run, allowance)
 }
 
-// Drive: 10 page area not sound, 14 run area too short or not sound. The areas are tested once; an evaluation keeps the run area sound.
-pub fn drive(page: &[u16], run: &mut [u16], allowance: u32) -> DriveAnswer
+// Drive: 10 or 14. The areas are tested once; an evaluation keeps the run area sound. Without a workspace and with one are two calls, since C has both.
+pub fn drive(page: &[u16], run: &mut [u16], allowance: u32) -> Result<Drove, Refusal>
     ensures { Answered (drive_of page.now run.old allowance) (drive_answer_of result) run.new }
 {
-    if !page::page_sound(page) {
-        return DriveAnswer::Refused(10);
-    }
-    if !worklist::run_sound(page, run) {
-        return DriveAnswer::Refused(14);
-    }
+    check_areas(page, run)?;
     let none = &page[0..0];
-    drive_over(page, none, none, run, allowance)
+    Ok(drive_over(page, none, none, run, allowance))
 }
 
 // Drive, with an index in a workspace that the caller lends. A workspace that is too short is not touched, and the page is scanned.
@@ -316,22 +298,17 @@ pub fn drive_indexed(
     run: &mut [u16],
     workspace: &mut [u16],
     allowance: u32,
-) -> DriveAnswer
+) -> Result<Drove, Refusal>
     ensures answer { Answered (drive_of page.now run.old allowance) (drive_answer_of result) run.new }
     ensures workspace { workspace.new ≡ drive_workspace page.now run.old workspace.old }
 {
-    if !page::page_sound(page) {
-        return DriveAnswer::Refused(10);
-    }
-    if !worklist::run_sound(page, run) {
-        return DriveAnswer::Refused(14);
-    }
+    check_areas(page, run)?;
     let m = index::index_length(page);
     if workspace.len() < m {
         let none = &page[0..0];
-        return drive_over(page, none, none, run, allowance);
+        return Ok(drive_over(page, none, none, run, allowance));
     }
-    let answer = drive_built(page, run, &mut workspace[..m], allowance);
+    let drove = drive_built(page, run, &mut workspace[..m], allowance);
     index::erase(workspace, m);
-    answer
+    Ok(drove)
 }

@@ -1,28 +1,16 @@
 -- The outcome for a list, test by test. Assumes nothing.
-use mathlib.Core.Path.{◌≡◌, refl, sym}
+use mathlib.Core.Path.{◌≡◌, sym}
 use mathlib.Core.Bool.{true, false}
 use mathlib.Core.List.{List, map}
 use mathlib.Core.Option.{none, some}
-use Prim.Native.Nat.{ℕ, zero, suc, ◌/◌, ◌%◌, ◌≤◌}
-use native.Mathlib.Omega.{arith}
+use Prim.Native.Nat.{ℕ, ◌/◌, ◌%◌}
 use lib.IntN.{ℤ}
 use lib.ListN.{length}
 use Rattle.semantics.specs.ReadPage.{leftmost}
 use Rattle.semantics.specs.Season.{pairs_in, pair_causes, figures_of, season_refusal, refused_season, season, season_of}
-use Rattle.semantics.proofs.Season.{pairs_length, right_length}
-use Rattle.season.specs.Answer.{wrong_length, fault_at}
+use Rattle.semantics.proofs.Season.{pairs_length}
+use Rattle.season.specs.Answer.{wrong_length}
 use Rattle.season.specs.Sums.{sums_of}
-
--- a place of 0 tells that there is none
-pub no_fault_at : (k : ℕ) → k ≡ 0 → fault_at k ≡ none
-no_fault_at k e = rw e
-
-pub fault_at_lem : (k : ℕ) → ¬ (k ≡ 0) → fault_at k ≡ some (record { number = 81; place = k })
-fault_at_lem zero h = absurd (h refl)
-fault_at_lem (suc k) h = refl
-
-pub length_right : (n : ℕ) → wrong_length n ≡ false → (1 ≤ n / 2) × (n ≤ 8192)
-length_right n e = let w = right_length n (n / 2) e in (w.1, omega (arith, w.0, w.2))
 
 module _ (s : List ℕ) where
   pub season_80 : wrong_length (length s) ≡ true → refused_season 80 0 ≡ season_of s

@@ -1,11 +1,10 @@
 -- The difference of two naturals as an integer, by which is the greater, and its size. Assumes nothing.
-use mathlib.Core.Path.{◌≡◌, refl, sym, ap}
-use mathlib.Core.Bool.{Bool, true, false, cond, false≢true}
+use mathlib.Core.Path.{◌≡◌, refl, ap}
+use mathlib.Core.Bool.{Bool, true, false, cond}
 use Prim.Native.Nat.{ℕ, zero, suc, ◌-◌, ◌≤◌, ◌<◌, ◌^◌}
 use native.Mathlib.Omega.{arith}
 use lib.Dec.{ltb}
 use lib.IntN.{ℤ, pos, negsuc, ◌-ℤ◌, nat_abs}
-use lib.Signed.{lt_z}
 use borrow.Author.Tests.{lt-ltb, le-ltb, ltb-true, ltb-false}
 use mir.Facts.{to_z-of_z}
 use mir.Syntax.{w32}
@@ -63,12 +62,3 @@ larger_assoc x y z = go (ltb (nat_abs y) (nat_abs z)) refl (ltb (nat_abs x) (nat
 pub back : (z : ℤ) → nat_abs z ≤ 65535 → to_z w32 (of_z w32 z) ≡ z
 back (pos n) h = to_z-of_z {w = w32} (record { sfits = omega arith })
 back (negsuc n) h = to_z-of_z {w = w32} (record { sfits = omega arith })
-
--- the size of a negative number, and of one that is not
-pub size_below : (z : ℤ) → lt_z z (pos 0) ≡ true → pos 0 -ℤ z ≡ pos (nat_abs z)
-size_below (pos n) e = absurd (omega (arith, ltb-true n 0 e))
-size_below (negsuc n) e = ap pos (omega arith)
-
-pub size_above : (z : ℤ) → lt_z z (pos 0) ≡ false → z ≡ pos (nat_abs z)
-size_above (pos n) e = refl
-size_above (negsuc n) e = absurd (false≢true (sym e))

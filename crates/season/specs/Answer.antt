@@ -1,11 +1,12 @@
 -- What the answer says, and the tests of the list. Assumes nothing.
-use Rattle.std.specs.Prelude.{Bool, not, ◌||◌, ℕ, zero, suc, ◌/◌, ◌%◌, eqb}
-use Rattle.std.proofs.Math.Option.{Option, none, some}
+use Rattle.std.specs.Prelude.{Bool, not, ◌||◌, ℕ, ◌/◌, ◌%◌, eqb, Option, None, Some, Result, Ok, Err}
+use Rattle.std.proofs.Math.Option as paper_option
+use Rattle.std.proofs.Math.Option.{none, some}
 use Rattle.semantics.specs.ReadPage.{Fault, outside}
 use Rattle.semantics.specs.Season as paper
 use Rattle.season.specs.declared.Figures.{Figures}
-use Rattle.season.specs.declared.SeasonAnswer.{SeasonAnswer}
-use Rattle.season.specs.declared.SeasonAnswer.TheVariants.{Refused, Told}
+use Rattle.season.specs.declared.SeasonError.{SeasonError}
+use Rattle.season.specs.declared.SeasonError.TheVariants.{Length, BadPair}
 
 abbrev pub figures_in : Figures → paper.Figures
 figures_in f =
@@ -20,16 +21,26 @@ figures_in f =
       change = f.change;
     }
 
--- a refusal's number and place; or the figures
-abbrev pub answer_of : SeasonAnswer → paper.SeasonAnswer
-answer_of (Refused number place) = paper.refused_season number place
-answer_of (Told f) = paper.season (figures_in f)
+-- "80, a list of wrong length or odd count of numbers", "81, a pair with low above high or high over 200"
+abbrev pub number_of : SeasonError → ℕ
+number_of Length = 80
+number_of (BadPair place) = 81
+
+-- "with the place of the first such pair"; 80 has no place
+abbrev pub place_of : SeasonError → ℕ
+place_of Length = 0
+place_of (BadPair place) = place
+
+-- the figures; or a refusal's number and place
+abbrev pub answer_of : Result Figures SeasonError → paper.SeasonAnswer
+answer_of (Ok f) = paper.season (figures_in f)
+answer_of (Err e) = paper.refused_season (number_of e) (place_of e)
 
 -- a list of n numbers has a wrong length
 abbrev pub wrong_length : ℕ → Bool
 wrong_length n = not (eqb (n % 2) 0) || outside 1 4096 (n / 2)
 
--- 81 at a place from 1 on; 0 for none
-abbrev pub fault_at : ℕ → Option Fault
-fault_at zero = none
-fault_at (suc k) = some (record { number = 81; place = suc k })
+-- 81 at a place, if there is one
+abbrev pub fault_at : Option ℕ → paper_option.Option Fault
+fault_at None = none
+fault_at (Some k) = some (record { number = 81; place = k })

@@ -1,11 +1,11 @@
 // A season's figures (document 02, ticket 14): the answers for one condition are checked, and then gone through once.
 #![tactic(auto)]
 
-ghost use Rattle.std.specs.Prelude.{◌≡◌, map, ◌≤◌, min, max, pos, ◌-ℤ◌, nat_abs, length};
+ghost use Rattle.std.specs.Prelude.{◌≡◌, map, ◌≤◌, pos, ◌-ℤ◌, length};
 ghost use Rattle.std.proofs.Math.Option.{none};
 ghost use Rattle.semantics.specs.ReadPage.{leftmost};
 ghost use Rattle.semantics.specs.Season.{pairs_in, bad_pair, pair_causes, larger, season_refusal, season_of};
-ghost use Rattle.season.specs.Answer.{answer_of, wrong_length, fault_at};
+ghost use Rattle.season.specs.Answer.{number_of, place_of, answer_of, wrong_length, fault_at};
 ghost use Rattle.season.specs.Sums.{Small, begun, grown, sums_of};
 
 // Sums and extremes of some answers: the figures but for the count and the mean.
@@ -30,36 +30,55 @@ pub struct Figures {
     pub change: i32,
 }
 
-#[derive(Clone, Copy)]
-pub enum SeasonAnswer {
-    Refused { number: u8, place: u32 },
-    Told(Figures),
+// Why a list has no figures.
+#[derive(Clone, Copy, PartialEq, Eq)]
+pub enum SeasonError {
+    // an odd count of numbers, or not 1 to 4,096 pairs
+    Length,
+    // the place, counted from 1, of the first pair with its low end above its high end, or that over 200
+    BadPair(u32),
+}
+
+impl SeasonError {
+    // The number of the refusal.
+    pub fn number(self) -> u8
+        ensures { result ≡ number_of self }
+    {
+        match self {
+            SeasonError::Length => 80,
+            SeasonError::BadPair(_) => 81,
+        }
+    }
+
+    // The place that is told with it, 0 for none, as C is told it.
+    pub fn place(self) -> u32
+        ensures { result ≡ place_of self }
+    {
+        match self {
+            SeasonError::Length => 0,
+            SeasonError::BadPair(place) => place,
+        }
+    }
 }
 
 // Whether a pair is refused: low above high, or high over 200.
 fn is_bad(low: u16, high: u16) -> bool
     ensures { result ≡ bad_pair (record { low = low; high = high }) }
 {
-    if high < low {
-        return true;
-    }
-    200 < high
+    high < low || 200 < high
 }
 
-// The place of the first bad pair, counted from 1; 0 if there is none.
-fn first_bad(pairs: &[u16]) -> u32
+// The place of the first bad pair, counted from 1. By index, which tells the place.
+fn first_bad(pairs: &[u16]) -> Option<u32>
     requires { length pairs.now ≤ 8192 }
     ensures { leftmost 1 (map pair_causes (pairs_in pairs.now)) ≡ fault_at result }
 {
-    let n = pairs.len() / 2;
-    let mut i: usize = 0;
-    while i < n {
+    for i in 0..pairs.len() / 2 {
         if is_bad(pairs[2 * i], pairs[2 * i + 1]) {
-            return (i + 1) as u32;
+            return Some((i + 1) as u32);
         }
-        i += 1;
     }
-    0
+    None
 }
 
 // The change from one low end to the next; a fall is negative.
@@ -69,40 +88,15 @@ fn change_of(before: u16, after: u16) -> i32
     (after as i32) - (before as i32)
 }
 
-// The size of a change.
-fn size_of(change: i32) -> u32
-    requires { nat_abs change ≤ 65535 }
-    ensures { result ≡ nat_abs change }
-{
-    if change < 0 {
-        (0 - change) as u32
-    } else {
-        change as u32
-    }
-}
-
-// The greater in size of two changes, the earlier one if they are of one size.
+// The greater in size of two changes, the earlier one if they are of one size, where `max_by_key` takes the later.
 fn larger_of(earlier: i32, later: i32) -> i32
-    requires { (nat_abs earlier ≤ 65535) × (nat_abs later ≤ 65535) }
     ensures { result ≡ larger earlier later }
 {
-    if size_of(earlier) < size_of(later) {
+    if earlier.unsigned_abs() < later.unsigned_abs() {
         later
     } else {
         earlier
     }
-}
-
-fn smaller(a: u32, b: u32) -> u32
-    ensures { result ≡ min a b }
-{
-    if b < a { b } else { a }
-}
-
-fn greater(a: u32, b: u32) -> u32
-    ensures { result ≡ max a b }
-{
-    if a < b { b } else { a }
 }
 
 // The sums with one answer more, before which the low end was `before`.
@@ -114,8 +108,8 @@ fn add(sums: Sums, before: u16, low: u16, high: u16) -> Sums
     Sums {
         lows: sums.lows + low as u32,
         widths: sums.widths + (high - low) as u32,
-        smallest: smaller(sums.smallest, low as u32),
-        largest: greater(sums.largest, high as u32),
+        smallest: sums.smallest.min(low as u32),
+        largest: sums.largest.max(high as u32),
         change,
     }
 }
@@ -134,17 +128,15 @@ fn first(low: u16, high: u16) -> Sums
     }
 }
 
-// The sums of all answers, in one pass.
+// The sums of all answers, in one pass. By index, since an answer is held against the one before it.
 fn sums_of(pairs: &[u16]) -> Sums
     requires { season_refusal pairs.now ≡ none }
     ensures { (result ≡ sums_of (pairs_in pairs.now)) × Small 4096 result }
 {
     let n = pairs.len() / 2;
     let mut sums = first(pairs[0], pairs[1]);
-    let mut i: usize = 1;
-    while i < n {
+    for i in 1..n {
         sums = add(sums, pairs[2 * i - 2], pairs[2 * i], pairs[2 * i + 1]);
-        i += 1;
     }
     sums
 }
@@ -153,33 +145,23 @@ fn sums_of(pairs: &[u16]) -> Sums
 fn wrong_length(n: usize) -> bool
     ensures { result ≡ wrong_length n }
 {
-    if n % 2 != 0 {
-        return true;
-    }
-    if n < 2 {
-        return true;
-    }
-    8192 < n
+    n % 2 != 0 || !(2..=8192).contains(&n)
 }
 
-// A season's figures, or 80 or 81 with the place of the first bad pair.
-pub fn season(pairs: &[u16]) -> SeasonAnswer
+// A season's figures.
+pub fn season(pairs: &[u16]) -> Result<Figures, SeasonError>
     ensures { answer_of result ≡ season_of pairs.now }
 {
     let n = pairs.len();
     if wrong_length(n) {
-        return SeasonAnswer::Refused {
-            number: 80,
-            place: 0,
-        };
+        return Err(SeasonError::Length);
     }
-    let place = first_bad(pairs);
-    if place != 0 {
-        return SeasonAnswer::Refused { number: 81, place };
+    if let Some(place) = first_bad(pairs) {
+        return Err(SeasonError::BadPair(place));
     }
     let sums = sums_of(pairs);
     let count = (n / 2) as u32;
-    SeasonAnswer::Told(Figures {
+    Ok(Figures {
         count,
         lows: sums.lows,
         widths: sums.widths,

@@ -13,21 +13,20 @@ use Rattle.semantics.specs.Area.{line_at, page_of, top_of, conditions_of, count_
 use Rattle.semantics.specs.Grade.{End}
 use Rattle.semantics.specs.Page.{Line, fact, rule, query, default}
 use Rattle.semantics.specs.Table.{member}
-use Rattle.page.specs.Places.{place_of, LineIn, LineOf}
+use Rattle.page.specs.Places.{place_of, LineIn}
 use Rattle.page.proofs.Head.{head_of}
 use Rattle.page.proofs.Scanning.{lines_left, lines_first}
 use Rattle.page.proofs.LineNumbers.{lines_from, line_of}
-use Rattle.bits.specs.Words.{has, Removed, AnyIn}
+use Rattle.bits.specs.Words.{has, Removed}
 use Rattle.index.specs.Groups.{LinesByHead}
-use Rattle.index.specs.Parts.{Users}
 use Rattle.index.specs.Readers.{among, lines_read}
 use Rattle.value.specs.Table.{end_of}
-use Rattle.settle.specs.Scratch.{held, room_at, Half, Lookable, Looked, RestsAt, Settled}
+use Rattle.settle.specs.Scratch.{held, room_at, Lookable, Looked, RestsAt, Settled}
 use Rattle.settle.specs.Waiting.{WaitSet, Woken, Waiting}
+use Rattle.settle.proofs.Groups.{slice, group_only, group_every}
 use Rattle.settle.proofs.Members.{waiters, few_wait, else_same, rest_in, fewer}
 use Rattle.settle.proofs.Raising.{E, rests_by}
-use Rattle.settle.proofs.Settling.{Settling, settling_first, settling_next, settling_last}
-use Rattle.index.proofs.Grouped.{group_within}
+use Rattle.settle.proofs.Settling.{Settling, settling_next, settling_last}
 use Rattle.page.specs.Solvable.{solvable}
 
 -- what a line reads its page reads
@@ -62,43 +61,29 @@ module _ (a : List ℕ) (ok : solvable a ≡ true) (code c : ℕ) where
 
 -- the group of a condition
 module _ (a first places : List ℕ) (ok : solvable a ≡ true) (g : LinesByHead a first places) (c : ℕ) (real : c < conditions_of a) where
-  abbrev from : ℕ
-  from = get_or first c 0
+  abbrev pub group : List ℕ
+  group = slice places (get_or first c 0) (get_or first (c + 1) 0)
 
-  abbrev to : ℕ
-  to = get_or first (c + 1) 0
+  pub group_lookable : Lookable a group
+  group_lookable i u = let w = group_only g c real i u in record { number = w.number; in_count = w.in_count; place = w.place }
 
-  to_in : to ≤ length places
-  to_in = group_within g (c + 1) (omega arith)
-
-  line_at_group : (i : ℕ) → from ≤ i → i < to → LineOf a c (get_or places i 0)
-  line_at_group i l u = g.only c i real l u
-
-  pub group_lookable : Lookable a places from to
-  group_lookable =
-      record {
-        ordered = g.ordered c real;
-        inside = to_in;
-        lines = λ i l u. let w = line_at_group i l u in record { number = w.number; in_count = w.in_count; place = w.place };
-      }
-
-  module _ {e : End} {m : List Bool} {s s' : List ℕ} {t : Bool} (r : Looked e a m (λ i. get_or places i 0) from to s s' t) where
+  module _ {e : End} {m : List Bool} {s s' : List ℕ} {t : Bool} (r : Looked e a m (λ i. get_or group i 0) (length group) s s' t) where
     -- no other condition rose
-    pub group_only : (b : ℕ) → b < conditions_of a → b ≢ c → end_of e (held (conditions_of a) s' b) ≡ end_of e (held (conditions_of a) s b)
-    group_only b k d = r.only b k (λ i l u q. d (sym q ∙ (line_at_group i l u).head))
+    pub group_alone : (b : ℕ) → b < conditions_of a → b ≢ c → end_of e (held (conditions_of a) s' b) ≡ end_of e (held (conditions_of a) s b)
+    group_alone b k d = r.only b k (λ i u q. d (sym q ∙ (group_only g c real i u).head))
 
     -- and if c does not read itself, or did not rise, it rests
     pub group_rests : (lines_read (2 * c) (page_of a).lines c ≡ true → end_of e (held (conditions_of a) s' c) ≡ end_of e (held (conditions_of a) s c)) → member m c ≡ true → RestsAt e a s' c
     group_rests h q =
         rests_by r.half c real q
         (λ j u p d.
-        let y = g.every c (place_of a j) real (line_of (top_of a) (held (conditions_of a) s') c a j u d) in
-        let z : get_or places y.0 0 ≡ place_of a j = y.3 in
-        r.covered y.0 y.1 y.2 c real q
+        let y = group_every g c real (place_of a j) (line_of (top_of a) (held (conditions_of a) s') c a j u d) in
+        let z : get_or group y.0 0 ≡ place_of a j = y.2 in
+        r.covered y.0 y.1 c real q
         (λ b o f. elim (ℕ_discrete b c) [
           | yes k ↦ subst (λ (x : ℕ). end_of e (held (conditions_of a) s' x) ≡ end_of e (held (conditions_of a) s x)) (sym k)
-              (h (read_in a ok (2 * c) c (get_or places y.0 0) (group_lookable.lines y.0 y.1 y.2) (subst (λ (x : ℕ). lines_read (2 * x) (line_at (drop (get_or places y.0 0) a) ∷ []) c ≡ true) k f)))
-          | no k ↦ group_only b o k
+              (h (read_in a ok (2 * c) c (get_or group y.0 0) (group_lookable y.0 y.1) (subst (λ (x : ℕ). lines_read (2 * x) (line_at (drop (get_or group y.0 0) a) ∷ []) c ≡ true) k f)))
+          | no k ↦ group_alone b o k
         ])
         p (rw z d))
 
@@ -107,13 +92,13 @@ abbrev pub left : End → (a s words : List ℕ) → ℕ
 left e a s words = room_at e a s * 513 + waiters words
 
 module _ (e : End) (a : List ℕ) (m : List Bool) (first places s₀ : List ℕ) where
+  abbrev part : ℕ → List ℕ
+  part c = slice places (get_or first c 0) (get_or first (c + 1) 0)
+
   pub record Draining (s words : List ℕ) (changed : Bool) : Type 0 where
     pub groups : LinesByHead a first places
     pub settling : Settling e a m s₀ s changed
     pub waiting : Waiting e a m s words
-
-  pub draining_first : {words : List ℕ} → LinesByHead a first places → Half e a m s₀ → Waiting e a m s₀ words → Draining s₀ words false
-  draining_first g h w = record { groups = g; settling = settling_first e a m h; waiting = w }
 
   pub draining_last : {s words : List ℕ} {changed : Bool} → Draining s words changed → ((c : ℕ) → c < 512 → has words c ≡ false) → Settled e a m s₀ s changed
   draining_last v q =
@@ -131,7 +116,7 @@ module _ (e : End) (a : List ℕ) (m : List Bool) (first places s₀ : List ℕ)
     pub set₁ : WaitSet (conditions_of a) words₁
     set₁ = rest_in words words₁ c x v.waiting.set
 
-    module _ {s' : List ℕ} {t : Bool} (r : Looked e a m (λ i. get_or places i 0) (get_or first c 0) (get_or first (c + 1) 0) s s' t) where
+    module _ {s' : List ℕ} {t : Bool} (r : Looked e a m (λ i. get_or (part c) i 0) (length (part c)) s s' t) where
       abbrev n : ℕ
       n = conditions_of a
 
@@ -179,7 +164,7 @@ module _ (e : End) (a : List ℕ) (m : List Bool) (first places s₀ : List ℕ)
               (E a ok).local_end e (held n s') (held n s) d l
                   (λ b i f. elim (ℕ_discrete b c) [
                     | yes y ↦ absurd (reads_not d o (subst (λ (j : ℕ). lines_read (2 * j) (page_of a).lines d ≡ true) y f))
-                    | no y ↦ group_only a first places ok v.groups c c_real r b i y
+                    | no y ↦ group_alone a first places ok v.groups c c_real r b i y
                   ])
                   (λ b i f. r.steady.others b i),
               v.waiting.rests d l z (out_before d (omega (arith, few)) k (out₁ d (omega (arith, few)) o)),
@@ -190,7 +175,7 @@ module _ (e : End) (a : List ℕ) (m : List Bool) (first places s₀ : List ℕ)
         draining_rose z = (
           record {
             groups = v.groups;
-            settling = settling_next e a m v.settling (subst (Looked e a m (λ i. get_or places i 0) (get_or first c 0) (get_or first (c + 1) 0) s s') z r);
+            settling = settling_next e a m v.settling (subst (Looked e a m (λ i. get_or (part c) i 0) (length (part c)) s s') z r);
             waiting = record {
               set = w.set;
               rests = λ d l i o. elim (ℕ_discrete d c) [
@@ -202,49 +187,3 @@ module _ (e : End) (a : List ℕ) (m : List Bool) (first places s₀ : List ℕ)
           },
           omega (arith, r.moves z, few_wait words₂),
         )
-
--- the loop: c is one that waits, or 512
-pub record Drains (e : End) (a : List ℕ) (m : List Bool) (first places users : List ℕ) (n : ℕ) (s₀ s words : List ℕ) (changed : Bool) (c : ℕ) : Type 0 where
-  pub users_in : Users a users
-  pub size : n ≡ conditions_of a
-  pub draining : Draining e a m first places s₀ s words changed
-  pub any : AnyIn words c
-
-module _ {e : End} {a : List ℕ} {m : List Bool} {first places users : List ℕ} {n : ℕ} {s₀ s words : List ℕ} {changed : Bool} {c : ℕ} (v : Drains e a m first places users n s₀ s words changed c) (small : c < 512) where
-  pub drains_real : c < conditions_of a
-  drains_real = v.draining.waiting.set.inside c small (v.any.found small)
-
-  pub drains_few : conditions_of a ≤ 512
-  drains_few = (head_of a v.draining.settling.half.page_solvable).few
-
-  pub drains_group : Lookable a places (get_or first c 0) (get_or first (c + 1) 0)
-  drains_group = group_lookable a first places v.draining.settling.half.page_solvable v.draining.groups c drains_real
-
-  module _ (words₁ : List ℕ) (x : Removed c words words₁) where
-    pub drains_set : WaitSet (conditions_of a) words₁
-    drains_set = set₁ e a m first places s₀ v.draining c small (v.any.found small) words₁ x
-
-    module _ {s' : List ℕ} {t : Bool} (r : Looked e a m (λ i. get_or places i 0) (get_or first c 0) (get_or first (c + 1) 0) s s' t) {words' : List ℕ} {changed' : Bool} where
-      module _ (z : t ≡ true) {words₂ : List ℕ} (w : Woken a (2 * c) words₁ words₂) (q : words' ≡ words₂) (k : changed' ≡ true) where
-        rose : Draining e a m first places s₀ s' words₂ true × (left e a s' words₂ < left e a s words)
-        rose = draining_rose e a m first places s₀ v.draining c small (v.any.found small) words₁ x r w z
-
-        pub drains_rose : {c' : ℕ} → AnyIn words' c' → Drains e a m first places users n s₀ s' words' changed' c'
-        drains_rose y = record { users_in = v.users_in; size = v.size; draining = rw (q, k) rose.0; any = y }
-
-        pub rose_less : left e a s' words' < left e a s words
-        rose_less = rw q rose.1
-
-      module _ (z : t ≡ false) (q : words' ≡ words₁) (k : changed' ≡ changed) where
-        still : (s' ≡ s) × Draining e a m first places s₀ s words₁ changed × (left e a s words₁ < left e a s words)
-        still = draining_still e a m first places s₀ v.draining c small (v.any.found small) words₁ x r z
-
-        pub drains_still : {c' : ℕ} → AnyIn words' c' → Drains e a m first places users n s₀ s' words' changed' c'
-        drains_still y = record { users_in = v.users_in; size = v.size; draining = rw (q, k, still.0) still.1; any = y }
-
-        pub still_less : left e a s' words' < left e a s words
-        still_less = rw (q, still.0) still.2
-
-pub drains_last : {e : End} {a : List ℕ} {m : List Bool} {first places users : List ℕ} {n : ℕ} {s₀ s words : List ℕ} {changed : Bool} {c : ℕ} → Drains e a m first places users n s₀ s words changed c → 512 ≤ c
-    → Settled e a m s₀ s changed × WaitSet (conditions_of a) words
-drains_last {e} {a} {m} {first} {places} {s₀ = s₀} v l = (draining_last e a m first places s₀ v.draining (v.any.none (omega (arith, v.any.within))), v.draining.waiting.set)

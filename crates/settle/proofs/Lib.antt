@@ -11,5 +11,6 @@ pub mod Looking
 pub mod Settling
 -- those that wait, and an end settled over an index
 pub mod Members
+pub mod Groups
 pub mod Waking
 pub mod Draining

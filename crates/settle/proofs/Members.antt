@@ -11,7 +11,7 @@ use Rattle.fixpoint.specs.Sum.{sum, bit}
 use Rattle.fixpoint.proofs.Cond.{by_bool}
 use Rattle.fixpoint.proofs.Sum.{sum_le, sum_const, sum_drop}
 use Rattle.semantics.proofs.Table.{or_cases}
-use Rattle.bits.specs.Words.{has, Inserted, Removed, AnyIn}
+use Rattle.bits.specs.Words.{has, Inserted, Removed}
 use Rattle.settle.specs.Waiting.{WaitSet}
 
 -- how many are in the set
@@ -41,7 +41,7 @@ module _ (words words₁ : List ℕ) (c : ℕ) (x : Removed c words words₁) wh
       out false b e = refl
 
   pub rest_in : {n : ℕ} → WaitSet n words → WaitSet n words₁
-  rest_in w = record { size = x.0; inside = λ d l q. w.inside d l (was_in d l q) }
+  rest_in w = record { inside = λ d l q. w.inside d l (was_in d l q) }
 
   pub fewer : c < 512 → has words c ≡ true → waiters words₁ < waiters words
   fewer small waits =
@@ -54,15 +54,10 @@ module _ (words words₁ : List ℕ) (c : ℕ) (x : Removed c words words₁) wh
       bits : (d : ℕ) → d < 512 → (has words₁ d ≡ true → has words d ≡ true) → bit (has words₁ d) ≤ bit (has words d)
       bits d l h = by_bool (has words₁ d) (λ q. rw (q, h q) (omega arith)) (λ q. rw q (omega arith))
 
--- one of a set is a condition
-pub any_real : {n : ℕ} {words : List ℕ} {c : ℕ} → WaitSet n words → AnyIn words c → c < 512 → c < n
-any_real {c = c} w v l = w.inside c l (v.found l)
-
 -- a set with one more
 pub joined : {n : ℕ} {words words' : List ℕ} {c : ℕ} → WaitSet n words → c < n → Inserted c words words' → WaitSet n words'
 joined {words = words} {c = c} w l x =
     record {
-      size = x.0;
       inside = λ d k r. ⊎_elim (λ q. w.inside d k q) (λ q. omega (arith, eqb-true d c q)) (or_cases (has words d) (eqb d c) (sym (x.1 d k) ∙ r));
     }
 

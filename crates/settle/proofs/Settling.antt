@@ -12,7 +12,7 @@ use Rattle.page.specs.Places.{place_of}
 use Rattle.value.specs.Table.{end_of}
 use Rattle.settle.specs.Scratch.{held, room_at, Half, Steady, Looked, RestsAt, Settled}
 use Rattle.settle.proofs.Halves.{settled_at, settled_others}
-use Rattle.settle.proofs.Raising.{S, E, room_less, steady_same, steady_on, rests_by}
+use Rattle.settle.proofs.Raising.{S, E, room_less, steady_on, rests_by}
 
 module _ (e : End) (a : List ℕ) (m : List Bool) where
   abbrev n : ℕ
@@ -25,11 +25,8 @@ module _ (e : End) (a : List ℕ) (m : List Bool) where
     pub still : changed ≡ false → s ≡ s₀
     pub moves : changed ≡ true → room_at e a s < room_at e a s₀
 
-  pub settling_first : {s : List ℕ} → Half e a m s → Settling s s false
-  settling_first h = record { half = h; steady = steady_same e a m _; still = λ z. refl; moves = λ z. absurd (false≢true z) }
-
   -- a look that raised an end
-  module _ {s₀ s s' : List ℕ} {place : ℕ → ℕ} {from to : ℕ} {changed : Bool} (v : Settling s₀ s changed) (r : Looked e a m place from to s s' true) where
+  module _ {s₀ s s' : List ℕ} {place : ℕ → ℕ} {to : ℕ} {changed : Bool} (v : Settling s₀ s changed) (r : Looked e a m place to s s' true) where
     pub settling_next : Settling s₀ s' true
     settling_next =
         record {
@@ -55,11 +52,11 @@ module _ (e : End) (a : List ℕ) (m : List Bool) where
       }
 
   -- if a sweep raised nothing, T makes no more of any
-  pub swept : {s s' : List ℕ} → Looked e a m (place_of a) 0 (count_of a) s s' false → (s' ≡ s) × ((c : ℕ) → c < n → member m c ≡ true → RestsAt e a s c)
+  pub swept : {s s' : List ℕ} → Looked e a m (place_of a) (count_of a) s s' false → (s' ≡ s) × ((c : ℕ) → c < n → member m c ≡ true → RestsAt e a s c)
   swept {s} {s'} r =
       let z : s' ≡ s = r.still refl in (
         z,
         λ c l q. subst (λ (t : List ℕ). RestsAt e a t c) z
             (rests_by r.half c l q
-            (λ j u p d. r.covered j (omega arith) u c l q (λ b i f. ap (λ (t : List ℕ). end_of e (held n t b)) z) p d)),
+            (λ j u p d. r.covered j u c l q (λ b i f. ap (λ (t : List ℕ). end_of e (held n t b)) z) p d)),
       )

@@ -8,7 +8,7 @@ use Rattle.fixpoint.specs.Interval.{Interval, Within, Assign}
 use Rattle.fixpoint.specs.ChaoticIteration.{DependencyClosed}
 use Rattle.semantics.specs.Area.{line_at, page_of, top_of, conditions_of}
 use Rattle.semantics.specs.Body.{line_body, T, unknown_by_default}
-use Rattle.semantics.specs.Grade.{End, lower, upper, rounding}
+use Rattle.semantics.specs.Grade.{End, lower, upper}
 use Rattle.semantics.specs.Page.{names}
 use Rattle.semantics.specs.Table.{member}
 use Rattle.index.specs.Readers.{lines_read}
@@ -39,10 +39,6 @@ settled_at e a s c = settled_end e (conditions_of a) (top_of a) (T (page_of a)) 
 
 abbrev pub room_at : End → (a s : List ℕ) → ℕ
 room_at e a s = room e (conditions_of a) (top_of a) (held (conditions_of a) s)
-
--- how many conditions there are, where the table of the end e begins, and what e adds before a division
-abbrev pub FiguresOf : End → (a : List ℕ) (n base add : ℕ) → Type 0
-FiguresOf e a n base add = (n ≡ conditions_of a) × (base ≡ base_of n e) × (add ≡ rounding e (top_of a))
 
 -- T makes, of the ends e as they come to be, no more at c than c holds
 abbrev pub CappedAt : End → (a s : List ℕ) → ℕ → Type 0
@@ -89,21 +85,18 @@ pub record Raised (e : End) (a : List ℕ) (m : List Bool) (at : ℕ) (s s' : Li
   pub covered : Covered e a m s s' at
   pub only : (c : ℕ) → c < conditions_of a → get_or a at 0 ≢ c → end_of e (held (conditions_of a) s' c) ≡ end_of e (held (conditions_of a) s c)
 
--- lines stand at the places of a list from one number up to another
-pub record Lookable (a places : List ℕ) (from to : ℕ) : Type 0 where
-  pub ordered : from ≤ to
-  pub inside : to ≤ length places
-  pub lines : (i : ℕ) → from ≤ i → i < to → LineIn a (get_or places i 0)
+-- lines stand at the places of a list
+abbrev pub Lookable : (a places : List ℕ) → Type 0
+Lookable a places = (i : ℕ) → i < length places → LineIn a (get_or places i 0)
 
--- the lines at the places from one number up to another were looked at
-pub record Looked (e : End) (a : List ℕ) (m : List Bool) (place : ℕ → ℕ) (from to : ℕ) (s s' : List ℕ) (rose : Bool) : Type 0 where
+-- the lines at the first places, below a number, were looked at
+pub record Looked (e : End) (a : List ℕ) (m : List Bool) (place : ℕ → ℕ) (to : ℕ) (s s' : List ℕ) (rose : Bool) : Type 0 where
   pub half : Half e a m s'
   pub steady : Steady e a m s s'
   pub still : rose ≡ false → s' ≡ s
   pub moves : rose ≡ true → room_at e a s' < room_at e a s
-  pub covered : (i : ℕ) → from ≤ i → i < to → Covered e a m s s' (place i)
-  pub only : (c : ℕ) → c < conditions_of a → ((i : ℕ) → from ≤ i → i < to → get_or a (place i) 0 ≢ c)
-      → end_of e (held (conditions_of a) s' c) ≡ end_of e (held (conditions_of a) s c)
+  pub covered : (i : ℕ) → i < to → Covered e a m s s' (place i)
+  pub only : (c : ℕ) → c < conditions_of a → ((i : ℕ) → i < to → get_or a (place i) 0 ≢ c) → end_of e (held (conditions_of a) s' c) ≡ end_of e (held (conditions_of a) s c)
 
 -- T makes no more of the end e of c than c holds
 abbrev pub RestsAt : End → (a s : List ℕ) → ℕ → Type 0

@@ -1,5 +1,5 @@
 -- The conditions that wait, as a set of words, while an end is settled over an index. Assumes nothing.
-use Rattle.std.specs.Prelude.{◌≡◌, ◌⊎◌, Bool, true, false, List, ℕ, ◌≤◌, ◌<◌, length, get_or}
+use Rattle.std.specs.Prelude.{◌≡◌, ◌⊎◌, Bool, true, false, List, ℕ, ◌<◌, length}
 use Rattle.semantics.specs.Area.{page_of, conditions_of}
 use Rattle.semantics.specs.Grade.{End}
 use Rattle.semantics.specs.Table.{member}
@@ -10,15 +10,7 @@ use Rattle.settle.specs.Scratch.{RestsAt}
 
 -- a set of conditions
 pub record WaitSet (n : ℕ) (words : List ℕ) : Type 0 where
-  pub size : length words ≡ 8
   pub inside : (c : ℕ) → c < 512 → has words c ≡ true → c < n
-
--- a part of a list of heads joins the set
-pub record HeadsWait (heads : List ℕ) (from to : ℕ) (words words' : List ℕ) : Type 0 where
-  pub size : length words' ≡ 8
-  pub kept : (c : ℕ) → c < 512 → has words c ≡ true → has words' c ≡ true
-  pub woken : (j : ℕ) → from ≤ j → j < to → has words' (get_or heads j 0) ≡ true
-  pub only : (c : ℕ) → c < 512 → has words' c ≡ true → (has words c ≡ true) ⊎ ((j : ℕ) × (from ≤ j) × (j < to) × (get_or heads j 0 ≡ c))
 
 -- the heads of the rules that have a literal wait
 pub record Woken (a : List ℕ) (code : ℕ) (words words' : List ℕ) : Type 0 where

@@ -1,11 +1,10 @@
 -- Texts of lines and pages, part by part, and the outcome for a number and a buffer. Assumes nothing.
-use mathlib.Core.Path.{◌≡◌, sym, ap}
+use mathlib.Core.Path.{◌≡◌, sym, ◌∙◌, ap}
 use mathlib.Core.List.{List, [], ◌∷◌, ◌++◌, append_assoc}
 use Prim.Native.Nat.{ℕ, zero, suc, ◌+◌, ◌*◌, ◌-◌, ◌/◌, ◌%◌, ◌≤◌, ◌<◌}
 use native.Mathlib.Omega.{arith}
 use native.Mathlib.Decide.{dec_le}
 use lib.ListN.{length, take, drop}
-use lib.Seq.{take_at}
 use borrow.Author.Tests.{lt-ltb, le-ltb}
 use Rattle.semantics.specs.Grade.{M}
 use Rattle.semantics.specs.Page.{positive, negative, Line, fact, rule}
@@ -14,7 +13,9 @@ use Rattle.semantics.specs.Written.{head_fields, line_fields, line_texts, text_o
 use Rattle.semantics.specs.SmallPages.{page_with, small_text, refused_small, wrote_small, small_of}
 use Rattle.semantics.proofs.TextNumbers.{number_one}
 use Rattle.print.specs.Wrote.{Wrote}
-use Rattle.print.proofs.Writing.{wrote_as, wrote_front}
+use Rattle.print.specs.declared.Text.{Text}
+use Rattle.print.specs.Texts.{Puts}
+use Rattle.print.proofs.Writing.{wrote_as, wrote_front, puts_as, puts_front}
 use Rattle.small.specs.Numbers.{kinds, fact_ranked, rule_ranked, line_ranked, lines_numbered, page_numbered}
 use Rattle.small.proofs.Numbers.{page_at}
 
@@ -130,14 +131,13 @@ module _ (number : ℕ) (buffer : List ℕ) where
     small_wrote l = rw (le-ltb 241 number h, le-ltb (length buffer) (length (small_text number)) l)
 
 -- A text made in an array, and copied.
-module _ {space space' : List ℕ} (number : ℕ) {n : ℕ} (h : number ≤ 241) (w : Wrote space 0 (text_of (page_numbered number)) space' n) where
-  made : Wrote space 0 (small_text number) space' n
-  made = wrote_as (ap text_of (page_at number (omega arith))) w
+module _ {t t' : Text} (number : ℕ) (h : number ≤ 241) (z : t.at ≡ 0) (w : Puts t (text_of (page_numbered number)) t') where
+  made : Puts t (small_text number) t'
+  made = puts_as (ap text_of (page_at number (omega arith))) w
 
-  pub made_length : n ≡ length (small_text number)
-  made_length = omega (arith, made.behind)
+  pub made_length : t'.at ≡ length (small_text number)
+  made_length = omega (arith, made.wrote.behind, z)
 
-  pub copied : {buffer buffer' : List ℕ} {m : ℕ} → Wrote buffer 0 (take n space') buffer' m → buffer' ≡ small_text number ++ drop (length (small_text number)) buffer
-  copied v =
-      let e : take n space' ≡ small_text number = rw (wrote_front made) (take_at (small_text number) (drop (length (small_text number)) space) n (omega (arith, made_length))) in
-      wrote_front (wrote_as e v)
+  pub copied : {buffer buffer' bytes : List ℕ} {m : ℕ} → bytes ≡ take t'.at t'.out.now → Wrote buffer 0 bytes buffer' m
+      → buffer' ≡ small_text number ++ drop (length (small_text number)) buffer
+  copied e v = wrote_front (wrote_as (e ∙ puts_front z made) v)

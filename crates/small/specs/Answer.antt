@@ -1,9 +1,15 @@
 -- What the answer says. Assumes nothing.
-use Rattle.semantics.specs.SmallPages as paper
-use Rattle.small.specs.declared.SmallAnswer.{SmallAnswer}
-use Rattle.small.specs.declared.SmallAnswer.TheVariants.{Refused, Wrote}
+use Rattle.std.specs.Prelude.{ℕ, Result, Ok, Err}
+use Rattle.semantics.specs.SmallPages.{SmallAnswer, refused_small, wrote_small}
+use Rattle.small.specs.declared.SmallError.{SmallError}
+use Rattle.small.specs.declared.SmallError.TheVariants.{Number, Buffer}
 
--- a refusal's number; or the text's length
-abbrev pub answer_of : SmallAnswer → paper.SmallAnswer
-answer_of (Refused number) = paper.refused_small number
-answer_of (Wrote length) = paper.wrote_small length
+-- "70, a number over 241", "71, a lent buffer too short for the text"
+abbrev pub number_of : SmallError → ℕ
+number_of Number = 70
+number_of Buffer = 71
+
+-- the text's length; or a refusal's number
+abbrev pub answer_of : Result ℕ SmallError → SmallAnswer
+answer_of (Ok length) = wrote_small length
+answer_of (Err error) = refused_small (number_of error)

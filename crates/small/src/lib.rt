@@ -6,139 +6,132 @@ ghost use Rattle.std.specs.Prelude.{◌≡◌, [], ◌∷◌, ◌+◌, ◌*◌, 
 ghost use Rattle.semantics.specs.Fields.{joined, ended_lines};
 ghost use Rattle.semantics.specs.Written.{head_fields, line_texts, text_of};
 ghost use Rattle.semantics.specs.SmallPages.{small_of};
-ghost use Rattle.print.specs.Wrote.{Wrote};
+ghost use Rattle.print.specs.Texts.{Room, Puts};
 ghost use Rattle.small.specs.Numbers.{kinds, fact_ranked, rule_ranked, line_ranked, lines_numbered, page_numbered};
-ghost use Rattle.small.specs.Answer.{answer_of};
+ghost use Rattle.small.specs.Answer.{number_of, answer_of};
 
-use print::put_all;
+use print::{Text, put_all};
 
-// The number of a refusal, or the text's length.
-#[derive(Clone, Copy)]
-pub enum SmallAnswer {
-    Refused(u8),
-    Wrote(u8),
+// Why no text is written.
+#[derive(Clone, Copy, PartialEq, Eq)]
+pub enum SmallError {
+    // a number over 241
+    Number,
+    // a buffer too short for the text
+    Buffer,
+}
+
+impl SmallError {
+    // The number of the refusal.
+    pub fn number(self) -> u8
+        ensures { result ≡ number_of self }
+    {
+        match self {
+            SmallError::Number => 70,
+            SmallError::Buffer => 71,
+        }
+    }
 }
 
 // `G,1,n`.
-fn put_head(out: &mut [u8], n: u8) -> usize
-    requires { (6 ≤ length out.old) × (n ≤ 2) }
-    ensures { Wrote out.old 0 (ended_lines (joined (head_fields 1 n) ∷ [])) out.new result }
+fn put_head(text: &mut Text<'_>, n: u8)
+    requires { Room text.old 6 × (n ≤ 2) }
+    ensures { Puts text.old (ended_lines (joined (head_fields 1 n) ∷ [])) text.new }
 {
-    let bytes = [b'G', b',', b'1', b',', 48 + n, b'\n'];
-    put_all(out, 0, &bytes)
+    text.put_bytes(&[b'G', b',', b'1', b',', b'0' + n, b'\n']);
 }
 
 // The fact with rank r: three on each condition, by their ends.
-fn put_fact(out: &mut [u8], at: usize, r: u8) -> usize
-    requires { (at + 8 ≤ length out.old) × (r < 6) }
-    ensures { Wrote out.old at (ended_lines (line_texts (fact_ranked r ∷ []))) out.new result }
+fn put_fact(text: &mut Text<'_>, r: u8)
+    requires { Room text.old 8 × (r < 6) }
+    ensures { Puts text.old (ended_lines (line_texts (fact_ranked r ∷ []))) text.new }
 {
     let ends = r % 3;
-    let bytes = [
+    text.put_bytes(&[
         b'F',
         b',',
-        48 + r / 3,
+        b'0' + r / 3,
         b',',
-        48 + ends / 2,
+        b'0' + ends / 2,
         b',',
-        48 + (ends + 1) / 2,
+        b'0' + (ends + 1) / 2,
         b'\n',
-    ];
-    put_all(out, at, &bytes)
+    ]);
 }
 
 // The rule with rank r on a page of n conditions: for each head the n negations, then the n conditions.
-fn put_rule(out: &mut [u8], at: usize, n: u8, r: u8) -> usize
-    requires { (at + 11 ≤ length out.old) × (1 ≤ n) × (n ≤ 2) × (r < 2 * n * n) }
-    ensures { Wrote out.old at (ended_lines (line_texts (rule_ranked n r ∷ []))) out.new result }
+fn put_rule(text: &mut Text<'_>, n: u8, r: u8)
+    requires { Room text.old 11 × (1 ≤ n) × (n ≤ 2) × (r < 2 * n * n) }
+    ensures { Puts text.old (ended_lines (line_texts (rule_ranked n r ∷ []))) text.new }
 {
     let head = r / (2 * n);
     let named = r % n;
-    if r % (2 * n) < n {
-        let bytes = [
-            b'R',
-            b',',
-            48 + head,
-            b',',
-            b'1',
-            b',',
-            b'M',
-            b',',
-            b'!',
-            48 + named,
-            b'\n',
-        ];
-        return put_all(out, at, &bytes);
+    let negated = r % (2 * n) < n;
+    text.put_bytes(&[b'R', b',', b'0' + head, b',', b'1', b',', b'M', b',']);
+    if negated {
+        text.put_byte(b'!');
     }
-    let bytes = [
-        b'R',
-        b',',
-        48 + head,
-        b',',
-        b'1',
-        b',',
-        b'M',
-        b',',
-        48 + named,
-        b'\n',
-    ];
-    put_all(out, at, &bytes)
+    text.put_bytes(&[b'0' + named, b'\n']);
 }
 
 // The line with rank r on a page of n conditions: the facts, then the rules.
-fn put_line(out: &mut [u8], at: usize, n: u8, r: u8) -> usize
-    requires { (at + 11 ≤ length out.old) × (1 ≤ n) × (n ≤ 2) × (r < kinds n) }
-    ensures { Wrote out.old at (ended_lines (line_texts (line_ranked n r ∷ []))) out.new result }
+fn put_line(text: &mut Text<'_>, n: u8, r: u8)
+    requires { Room text.old 11 × (1 ≤ n) × (n ≤ 2) × (r < kinds n) }
+    ensures { Puts text.old (ended_lines (line_texts (line_ranked n r ∷ []))) text.new }
 {
     if r < 3 * n {
-        return put_fact(out, at, r);
+        put_fact(text, r);
+        return;
     }
-    put_rule(out, at, n, r - 3 * n)
+    put_rule(text, n, r - 3 * n);
 }
 
 // The lines of the page with number k among those of n conditions: none, one, or two.
-fn put_lines(out: &mut [u8], at: usize, n: u8, k: u8) -> usize
-    requires { (at + 22 ≤ length out.old) × (1 ≤ n) × (n ≤ 2) × (k < 1 + kinds n + kinds n * kinds n) }
-    ensures { Wrote out.old at (ended_lines (line_texts (lines_numbered n k))) out.new result }
+fn put_lines(text: &mut Text<'_>, n: u8, k: u8)
+    requires { Room text.old 22 × (1 ≤ n) × (n ≤ 2) × (k < 1 + kinds n + kinds n * kinds n) }
+    ensures { Puts text.old (ended_lines (line_texts (lines_numbered n k))) text.new }
 {
     if k < 1 {
-        return at;
+        return;
     }
     let lines = n * (3 + 2 * n);
     if k < 1 + lines {
-        return put_line(out, at, n, k - 1);
+        put_line(text, n, k - 1);
+        return;
     }
     let pair = k - 1 - lines;
-    let next = put_line(out, at, n, pair / lines);
-    put_line(out, next, n, pair % lines)
+    put_line(text, n, pair / lines);
+    put_line(text, n, pair % lines);
 }
 
 // The text of the page with a number.
-fn put_page(out: &mut [u8], number: u8) -> usize
-    requires { (28 ≤ length out.old) × (number < 242) }
-    ensures { Wrote out.old 0 (text_of (page_numbered number)) out.new result }
+fn put_page(text: &mut Text<'_>, number: u8)
+    requires { Room text.old 28 × (number < 242) }
+    ensures { Puts text.old (text_of (page_numbered number)) text.new }
 {
     if number < 31 {
-        let at = put_head(out, 1);
-        return put_lines(out, at, 1, number);
+        put_head(text, 1);
+        put_lines(text, 1, number);
+        return;
     }
-    let at = put_head(out, 2);
-    put_lines(out, at, 2, number - 31)
+    put_head(text, 2);
+    put_lines(text, 2, number - 31);
 }
 
-// The text of a small page at the front of a buffer, and its length: 70 a number over 241, 71 the buffer is too short.
-pub fn small_page(number: u32, buffer: &mut [u8]) -> SmallAnswer
+// The text of a small page at the front of a buffer, and its length.
+pub fn small_page(number: u32, buffer: &mut [u8]) -> Result<u8, SmallError>
     ensures answer { answer_of result ≡ (small_of number buffer.old).answer }
     ensures buffer { buffer.new ≡ (small_of number buffer.old).buffer }
 {
     if 241 < number {
-        return SmallAnswer::Refused(70);
+        return Err(SmallError::Number);
     }
-    let mut text = [0u8; 28];
-    let n = put_page(&mut text, number as u8);
-    if buffer.len() < n {
-        return SmallAnswer::Refused(71);
+    let mut bytes = [0u8; 28];
+    let mut text = Text::new(&mut bytes);
+    put_page(&mut text, number as u8);
+    if buffer.len() < text.at {
+        return Err(SmallError::Buffer);
     }
-    put_all(buffer, 0, &text[..n]);
-    SmallAnswer::Wrote(n as u8)
+    put_all(buffer, 0, text.written());
+    Ok(text.at as u8)
 }

@@ -11,10 +11,10 @@ use lib.Seq.{take-suc, get_or-set_same}
 use Rattle.semantics.specs.Area.{page_of, top_of, conditions_of, count_of, used_of, every, line_tests, line_at, first_line}
 use Rattle.semantics.specs.Output.{queries_of}
 use Rattle.semantics.specs.Page.{Line}
-use Rattle.page.specs.Lines.{Next}
+use Rattle.page.specs.Lines.{Next, Scanning}
 use Rattle.page.specs.Solvable.{solvable}
 use Rattle.page.proofs.Head.{head_of}
-use Rattle.page.proofs.Scanning.{Scanning, lines_left, scanning_first, lines_first, lines_moved, scanning_moved, lines_none}
+use Rattle.page.proofs.Scanning.{lines_left, scanning_first, lines_first, lines_moved, scanning_moved, lines_none}
 use Rattle.solve.specs.Figures.{conditions_asked, asked_by, Noted, NotedAll}
 use Rattle.solve.proofs.Queries.{a_query, no_query, asked_append, asked_most}
 
@@ -56,10 +56,10 @@ pub record Noting (a : List ℕ) (line passed : ℕ) (queries : List ℕ) (k : �
   pub noted : k ≡ length (asked_by lines)
   pub front : take k queries ≡ asked_by lines
 
-pub noting_first : (a queries : List ℕ) → solvable a ≡ true → length queries ≡ 1536 → {line passed : ℕ} → (line ≡ first_line a) × (passed ≡ 0) → Noting a line passed queries 0
+pub noting_first : (a queries : List ℕ) → solvable a ≡ true → length queries ≡ 1536 → {line passed : ℕ} → line ≡ first_line a → passed ≡ 0 → Noting a line passed queries 0
 unfolding queries_of conditions_asked
-noting_first a queries e w q =
-    rw (q.0, q.1) (record { scan = scanning_first a e; lines = []; size = refl; whole = lines_first a; width = w; noted = refl; front = refl })
+noting_first a queries e w q z =
+    rw (q, z) (record { scan = scanning_first a e; lines = []; size = refl; whole = lines_first a; width = w; noted = refl; front = refl })
 
 module _ (a : List ℕ) {line passed : ℕ} {queries : List ℕ} {k : ℕ} (p : Noting a line passed queries k) where
   pub noting_few : k ≤ passed

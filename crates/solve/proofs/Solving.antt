@@ -32,7 +32,8 @@ use Rattle.reach.specs.Opening.{Written}
 use Rattle.reach.proofs.Bounds.{bound_few}
 use Rattle.reach.proofs.Writing.{accepted_run}
 use Rattle.rounds.specs.Round.{closed_at}
-use Rattle.closed.specs.Solving.{SolveReady, Solved}
+use Rattle.closed.specs.Solving.{ends_at, SolveReady, Solved}
+use Rattle.fixpoint.proofs.KnowledgeOrder.{pair_eq}
 use Rattle.closed.proofs.Answering.{Answering, answering_first, answering_next, answering_last}
 use Rattle.run.specs.Answers.{Answered}
 use Rattle.run.specs.Steps.{drive_left}
@@ -92,10 +93,11 @@ module _ (a : List ℕ) (ok : solvable a ≡ true) (qs : List ℕ) (under : all_
         d.run_is ∙ rw (opened) (rw (start_reached page w qs z, start_state page w qs z)) in
         rw e (plain_held page w qs (drop (3 * page.conditions) run₁) asked 4294967295 (omega (arith, bound_few page w m)) P p c l)
 
-    pub plain_solved : {x : Answer} {run₂ : List ℕ} (answers answers' : List ℕ) → Answered (drive_left a run₁ 4294967295) x run₂ → answers' ≡ ends (interval_at run₂) qs ++ drop (2 * length qs) answers
+    pub plain_solved : {x : Answer} {run₂ : List ℕ} (answers answers' : List ℕ) → Answered (drive_left a run₁ 4294967295) x run₂ → answers' ≡ ends (ends_at run₂ 3 1) qs ++ drop (2 * length qs) answers
         → PlainSolved (page_of a) qs answers answers'
     plain_solved {run₂ = run₂} answers answers' d e P p =
-        e ∙ ap (λ (l : List ℕ). l ++ drop (2 * length qs) answers) (ends_listed (interval_at run₂) P qs (driven_answers d P p))
+        e ∙ ap (λ (l : List ℕ). l ++ drop (2 * length qs) answers)
+        (ends_listed (ends_at run₂ 3 1) P qs (λ c l. pair_eq refl (ap (λ (i : ℕ). get_or run₂ i 0) {x = 1 + 3 * c} {y = 3 * c + 1} (omega arith)) ∙ driven_answers d P p c l))
 
 -- a run for each query: the first i are answered
 pub record Apart (page : Page) (qs answers₀ answers : List ℕ) (i : ℕ) : Type 0 where

@@ -3,8 +3,6 @@
 
 ghost use Rattle.std.specs.Prelude.{◌≡◌, true, ◌++◌, ℕ, ◌+◌, ◌*◌, ◌-◌, ◌≤◌, ◌<◌, length, get_or, drop};
 ghost use Rattle.semantics.specs.Area.{page_of, top_of, conditions_of, used_of, all_under, every, line_tests};
-ghost use Rattle.semantics.specs.Operation.{ends};
-ghost use Rattle.semantics.specs.RunArea.{interval_at};
 ghost use Rattle.page.specs.Solvable.{solvable};
 ghost use Rattle.solve.specs.Figures.{Noted, NotedAll, PlainSolved, Figures};
 
@@ -25,28 +23,11 @@ fn note_queries(page: &[u16], queries: &mut [u16]) -> usize
     requires { (solvable page.now ≡ true) × (length queries.old ≡ 1536) }
     ensures { NotedAll page.now queries.new result }
 {
-    let lines = page[2];
-    let mut line = page::Cursor::first(page);
-    let mut k: usize = 0;
-    while line.passed < lines {
-        k = note_query(page, line.at, queries, k);
-        line = line.next(page);
+    let mut k = 0;
+    for line in page::Lines::of(page) {
+        k = note_query(page, line, queries, k);
     }
     k
-}
-
-// Low and high that a run area holds for each query, in list order.
-fn write_held(run: &[u16], queries: &[u16], answers: &mut [u16])
-    requires { ((k : ℕ) → k < length queries.now → 3 * get_or queries.now k 0 + 3 ≤ length run.now) × (2 * length queries.now ≤ length answers.old) }
-    ensures { answers.new ≡ ends (interval_at run.now) queries.now ++ drop (2 * length queries.now) answers.old }
-{
-    let mut i: usize = 0;
-    while i < queries.len() {
-        let at = 3 * queries[i] as usize;
-        answers[2 * i] = run[at];
-        answers[2 * i + 1] = run[at + 1];
-        i += 1;
-    }
 }
 
 // The plain answers: a run of the queries, driven by an index with more evaluations than any run takes.
@@ -60,7 +41,7 @@ fn solve_plain(page: &[u16], queries: &[u16], workspace: &mut [u16], answers: &m
     reach::write_run(&mut run, page[1], page[0], &marks);
     let m = index::index_length(page);
     run::drive_built(page, &mut run, &mut workspace[..m], u32::MAX);
-    write_held(&run, queries, answers);
+    closed::write_ends(&run, 3, 1, queries, answers);
 }
 
 // The same, where each query has a run of its own.
@@ -68,17 +49,16 @@ fn solve_apart(page: &[u16], queries: &[u16], workspace: &mut [u16], answers: &m
     requires { (solvable page.now ≡ true) × (all_under (conditions_of page.now) queries.now ≡ true) × (length workspace.old ≡ 15362) × (2 * length queries.now ≤ length answers.old) }
     ensures { PlainSolved (page_of page.now) queries.now answers.old answers.new }
 {
-    let mut i: usize = 0;
-    while i < queries.len() {
+    for i in 0..queries.len() {
         let mut ends = [0u16; 2];
         solve_plain(page, &queries[i..i + 1], workspace, &mut ends);
         answers[2 * i] = ends[0];
         answers[2 * i + 1] = ends[1];
-        i += 1;
     }
 }
 
-// The plain answers, by a run for each query or by one run.
+// The plain answers, by a run for each query or by one run. `apart` stays a switch: it is the program's choice alone, and a closure would repeat
+// the contract.
 fn solve_runs(
     page: &[u16],
     queries: &[u16],

@@ -17,7 +17,8 @@ use Rattle.semantics.specs.Grade.{lower}
 use Rattle.semantics.specs.Table.{member, any_below}
 use Rattle.semantics.proofs.Table.{any_true}
 use Rattle.page.proofs.Head.{head_of}
-use Rattle.bits.specs.Words.{has, AnyIn}
+use Rattle.bits.specs.Sets.{Nobody}
+use Rattle.bits.specs.Words.{has}
 use Rattle.index.specs.Parts.{MaybeUsers}
 use Rattle.value.specs.Table.{EndTable}
 use Rattle.value.proofs.Tables.{table_of_lem, grades_of}
@@ -28,12 +29,11 @@ use Rattle.settle.proofs.Raising.{S, E}
 use Rattle.rounds.specs.Round.{MarkedWait, past, Comparable, Fresh, LinesHave}
 use Rattle.rounds.proofs.AllWaiting.{nobody_waits}
 use Rattle.unknowns.specs.NextHighs.{sought, Places, HighTable, NextHighs}
-use Rattle.stages.specs.Steps.{Nobody, free_at, FreeTold, ahead, seen, Notable, AllNoted, LowsRest, TakeReady, AllTaken, LookedAgain, HighsReady, HighsTaken}
+use Rattle.stages.specs.Steps.{free_at, FreeTold, ahead, seen, Notable, AllNoted, LowsRest, TakeReady, AllTaken, LookedAgain, HighsTaken}
 use Rattle.stages.specs.Stages.{stage_at, Tables, Tops, Older, AtSupport, Advanced}
 use Rattle.stages.proofs.Assignments.{low_eq, high_eq}
 use Rattle.stages.proofs.Notes.{no_later}
 use Rattle.stages.proofs.PageStages.{stage_rises, stage_falls, next_at}
-use Rattle.stages.proofs.Supporting.{zeros, none_in}
 use Rattle.page.specs.Solvable.{solvable}
 
 -- reached and free, or not
@@ -50,14 +50,6 @@ not_both false y f = refl
 pub free_told : (a : List ℕ) (m : List Bool) {free : Bool} → free ≡ any_below (conditions_of a) (sought a m) → FreeTold a m free
 free_told a m h z c l r =
     by_bool (free_at a c) (λ e. absurd (true≢false (sym (any_true (conditions_of a) (sought a m) c l (both (member m c) (free_at a c) r e)) ∙ sym h ∙ z))) (λ e. e)
-
--- nobody is free: every entry stays
-pub next_none : {a : List ℕ} {m : List Bool} (s : List ℕ) {tops : List ℕ} {free : Bool} → FreeTold a m free → free ≡ false → NextHighs a m s tops tops
-next_none {a} {m} s f z =
-    record {
-      steady = record { same_length = refl; others = λ c h. refl };
-      each = λ c l q. absurd (true≢false (sym q ∙ not_both (member m c) (free_at a c) (λ r. f z c l r)));
-    }
 
 module _ {a : List ℕ} {m : List Bool} {users tops : List ℕ} {k : ℕ} {s lows : List ℕ} (b : AtSupport a m users tops k s lows) where
   abbrev n : ℕ
@@ -81,14 +73,14 @@ module _ {a : List ℕ} {m : List Bool} {users tops : List ℕ} {k : ℕ} {s low
       table_of_lem lower (top_of a) n (held n s) (take (2 * n) s)
       (λ c l. record { plain = seen_at (2 * c) (omega arith); negative = seen_at (2 * c + 1) (omega arith) ∙ b.tables.over_high c l })
 
-  pub advance_notable : Notable a m s zeros
-  advance_notable =
+  pub advance_notable : {moved : List ℕ} → ((c : ℕ) → has moved c ≡ false) → Notable a m s moved
+  advance_notable z =
       record {
         page_solvable = ok;
         long = b.tables.long;
         marked = b.tables.marked;
         grades = grades_of lower (top_of a) n (held n s) (take (2 * n) s) (simp length-take (omega (arith, b.tables.long))) (λ c l. (b.tables.within c l).low_in) low_table;
-        set_in = nobody_waits n;
+        set_in = nobody_waits z;
       }
 
   pub advance_places : Places a m tops
@@ -144,7 +136,7 @@ module _ {a : List ℕ} {m : List Bool} {users tops : List ℕ} {k : ℕ} {s low
         }
 
     -- the next low ends are noted
-    module _ {s₁ moved : List ℕ} (v : AllNoted a m s s₁ zeros moved) where
+    module _ {s₁ moved₀ moved : List ℕ} (none₀ : (c : ℕ) → has moved₀ c ≡ false) (v : AllNoted a m s s₁ moved₀ moved) where
       grade₁ : (c : ℕ) → c < n → get_or s₁ (2 * n + (2 * c + 1)) 0 ≤ top_of a
       grade₁ c l = omega (arith, no_later a m v.noting c l, b.tables.over_low c l)
 
@@ -160,20 +152,6 @@ module _ {a : List ℕ} {m : List Bool} {users tops : List ℕ} {k : ℕ} {s low
       ahead₁ c l r =
           ⊎_elim (λ y. omega (arith, y.0, ahead_low c l, floors c l r, stage_rises a ok m b.tables.shut k c l, v.rests c l r, next_low c l r))
           (λ y. omega (arith, y.below, v.rests c l r, next_low c l r)) (v.noting.each c l)
-
-      pub highs_ready : {look lows₁ : List ℕ} → MaybeUsers a users → WaitSet n look → WaitSet n lows₁ → HighsReady a users m tops' s₁ look lows₁
-      highs_ready u x y =
-          record {
-            page_solvable = ok;
-            users_in = u;
-            long = omega (arith, b.tables.long, v.noting.same_length);
-            marked = b.tables.marked;
-            known = next_tops.known;
-            within = λ c l. omega (arith, v.noting.highs c l, (b.tables.within c l).high_in);
-            over_high = λ c l. table₁ (2 * c + 1) (omega arith) ∙ b.tables.over_high c l ∙ ap (λ (x : ℕ). top_of a - x) (sym (v.noting.highs c l));
-            look_in = x;
-            lows_in = y;
-          }
 
       -- the next high ends are taken over
       module _ {s₂ lows₂ look look₁ : List ℕ} {fell : Bool} (h : HighsTaken a users m tops' s₁ s₂ lows₂ look look₁ fell) where
@@ -201,8 +179,8 @@ module _ {a : List ℕ} {m : List Bool} {users tops : List ℕ} {k : ℕ} {s low
         unfallen₂ c l r e q = sym (free_high c l r e) ∙ sym (v.noting.highs c l) ∙ sym q ∙ high₂ c l r
 
         -- the floor did not move
-        pub advanced_still : {c : ℕ} {look' lows' : List ℕ} → fell ≡ false → AnyIn moved c → 512 ≤ c → Advanced a m users tops tops' k s s₂ look' lows' false
-        advanced_still f y l =
+        pub advanced_still : {look' lows' : List ℕ} → fell ≡ false → Nobody moved → Advanced a m users tops tops' k s s₂ look' lows' false
+        advanced_still f y =
             record {
               same_length = h.same_length ∙ v.noting.same_length;
               beyond = h.beyond ∙ v.noting.beyond;
@@ -210,7 +188,7 @@ module _ {a : List ℕ} {m : List Bool} {users tops : List ℕ} {k : ℕ} {s low
               next = λ z. absurd (false≢true z);
               one = λ z. absurd (false≢true z);
               still = λ z. record {
-                lows = λ c i r. sym (ahead₁ c i r) ∙ unmoved₁ c i (y.none (omega (arith, y.within)) c (omega (arith, few))) ∙ floors c i r;
+                lows = λ c i r. sym (ahead₁ c i r) ∙ unmoved₁ c i (y c (omega (arith, few))) ∙ floors c i r;
                 highs = λ c i r e. sym (unfallen₂ c i r e (h.none f c i));
               };
             }
@@ -342,8 +320,8 @@ module _ {a : List ℕ} {m : List Bool} {users tops : List ℕ} {k : ℕ} {s low
               )
 
           -- a low end rose, or a high end fell
-          changes : {c : ℕ} → AnyIn moved c → (fell ≡ true) ⊎ (c < 512) → ¬ Alike n (member m) (stage_at a k) (stage_at a (suc k))
-          changes y (inl z) q =
+          changes : (fell ≡ true) ⊎ (Nobody moved → ⊥) → ¬ Alike n (member m) (stage_at a k) (stage_at a (suc k))
+          changes (inl z) q =
               let o = h.one z in
               omega (
                 arith,
@@ -353,13 +331,15 @@ module _ {a : List ℕ} {m : List Bool} {users tops : List ℕ} {k : ℕ} {s low
                 free_high o.0 o.1 o.2.reached o.2.free,
                 high_eq (q o.0 o.1 o.2.reached),
               )
-          changes {c} y (inr small) q =
-              let real : c < n = v.noting.set_in.inside c small (y.found small) in
-              ⊎_elim (λ x. true≢false (sym (y.found small) ∙ x.1 ∙ none_in c small))
-              (λ x. absurd (omega (arith, x.less, ahead_low c real, b.tables.over_low c real, ahead₁ c real x.reached, floors c real x.reached, low_eq (q c real x.reached)))) (v.noting.each c real)
+          changes (inr f) q = f (λ c small. by_bool (has moved c) (λ y. absurd (none_moved c (v.noting.set_in.inside c small y) y)) (λ y. y))
+            where
+              none_moved : (c : ℕ) → c < n → has moved c ≡ true → ⊥
+              none_moved c real y =
+                  ⊎_elim (λ x. true≢false (sym y ∙ x.1 ∙ none₀ c))
+                  (λ x. absurd (omega (arith, x.less, ahead_low c real, b.tables.over_low c real, ahead₁ c real x.reached, floors c real x.reached, low_eq (q c real x.reached)))) (v.noting.each c real)
 
-          pub advanced : {c : ℕ} → AnyIn moved c → (fell ≡ true) ⊎ (c < 512) → Nobody look → Again look₂ → Advanced a m users tops tops' k s s₃ look' lows' true
-          advanced y o drained again =
+          pub advanced : (fell ≡ true) ⊎ (Nobody moved → ⊥) → Nobody look → Again look₂ → Advanced a m users tops tops' k s s₃ look' lows' true
+          advanced o drained again =
               record {
                 same_length = t.same_length ∙ h.same_length ∙ v.noting.same_length;
                 beyond = t.beyond ∙ h.beyond ∙ v.noting.beyond;
@@ -373,6 +353,6 @@ module _ {a : List ℕ} {m : List Bool} {users tops : List ℕ} {k : ℕ} {s low
                   whole = whole drained again;
                   lows_wait = record { set_in = t.lows_in; rests = rests₃ };
                 };
-                one = λ z. changes y o;
+                one = λ z. changes o;
                 still = λ z. absurd (true≢false z);
               }

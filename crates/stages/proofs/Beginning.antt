@@ -1,19 +1,18 @@
 -- The loops before the first round: the high ends of the closed reading, and assignment 0. Assumes nothing.
-use mathlib.Core.Path.{◌≡◌, refl, sym, ◌∙◌, ap}
+use mathlib.Core.Path.{◌≡◌, sym, ◌∙◌, ap}
 use mathlib.Core.Logic.{◌≢◌}
-use mathlib.Core.Bool.{Bool, true, false, true≢false}
+use mathlib.Core.Bool.{Bool, true, false}
 use mathlib.Core.List.{List}
 use Prim.Native.Nat.{ℕ, ◌+◌, ◌*◌, ◌-◌, ◌≤◌, ◌<◌}
 use native.Mathlib.Omega.{arith}
 use lib.ListN.{length, get_or, set, drop, length-set}
 use lib.Seq.{get_or-set_same, get_or-set_other, drop-set-lt}
-use Rattle.fixpoint.proofs.Cond.{cond_true, cond_false, cond_most}
-use Rattle.semantics.specs.Area.{page_of, top_of, conditions_of}
+use Rattle.fixpoint.proofs.Cond.{cond_true, cond_false}
+use Rattle.semantics.specs.Area.{top_of, conditions_of}
 use Rattle.semantics.specs.Table.{member}
 use Rattle.rounds.proofs.Starting.{upto}
-use Rattle.stages.specs.Steps.{free_at, first_high, BegunAt, Begun, first_top, TopsCopied}
+use Rattle.stages.specs.Steps.{first_high, BegunAt, first_top}
 use Rattle.page.specs.Solvable.{solvable}
-use Rattle.page.proofs.Solvable.{solvable_proper}
 
 -- the high ends of the conditions before c
 module _ (a : List ℕ) (m : List Bool) (s : List ℕ) where
@@ -25,44 +24,6 @@ module _ (a : List ℕ) (m : List Bool) (s : List ℕ) where
     pub long : n ≤ length tops
     pub same_length : length tops ≡ length tops₀
     pub copied : (d : ℕ) → d < c → member m d ≡ true → get_or tops d 0 ≡ first_top a s d
-
-  pub copying_first : {tops : List ℕ} → n ≤ length tops → Copying tops tops 0
-  copying_first h = record { within = omega arith; long = h; same_length = refl; copied = λ d l. absurd (omega arith) }
-
-  module _ {tops₀ tops : List ℕ} {c : ℕ} (v : Copying tops₀ tops c) (l : c < n) where
-    pub copying_next : {tops' : List ℕ} (x : ℕ) → x ≡ first_top a s c → tops' ≡ set tops c x → Copying tops₀ tops' (c + 1)
-    copying_next {tops'} x q e =
-        rw e (record {
-          within = omega arith;
-          long = omega (arith, length-set tops c x, v.long);
-          same_length = length-set tops c x ∙ v.same_length;
-          copied = upto (λ d. member m d ≡ true → get_or (set tops c x) d 0 ≡ first_top a s d) c
-              (λ d k r. get_or-set_other tops c d x 0 (λ z. omega arith) ∙ v.copied d k r)
-              (λ r. get_or-set_same tops c x 0 (omega (arith, v.long)) ∙ q);
-        })
-
-    pub copying_passed : {tops' : List ℕ} → member m c ≡ false → tops' ≡ tops → Copying tops₀ tops' (c + 1)
-    copying_passed q e =
-        rw e (record {
-          within = omega arith;
-          long = v.long;
-          same_length = v.same_length;
-          copied = upto (λ d. member m d ≡ true → get_or tops d 0 ≡ first_top a s d) c v.copied (λ r. absurd (true≢false (sym r ∙ q)));
-        })
-
-  pub copying_last : {tops₀ tops : List ℕ} {c : ℕ} → Copying tops₀ tops c → n ≤ c → TopsCopied a m s tops₀ tops
-  copying_last v l = record { size = v.same_length; long = v.long; copied = λ d k. v.copied d (omega arith) }
-
--- the number that the loop stores
-pub first_free : (a s : List ℕ) (c : ℕ) → free_at a c ≡ true → top_of a ≡ first_top a s c
-first_free a s c e = sym (cond_true (top_of a) (get_or s (2 * conditions_of a + 2 * c) 0) e)
-
-pub first_small : (a : List ℕ) → solvable a ≡ true → (s : List ℕ) (c : ℕ) → get_or s (2 * conditions_of a + 2 * c) 0 ≤ 200 → first_top a s c ≤ 200
-unfolding page_of
-first_small a ok s c h = cond_most (free_at a c) (λ e. (solvable_proper a ok).top_most) (λ e. h)
-
-pub first_bound : (a s : List ℕ) (c : ℕ) → free_at a c ≡ false → get_or s (2 * conditions_of a + 2 * c) 0 ≡ first_top a s c
-first_bound a s c e = sym (cond_false (top_of a) (get_or s (2 * conditions_of a + 2 * c) 0) e)
 
 -- the four numbers of the conditions before c
 module _ (a : List ℕ) (m : List Bool) (s₀ : List ℕ) where
@@ -77,10 +38,6 @@ module _ (a : List ℕ) (m : List Bool) (s₀ : List ℕ) where
     pub same_length : length s ≡ length s₀
     pub beyond : drop (4 * size) s ≡ drop (4 * size) s₀
     pub each : (d : ℕ) → d < c → BegunAt a m s d
-
-  pub beginning_first : solvable a ≡ true → 4 * size ≤ length s₀ → size ≤ length m → Beginning s₀ 0
-  beginning_first ok h g =
-      record { page_solvable = ok; long = h; marked = g; within = omega arith; same_length = refl; beyond = refl; each = λ d l. absurd (omega arith) }
 
   module _ {s : List ℕ} {c : ℕ} (v : Beginning s c) (l : c < size) (y : ℕ) (q : y ≡ first_high a m c) where
     abbrev s₁ : List ℕ
@@ -145,9 +102,6 @@ module _ (a : List ℕ) (m : List Bool) (s₀ : List ℕ) where
               ∙ drop-set-lt (4 * size) s₁ (2 * c + 1) (top_of a - y) (omega arith) ∙ drop-set-lt (4 * size) s (2 * c) 0 (omega arith) ∙ v.beyond;
           each = upto (BegunAt a m s₄) c before here;
         }
-
-  pub beginning_last : {s : List ℕ} {c : ℕ} → Beginning s c → size ≤ c → Begun a m s₀ s
-  beginning_last v l = record { same_length = v.same_length; beyond = v.beyond; each = λ d k. v.each d (omega arith) }
 
 -- the high end that the loop stores
 pub first_marked : (a : List ℕ) (m : List Bool) (c : ℕ) → member m c ≡ true → top_of a ≡ first_high a m c

@@ -1,6 +1,6 @@
 -- The negations of the conditions that were lowered have their numbers over the high ends, one after the other. Assumes nothing.
-use mathlib.Core.Path.{◌≡◌, refl, sym, ◌∙◌, ap, subst}
-use mathlib.Core.Logic.{◌≢◌, ◌⊎◌, inl, inr, ⊎_elim}
+use mathlib.Core.Path.{◌≡◌, sym, ◌∙◌, ap, subst}
+use mathlib.Core.Logic.{◌≢◌, ◌⊎◌, inl, inr}
 use mathlib.Core.Bool.{true, false, true≢false}
 use mathlib.Core.List.{List}
 use Prim.Native.Nat.{ℕ, ◌+◌, ◌*◌, ◌-◌, ◌≤◌, ◌<◌}
@@ -8,24 +8,23 @@ use native.Mathlib.Decide.{ℕ_discrete}
 use native.Mathlib.Omega.{arith}
 use lib.ListN.{length, get_or, set, drop, length-set}
 use lib.Seq.{get_or-set_same, get_or-set_other, drop-set-lt}
-use Rattle.fixpoint.proofs.KnowledgeOrder.{pair_eq}
 use Rattle.semantics.specs.Area.{page_of, top_of, conditions_of}
 use Rattle.page.proofs.Head.{head_of}
-use Rattle.bits.specs.Words.{has, Removed, AnyIn}
+use Rattle.bits.specs.Sets.{Member}
+use Rattle.bits.specs.Words.{has, Removed}
 use Rattle.index.specs.Parts.{MaybeUsers}
 use Rattle.index.specs.Readers.{lines_read}
 use Rattle.index.proofs.Readers.{reads_below}
 use Rattle.settle.specs.Waiting.{WaitSet}
-use Rattle.rounds.specs.Round.{LowsBegun, Renegated, Woke}
-use Rattle.stages.specs.Steps.{FollowReady}
-use Rattle.settle.proofs.Members.{waiters, else_same, gone, rest_in, fewer, any_real}
+use Rattle.rounds.specs.Round.{Renegated}
+use Rattle.settle.proofs.Members.{else_same, gone, rest_in}
 use Rattle.page.specs.Solvable.{solvable}
 
 -- the number of a negation
 abbrev over_high : (a s : List ℕ) → ℕ → ℕ
 over_high a s d = top_of a - get_or s (2 * conditions_of a + 2 * d) 0
 
-pub record Following (a users s₀ s lowered lows₀ lows : List ℕ) (c : ℕ) : Type 0 where
+pub record Following (a users s₀ s lowered lows₀ lows : List ℕ) : Type 0 where
   pub page_solvable : solvable a ≡ true
   pub users_in : MaybeUsers a users
   pub long : 4 * conditions_of a ≤ length s
@@ -40,63 +39,19 @@ pub record Following (a users s₀ s lowered lows₀ lows : List ℕ) (c : ℕ) 
   pub done : (d : ℕ) → d < conditions_of a → has lowered d ≡ false → get_or s (2 * d + 1) 0 ≡ over_high a s₀ d
   pub todo : (d : ℕ) → d < conditions_of a → has lowered d ≡ true → get_or s (2 * d + 1) 0 ≡ get_or s₀ (2 * d + 1) 0
   pub woken : (length users ≡ 0) ⊎ ((d : ℕ) → d < conditions_of a → has lowered d ≡ false → get_or s₀ (2 * d + 1) 0 ≢ over_high a s₀ d → (h : ℕ) → lines_read (2 * d + 1) (page_of a).lines h ≡ true → has lows h ≡ true)
-  pub any : AnyIn lowered c
 
-pub following_first : {a users s lowered lows : List ℕ} {c : ℕ} → FollowReady a users s lowered lows → AnyIn lowered c → Following a users s s lowered lows lows c
-following_first h y =
-    record {
-      page_solvable = h.page_solvable;
-      users_in = h.users_in;
-      long = h.long;
-      grades = h.within;
-      same_length = refl;
-      plain = λ d. refl;
-      upper = λ i l. refl;
-      beyond = refl;
-      lowered_in = h.lowered_in;
-      lows_in = h.lows_in;
-      kept = λ d l r. r;
-      done = h.others;
-      todo = λ d l q. refl;
-      woken = inr (λ d l q z. absurd (z (h.others d l q)));
-      any = y;
-    }
-
-module _ {a users s₀ s lowered lows₀ lows : List ℕ} {c : ℕ} (v : Following a users s₀ s lowered lows₀ lows c) where
+module _ {a users s₀ s lowered lows₀ lows : List ℕ} (v : Following a users s₀ s lowered lows₀ lows) where
   abbrev n : ℕ
   n = conditions_of a
 
   few : n ≤ 512
   few = (head_of a v.page_solvable).few
 
-  pub following_last : 512 ≤ c → LowsBegun a s₀ s × Woke a users s₀ s lows₀ lows
-  following_last l =
-      let out : (d : ℕ) → d < conditions_of a → has lowered d ≡ false = λ d k. v.any.none (omega (arith, v.any.within)) d (omega (arith, few)) in (
-        record {
-          same_length = v.same_length;
-          intervals = λ d k. pair_eq (v.plain d) (v.upper (2 * n + 2 * d) (omega arith));
-          negated = λ d k. v.done d k (out d k);
-          negations = λ d k. v.upper (2 * n + (2 * d + 1)) (omega arith);
-          beyond = v.beyond;
-        },
-        record {
-          set_in = v.lows_in;
-          kept = v.kept;
-          woken = ⊎_elim (λ z. inl z) (λ f. inr (λ d k q. f d k (out d k) (λ e. q (e ∙ sym (v.done d k (out d k)))))) v.woken;
-        },
-      )
-
-  module _ (small : c < 512) where
+  module _ {c : ℕ} (waits : Member lowered c) where
     pub following_real : c < conditions_of a
-    following_real = any_real v.lowered_in v.any small
-
-    pub following_grade : get_or s (2 * conditions_of a + 2 * c) 0 ≤ top_of a
-    following_grade = omega (arith, v.upper (2 * n + 2 * c) (omega arith), v.grades c following_real)
+    following_real = v.lowered_in.inside c waits.within waits.found
 
     module _ (lowered₁ : List ℕ) (x : Removed c lowered lowered₁) where
-      pub following_less : {c' : ℕ} → AnyIn lowered₁ c' → waiters lowered₁ < waiters lowered
-      following_less y = fewer lowered lowered₁ c x small (v.any.found small)
-
       module _ {s' lows' : List ℕ} (r : Renegated a users c s s' lows lows') where
         number : ℕ
         number = top_of a - get_or s (2 * n + 2 * c) 0
@@ -125,15 +80,15 @@ module _ {a users s₀ s lowered lows₀ lows : List ℕ} {c : ℕ} (v : Followi
               | inr f ↦ elim r.woken [
                 | inl z ↦ inl z
                 | inr g ↦ inr (λ d l q e. elim (ℕ_discrete d c) [
-                  | yes z ↦ λ h k. g (λ y. e (subst (λ (j : ℕ). get_or s₀ (2 * j + 1) 0 ≡ over_high a s₀ j) (sym z) (sym (v.todo c following_real (v.any.found small)) ∙ y ∙ unfold number in number_is))) h
+                  | yes z ↦ λ h k. g (λ y. e (subst (λ (j : ℕ). get_or s₀ (2 * j + 1) 0 ≡ over_high a s₀ j) (sym z) (sym (v.todo c following_real waits.found) ∙ y ∙ unfold number in number_is))) h
                       (subst (λ (j : ℕ). lines_read (2 * j + 1) (page_of a).lines h ≡ true) z k)
                   | no z ↦ λ h k. r.kept h (omega (arith, few, reads_below a v.page_solvable (2 * d + 1) h k)) (f d l (sym (was d l z) ∙ q) e h k)
                 ])
               ]
             ]
 
-        pub following_next : {c' : ℕ} → AnyIn lowered₁ c' → Following a users s₀ s' lowered₁ lows₀ lows' c'
-        following_next y =
+        pub following_next : Following a users s₀ s' lowered₁ lows₀ lows'
+        following_next =
             record {
               page_solvable = v.page_solvable;
               users_in = v.users_in;
@@ -155,8 +110,7 @@ module _ {a users s₀ s lowered lows₀ lows : List ℕ} {c : ℕ} (v : Followi
                 | no z ↦ else' (2 * d + 1) (λ e. z (omega arith)) ∙ v.todo d l (sym (was d l z) ∙ q)
               ];
               woken = woken';
-              any = y;
             }
           where
             gone_not : (d : ℕ) → d < n → d ≡ c → has lowered₁ d ≡ true → ⊥
-            gone_not d l z q = true≢false (sym q ∙ ap (has lowered₁) z ∙ gone lowered lowered₁ c x small)
+            gone_not d l z q = true≢false (sym q ∙ ap (has lowered₁) z ∙ gone lowered lowered₁ c x waits.within)

@@ -1,7 +1,7 @@
 -- The high ends of the free conditions fall to their next ones, one condition after the other, and their negations follow. Assumes nothing.
-use mathlib.Core.Path.{◌≡◌, refl, sym, ◌∙◌, ap, subst}
+use mathlib.Core.Path.{◌≡◌, sym, ◌∙◌, ap, subst}
 use mathlib.Core.Logic.{◌≢◌, ◌⊎◌, inl, inr, ⊎_elim}
-use mathlib.Core.Bool.{Bool, true, false, true≢false, false≢true}
+use mathlib.Core.Bool.{Bool, true, false, true≢false, ◌||◌, or-true, or-false}
 use mathlib.Core.List.{List}
 use Prim.Native.Nat.{ℕ, ◌+◌, ◌*◌, ◌-◌, ◌≤◌, ◌<◌}
 use native.Mathlib.Decide.{ℕ_discrete}
@@ -17,14 +17,9 @@ use Rattle.index.specs.Readers.{lines_read}
 use Rattle.index.proofs.Readers.{reads_below}
 use Rattle.settle.proofs.Members.{joined, joins, joined_else}
 use Rattle.rounds.specs.Round.{LowsBegun, Woke}
-use Rattle.rounds.proofs.AllWaiting.{nobody_waits}
 use Rattle.rounds.proofs.Starting.{upto}
-use Rattle.stages.specs.Steps.{Nobody, free_at, FreeTold, FellTop, LowerReady, FallsAt, StaysAt, FollowReady, LoweredFree, FreeLowered, HighsReady, HighStays, HighFalls, HighsTaken}
+use Rattle.stages.specs.Steps.{free_at, FellTop, LowerReady, FallsAt, StaysAt, LoweredFree, FreeLowered, HighsReady, HighStays, HighFalls, HighsTaken}
 use Rattle.stages.proofs.Assignments.{low_eq, high_eq}
-use Rattle.stages.proofs.Supporting.{zeros}
-
-pub not_free : {a users : List ℕ} {m : List Bool} {tops s look lowered : List ℕ} {c : ℕ} → free_at a c ≡ false → LoweredFree a users m tops c s s look look lowered lowered false
-not_free e = inl (record { told = refl; same = refl; look_same = refl; lowered_same = refl; bound = e })
 
 -- the conditions before c are done
 pub record Freeing (a users : List ℕ) (m : List Bool) (tops s₀ s look₀ look lowered : List ℕ) (fell : Bool) (c : ℕ) : Type 0 where
@@ -41,48 +36,12 @@ pub record Freeing (a users : List ℕ) (m : List Bool) (tops s₀ s look₀ loo
   pub none : fell ≡ false → (d : ℕ) → d < conditions_of a → has lowered d ≡ false
   pub one : fell ≡ true → (d : ℕ) × (d < conditions_of a) × (has lowered d ≡ true)
 
-pub freeing_first : {a users : List ℕ} {m : List Bool} {tops s look lowered : List ℕ} → LowerReady a users m tops s look lowered → Nobody lowered
-    → Freeing a users m tops s s look look lowered false 0
-freeing_first {a} h z =
-    let few = (head_of a h.page_solvable).few in
-    record {
-      ready = h;
-      within = omega arith;
-      same_length = refl;
-      table = λ i l. refl;
-      negations = λ d l. refl;
-      beyond = refl;
-      each = λ d l. inl (record { same = refl; unnoted = z d (omega arith) });
-      stands = λ d l. absurd (omega arith);
-      woken = inr (λ d l q. absurd (true≢false (sym q ∙ z d (omega arith))));
-      look_same = λ e. refl;
-      none = λ q d l. z d (omega arith);
-      one = λ q. absurd (false≢true q);
-    }
-
 module _ {a users : List ℕ} {m : List Bool} {tops s₀ s look₀ look lowered : List ℕ} {fell : Bool} {c : ℕ} (v : Freeing a users m tops s₀ s look₀ look lowered fell c) where
   abbrev n : ℕ
   n = conditions_of a
 
   few : n ≤ 512
   few = (head_of a v.ready.page_solvable).few
-
-  pub freeing_last : n ≤ c → FreeLowered a users m tops s₀ s look₀ look lowered fell
-  freeing_last l =
-      record {
-        same_length = v.same_length;
-        table = v.table;
-        negations = v.negations;
-        beyond = v.beyond;
-        look_in = v.ready.look_in;
-        lowered_in = v.ready.lowered_in;
-        each = v.each;
-        stands = λ d k. v.stands d (omega arith);
-        woken = v.woken;
-        look_same = v.look_same;
-        none = v.none;
-        one = v.one;
-      }
 
   module _ (l : c < n) where
     -- nothing is done
@@ -177,71 +136,24 @@ module _ {a users : List ℕ} {m : List Bool} {tops s₀ s look₀ look lowered 
 
       -- by what the code tells
       module _ {t : Bool} (k : LoweredFree a users m tops c s s' look look' lowered lowered' t) where
-        pub freeing_next : {fell' : Bool} → ((t ≡ true) × (fell' ≡ true)) ⊎ ((t ≡ false) × (fell' ≡ fell)) → Freeing a users m tops s₀ s' look₀ look' lowered' fell' (c + 1)
-        freeing_next {fell'} w =
+        pub freeing_next : Freeing a users m tops s₀ s' look₀ look' lowered' (fell || t) (c + 1)
+        freeing_next =
             elim k [
-              | inl q ↦ as_before q.told (passed q.same q.look_same q.lowered_same (λ r f. absurd (true≢false (sym f ∙ q.bound))))
+              | inl q ↦ rw (q.told, or-false) (passed q.same q.look_same q.lowered_same (λ r f. absurd (true≢false (sym f ∙ q.bound))))
               | inr q ↦ elim q.1 [
-                | inl y ↦ as_before y.told (passed y.same y.look_same y.lowered_same (λ r f. y.stands r))
-                | inr y ↦ ⊎_elim (λ e. falls q.0 y e.1) (λ e. absurd (true≢false (sym y.told ∙ e.0))) w
+                | inl y ↦ rw (y.told, or-false) (passed y.same y.look_same y.lowered_same (λ r f. y.stands r))
+                | inr y ↦ falls q.0 y (rw (y.told, or-true))
               ]
             ]
-          where
-            as_before : t ≡ false → Freeing a users m tops s₀ s' look₀ look' lowered' fell (c + 1) → Freeing a users m tops s₀ s' look₀ look' lowered' fell' (c + 1)
-            as_before z y =
-                ⊎_elim (λ e. absurd (true≢false (sym e.0 ∙ z))) (λ e. subst (λ (f : Bool). Freeing a users m tops s₀ s' look₀ look' lowered' f (c + 1)) (sym e.1) y) w
 
 -- the next high ends, taken over
 module _ {a users : List ℕ} {m : List Bool} {tops s look lows : List ℕ} (b : HighsReady a users m tops s look lows) where
   abbrev size : ℕ
   size = conditions_of a
 
-  pub free_ready : LowerReady a users m tops s look zeros
-  free_ready =
-      record {
-        page_solvable = b.page_solvable;
-        users_in = b.users_in;
-        long = b.long;
-        marked = b.marked;
-        known = b.known;
-        look_in = b.look_in;
-        lowered_in = nobody_waits size;
-      }
-
-  -- nobody is free
-  pub highs_kept : {free : Bool} → FreeTold a m free → free ≡ false → HighsTaken a users m tops s s lows look look false
-  highs_kept f z =
-      record {
-        same_length = refl;
-        lows = λ c l. refl;
-        negations = λ c l. refl;
-        over_high = b.over_high;
-        beyond = refl;
-        lows_in = b.lows_in;
-        look_in = b.look_in;
-        each = λ c l. inl (record { same = refl; stands = λ r e. absurd (true≢false (sym e ∙ f z c l r)) });
-        lows_woken = inr (λ c l d. absurd (d refl));
-        look_woken = inr (λ c l d. absurd (d refl));
-        look_same = λ e. refl;
-        none = λ e c l. refl;
-        one = λ e. absurd (false≢true e);
-      }
-
   module _ {s₁ look' lowered : List ℕ} {fell : Bool} (v : FreeLowered a users m tops s s₁ look look' lowered fell) where
     stays : (c : ℕ) → c < size → has lowered c ≡ false → get_or s₁ (2 * size + 2 * c) 0 ≡ get_or s (2 * size + 2 * c) 0
     stays c l q = ⊎_elim (λ y. y.same) (λ y. absurd (true≢false (sym y.0.noted ∙ q))) (v.each c l)
-
-    pub highs_follow : FollowReady a users s₁ lowered lows
-    highs_follow =
-        record {
-          page_solvable = b.page_solvable;
-          users_in = b.users_in;
-          long = omega (arith, b.long, v.same_length);
-          within = λ c l. ⊎_elim (λ y. omega (arith, y.same, b.within c l)) (λ y. omega (arith, y.0.fallen, y.0.over, b.within c l)) (v.each c l);
-          lowered_in = v.lowered_in;
-          lows_in = b.lows_in;
-          others = λ c l q. v.table (2 * c + 1) (omega arith) ∙ b.over_high c l ∙ ap (λ (x : ℕ). top_of a - x) (sym (stays c l q));
-        }
 
     module _ {s₂ lows' : List ℕ} (g : LowsBegun a s₁ s₂) (o : Woke a users s₁ s₂ lows lows') where
       highs₂ : (c : ℕ) → c < size → get_or s₂ (2 * size + 2 * c) 0 ≡ get_or s₁ (2 * size + 2 * c) 0

@@ -1,7 +1,5 @@
 -- the assignments of the closed reading
 pub mod Assignments
--- a set that is empty
-pub mod Emptiness
 -- the next low ends
 pub mod Notes
 pub mod Taking

@@ -1,12 +1,12 @@
 -- High ends fall to those of the closed reading, and whoever reads a fallen one is looked at. Assumes nothing.
-use mathlib.Core.Path.{◌≡◌, refl, sym, ◌∙◌, ap, subst}
+use mathlib.Core.Path.{◌≡◌, sym, ◌∙◌, ap, subst}
 use mathlib.Core.Logic.{◌≢◌, ◌⊎◌, inl, inr, ⊎_elim}
-use mathlib.Core.Bool.{Bool, true, false, true≢false, false≢true}
+use mathlib.Core.Bool.{Bool, true, false, ◌||◌, or-true, or-false, true≢false}
 use mathlib.Core.List.{List}
 use Prim.Native.Nat.{ℕ, ◌+◌, ◌*◌, ◌≤◌, ◌<◌}
 use native.Mathlib.Decide.{ℕ_discrete}
 use native.Mathlib.Omega.{arith}
-use lib.ListN.{length, get_or, set, drop, length-set}
+use lib.ListN.{length, get_or, drop, length-set}
 use lib.Seq.{get_or-set_same, get_or-set_other, drop-set-lt}
 use Rattle.fixpoint.specs.Sum.{sum}
 use Rattle.fixpoint.proofs.Cond.{by_bool}
@@ -14,26 +14,11 @@ use Rattle.fixpoint.proofs.Sum.{sum_drop}
 use Rattle.semantics.specs.Area.{page_of, conditions_of}
 use Rattle.semantics.specs.Table.{member}
 use Rattle.page.proofs.Head.{head_of}
-use Rattle.bits.specs.Words.{has, Inserted, Removed, AnyIn}
+use Rattle.bits.specs.Sets.{Nobody, Member}
+use Rattle.bits.specs.Words.{has, Removed}
 use Rattle.settle.specs.Ends.{reads}
-use Rattle.settle.specs.Waiting.{WaitSet, Woken}
-use Rattle.stages.specs.Steps.{Nobody, FellTop, KeptTop, LoweredTop, LowerReady, FallsAt, StaysAt, Unlooked, Lowered, Whole}
-use Rattle.settle.proofs.Members.{waiters, few_wait, was_in, else_same, rest_in, fewer, any_real, joined, joins, joined_else}
-
--- one condition
-module _ {a users : List ℕ} {m : List Bool} {tops s look lowered : List ℕ} {c : ℕ} where
-  pub kept_apart : member m c ≡ false → LoweredTop a users m tops c s s look look lowered lowered false
-  kept_apart q = inl (record { told = refl; same = refl; look_same = refl; lowered_same = refl; stands = λ r. absurd (true≢false (sym r ∙ q)) })
-
-  pub kept_there : get_or s (2 * conditions_of a + 2 * c) 0 ≤ get_or tops c 0 → LoweredTop a users m tops c s s look look lowered lowered false
-  kept_there l = inl (record { told = refl; same = refl; look_same = refl; lowered_same = refl; stands = λ r. l })
-
-  module _ (r : member m c ≡ true) (over : get_or tops c 0 < get_or s (2 * conditions_of a + 2 * c) 0) (lowered' : List ℕ) (x : Inserted c lowered lowered') where
-    pub fell_short : length users ≡ 0 → WaitSet (conditions_of a) look → LoweredTop a users m tops c s (set s (2 * conditions_of a + 2 * c) (get_or tops c 0)) look look lowered lowered' true
-    fell_short z w = inr (record { told = refl; reached = r; over = over; stored = refl; lowered_in = x; look_in = w; kept = λ d l q. q; woken = inl z; look_same = λ y. refl })
-
-    pub fell_woken : {look' : List ℕ} → (length users ≡ 0 → ⊥) → Woken a (2 * c) look look' → LoweredTop a users m tops c s (set s (2 * conditions_of a + 2 * c) (get_or tops c 0)) look look' lowered lowered' true
-    fell_woken d w = inr (record { told = refl; reached = r; over = over; stored = refl; lowered_in = x; look_in = w.set; kept = w.kept; woken = inr w.woken; look_same = λ z. absurd (d z) })
+use Rattle.stages.specs.Steps.{FellTop, KeptTop, LoweredTop, LowerReady, FallsAt, StaysAt, Unlooked, Lowered, Whole}
+use Rattle.settle.proofs.Members.{waiters, few_wait, was_in, else_same, rest_in, fewer, joined, joins, joined_else}
 
 -- the high ends, all together
 abbrev pub tall : (a s : List ℕ) → ℕ
@@ -42,7 +27,7 @@ tall a s = sum (conditions_of a) (λ d. get_or s (2 * conditions_of a + 2 * d) 0
 abbrev pub to_lower : (a s look : List ℕ) → ℕ
 to_lower a s look = tall a s * 513 + waiters look
 
-pub record Lowering (a users : List ℕ) (m : List Bool) (tops s₀ s look₀ look lowered : List ℕ) (fell : Bool) (c : ℕ) : Type 0 where
+pub record Lowering (a users : List ℕ) (m : List Bool) (tops s₀ s look₀ look lowered : List ℕ) (fell : Bool) : Type 0 where
   pub ready : LowerReady a users m tops s look lowered
   pub whole : Whole users (conditions_of a) m look₀
   pub inside : length users ≡ 0 → (d : ℕ) → d < 512 → has look d ≡ true → has look₀ d ≡ true
@@ -54,35 +39,15 @@ pub record Lowering (a users : List ℕ) (m : List Bool) (tops s₀ s look₀ lo
   pub out : (d : ℕ) → d < conditions_of a → member m d ≡ true → has look d ≡ false → (get_or s (2 * conditions_of a + 2 * d) 0 ≤ get_or tops d 0) ⊎ Unlooked a look₀ lowered d
   pub none : fell ≡ false → (d : ℕ) → d < conditions_of a → has lowered d ≡ false
   pub one : fell ≡ true → (d : ℕ) × (d < conditions_of a) × (has lowered d ≡ true)
-  pub any : AnyIn look c
 
-pub lowering_first : {a users : List ℕ} {m : List Bool} {tops s look lowered : List ℕ} {c : ℕ} → LowerReady a users m tops s look lowered → Nobody lowered
-    → Whole users (conditions_of a) m look → AnyIn look c → Lowering a users m tops s s look look lowered false c
-lowering_first {a} h z w y =
-    let few = (head_of a h.page_solvable).few in
-    record {
-      ready = h;
-      whole = w;
-      inside = λ e d l q. q;
-      same_length = refl;
-      table = λ i l. refl;
-      negations = λ d l. refl;
-      beyond = refl;
-      each = λ d l. inl (record { same = refl; unnoted = z d (omega arith) });
-      out = λ d l r q. inr (record { out = q; plain = λ b k f. z b (omega arith) });
-      none = λ q d l. z d (omega arith);
-      one = λ q. absurd (false≢true q);
-      any = y;
-    }
-
-module _ {a users : List ℕ} {m : List Bool} {tops s₀ s look₀ look lowered : List ℕ} {fell : Bool} {c : ℕ} (v : Lowering a users m tops s₀ s look₀ look lowered fell c) where
+module _ {a users : List ℕ} {m : List Bool} {tops s₀ s look₀ look lowered : List ℕ} {fell : Bool} (v : Lowering a users m tops s₀ s look₀ look lowered fell) where
   abbrev n : ℕ
   n = conditions_of a
 
   few : n ≤ 512
   few = (head_of a v.ready.page_solvable).few
 
-  pub lowering_last : 512 ≤ c → Lowered a m tops s₀ s look₀ look lowered fell
+  pub lowering_last : Nobody look → Lowered a m tops s₀ s look₀ look lowered fell
   lowering_last l =
       record {
         same_length = v.same_length;
@@ -91,16 +56,16 @@ module _ {a users : List ℕ} {m : List Bool} {tops s₀ s look₀ look lowered 
         beyond = v.beyond;
         look_in = v.ready.look_in;
         lowered_in = v.ready.lowered_in;
-        drained = v.any.none (omega (arith, v.any.within));
+        drained = l;
         each = v.each;
-        out = λ d k r q. v.out d k r (v.any.none (omega (arith, v.any.within)) d (omega (arith, few)));
+        out = λ d k r q. v.out d k r (l d (omega (arith, few)));
         none = v.none;
         one = v.one;
       }
 
-  module _ (small : c < 512) where
+  module _ {c : ℕ} (waits : Member look c) where
     pub lowering_real : c < conditions_of a
-    lowering_real = any_real v.ready.look_in v.any small
+    lowering_real = v.ready.look_in.inside c waits.within waits.found
 
     module _ (look₁ : List ℕ) (x : Removed c look look₁) where
       pub lowering_ready : LowerReady a users m tops s look₁ lowered
@@ -116,12 +81,12 @@ module _ {a users : List ℕ} {m : List Bool} {tops s₀ s look₀ look lowered 
           }
 
       less_look : waiters look₁ < waiters look
-      less_look = fewer look look₁ c x small (v.any.found small)
+      less_look = fewer look look₁ c x waits.within waits.found
 
       -- nothing is done
       module _ {s' look' lowered' : List ℕ} {t : Bool} (k : KeptTop a m tops c s s' look₁ look' lowered lowered' t) where
-        stay : {c' : ℕ} → AnyIn look₁ c' → Lowering a users m tops s₀ s look₀ look₁ lowered fell c'
-        stay y =
+        stay : Lowering a users m tops s₀ s look₀ look₁ lowered fell
+        stay =
             record {
               ready = lowering_ready;
               whole = v.whole;
@@ -137,11 +102,10 @@ module _ {a users : List ℕ} {m : List Bool} {tops s₀ s look₀ look lowered 
               ];
               none = v.none;
               one = v.one;
-              any = y;
             }
 
-        pub lowering_stays : {c' : ℕ} → AnyIn look' c' → Lowering a users m tops s₀ s' look₀ look' lowered' fell c'
-        lowering_stays {c'} y = rw (k.same, k.look_same, k.lowered_same) (stay (subst (λ (w : List ℕ). AnyIn w c') k.look_same y))
+        pub lowering_stays : Lowering a users m tops s₀ s' look₀ look' lowered' fell
+        lowering_stays = rw (k.same, k.look_same, k.lowered_same) stay
 
         pub stays_less : to_lower a s' look' < to_lower a s look
         stays_less = rw (k.same, k.look_same) (omega (arith, less_look))
@@ -163,7 +127,7 @@ module _ {a users : List ℕ} {m : List Bool} {tops s₀ s look₀ look lowered 
         each' : (d : ℕ) → d < n → StaysAt a s₀ s' lowered' d ⊎ FallsAt a m tops s₀ s' lowered' d
         each' d l =
             elim (ℕ_discrete d c) [
-              | yes z ↦ inr (subst (FallsAt a m tops s₀ s' lowered') (sym z) (record { reached = k.reached; over = was_over; fallen = here; noted = joins lowered lowered' c small k.lowered_in }))
+              | yes z ↦ inr (subst (FallsAt a m tops s₀ s' lowered') (sym z) (record { reached = k.reached; over = was_over; fallen = here; noted = joins lowered lowered' c waits.within k.lowered_in }))
               | no z ↦ ⊎_elim
                   (λ q. inl (record { same = else' (2 * n + 2 * d) (λ e. z (omega arith)) ∙ q.same; unnoted = joined_else lowered lowered' c k.lowered_in d (omega (arith, few)) z ∙ q.unnoted }))
                   (λ q. inr (record { reached = q.reached; over = q.over; fallen = else' (2 * n + 2 * d) (λ e. z (omega arith)) ∙ q.fallen; noted = joined_else lowered lowered' c k.lowered_in d (omega (arith, few)) z ∙ q.noted }))
@@ -176,7 +140,7 @@ module _ {a users : List ℕ} {m : List Bool} {tops s₀ s look₀ look lowered 
 
         -- who was not looked at does not read c
         unread : (d : ℕ) → d < n → member m d ≡ true → has look' d ≡ false → Unlooked a look₀ lowered d → reads (page_of a) false d c ≡ true → ⊥
-        unread d l r q u f = ⊎_elim (λ z. ⊎_elim (λ w. true≢false (sym (w.waits d l r) ∙ u.out)) (λ w. true≢false (sym (v.inside z c small (v.any.found small)) ∙ w c small)) (v.whole z)) (λ w. true≢false (sym (w d f) ∙ q)) k.woken
+        unread d l r q u f = ⊎_elim (λ z. ⊎_elim (λ w. true≢false (sym (w.waits d l r) ∙ u.out)) (λ w. true≢false (sym (v.inside z c waits.within waits.found) ∙ w c waits.within)) (v.whole z)) (λ w. true≢false (sym (w d f) ∙ q)) k.woken
 
         out' : (d : ℕ) → d < n → member m d ≡ true → has look' d ≡ false → (get_or s' (2 * n + 2 * d) 0 ≤ get_or tops d 0) ⊎ Unlooked a look₀ lowered' d
         out' d l r q =
@@ -193,8 +157,8 @@ module _ {a users : List ℕ} {m : List Bool} {tops s₀ s look₀ look lowered 
                   (v.out d l r (was_out d l z q))
             ]
 
-        pub lowering_falls : {fell' : Bool} → fell' ≡ true → {c' : ℕ} → AnyIn look' c' → Lowering a users m tops s₀ s' look₀ look' lowered' fell' c'
-        lowering_falls e y =
+        pub lowering_falls : {fell' : Bool} → fell' ≡ true → Lowering a users m tops s₀ s' look₀ look' lowered' fell'
+        lowering_falls e =
             record {
               ready = record {
                 page_solvable = v.ready.page_solvable;
@@ -214,8 +178,7 @@ module _ {a users : List ℕ} {m : List Bool} {tops s₀ s look₀ look lowered 
               each = each';
               out = out';
               none = λ q. absurd (true≢false (sym e ∙ q));
-              one = λ q. (c, lowering_real, joins lowered lowered' c small k.lowered_in);
-              any = y;
+              one = λ q. (c, lowering_real, joins lowered lowered' c waits.within k.lowered_in);
             }
 
         pub falls_less : to_lower a s' look' < to_lower a s look
@@ -228,16 +191,12 @@ module _ {a users : List ℕ} {m : List Bool} {tops s₀ s look₀ look lowered 
 
       -- by what the code tells
       module _ {s' look' lowered' : List ℕ} {t : Bool} (k : LoweredTop a users m tops c s s' look₁ look' lowered lowered' t) where
-        pub lowering_next : {fell' : Bool} → ((t ≡ true) × (fell' ≡ true)) ⊎ ((t ≡ false) × (fell' ≡ fell)) → {c' : ℕ} → AnyIn look' c' → Lowering a users m tops s₀ s' look₀ look' lowered' fell' c'
-        lowering_next {fell'} w {c'} y =
+        pub lowering_next : Lowering a users m tops s₀ s' look₀ look' lowered' (fell || t)
+        lowering_next =
             elim k [
-              | inl q ↦ ⊎_elim (λ e. absurd (true≢false (sym e.0 ∙ q.told)))
-                  (λ e. subst (λ (f : Bool). Lowering a users m tops s₀ s' look₀ look' lowered' f c') (sym e.1) (lowering_stays q y)) w
-              | inr q ↦ ⊎_elim (λ e. lowering_falls q e.1 y) (λ e. absurd (true≢false (sym q.told ∙ e.0))) w
+              | inl q ↦ rw (q.told, or-false) (lowering_stays q)
+              | inr q ↦ lowering_falls q (rw (q.told, or-true))
             ]
 
         pub lowering_less : to_lower a s' look' < to_lower a s look
         lowering_less = ⊎_elim (λ q. stays_less q) (λ q. falls_less q) k
-
-        pub lowering_size : length look' ≡ 8
-        lowering_size = ⊎_elim (λ q. ap length q.look_same ∙ x.0) (λ q. q.look_in.size) k

@@ -17,20 +17,20 @@ use Rattle.page.specs.Lines.{Next}
 use Rattle.page.specs.Places.{place_of, LineIn, LineOf}
 use Rattle.page.proofs.Head.{head_of}
 use Rattle.page.proofs.LineNumbers.{line_of}
-use Rattle.bits.specs.Words.{has, Inserted, Removed, AnyIn}
+use Rattle.bits.specs.Sets.{Member}
+use Rattle.bits.specs.Words.{has, Inserted, Removed}
 use Rattle.index.specs.Groups.{LinesByHead}
 use Rattle.value.specs.Table.{EndTable, Grades}
 use Rattle.value.specs.LineEnds.{LineEnd}
 use Rattle.value.proofs.BodyEnds.{body_has, body_most}
 use Rattle.value.proofs.Defaults.{bodyless_low}
 use Rattle.value.proofs.Tables.{table_of_lem}
-use Rattle.settle.specs.Scratch.{Lookable}
 use Rattle.settle.specs.Waiting.{WaitSet}
-use Rattle.settle.proofs.Draining.{group_lookable}
-use Rattle.settle.proofs.Members.{waiters, else_same, rest_in, fewer, any_real, joined, joins, joined_else}
+use Rattle.settle.proofs.Groups.{slice, group_every}
+use Rattle.settle.proofs.Members.{else_same, rest_in, joined, joins, joined_else}
 use Rattle.settle.proofs.Raising.{line_entry, line_head}
 use Rattle.rounds.specs.Round.{past}
-use Rattle.stages.specs.Steps.{ahead, seen, Notable, RisesAt, Noting, Covers, NotedAt, Noted, Ahead, AllNoted, LowsRest}
+use Rattle.stages.specs.Steps.{ahead, seen, Notable, RisesAt, Noting, Covers, NotedAt, Noted, Ahead, AllNoted}
 use Rattle.page.specs.Solvable.{solvable}
 
 module _ (a : List ℕ) (m : List Bool) where
@@ -187,17 +187,14 @@ module _ (a : List ℕ) (m : List Bool) (s moved : List ℕ) (at : ℕ) (H : Not
 
   module _ (k : ℕ) (z : k ≡ size) where
     abbrev part : List ℕ
-    part = take (2 * k - 0) (drop 0 s)
-
-    part_table : part ≡ take (2 * size) s
-    part_table = let q : 2 * k - 0 ≡ 2 * size = omega arith in rw q
+    part = take (2 * k) s
 
     pub part_grades : Grades (top_of a) size part
-    part_grades = rw part_table H.grades
+    part_grades = rw z H.grades
 
     module _ {v : ℕ} (w : LineEnd lower a part at v) where
       on_table : LineEnd lower a (take (2 * size) s) at v
-      on_table = rw part_table at w
+      on_table = rw z at w
 
       pub not_here : get_or s (2 * k + (2 * h + 1)) 0 ≤ top_of a - v → NotedAt a m at s s moved moved
       not_here l = noted_not on_table (rw (← z) l)
@@ -208,68 +205,42 @@ module _ (a : List ℕ) (m : List Bool) (s moved : List ℕ) (at : ℕ) (H : Not
           subst (λ (i : ℕ). NotedAt a m at s (set s (2 * i + (2 * h + 1)) (top_of a - v)) moved moved') (sym z) (noted_up on_table r (rw (← z) l) moved' y)
 
 -- lines one after the other
-module _ (a : List ℕ) (m : List Bool) (place : ℕ → ℕ) (from : ℕ) where
-  pub noted_first : {s moved : List ℕ} → WaitSet (conditions_of a) moved → Noted a m place from from s s moved moved
-  noted_first w = record { noting = noting_same a m w; covers = λ i l u. absurd (omega arith) }
+module _ (a : List ℕ) (m : List Bool) (place : ℕ → ℕ) where
+  noted_first : {s moved : List ℕ} → WaitSet (conditions_of a) moved → Noted a m place 0 s s moved moved
+  noted_first w = record { noting = noting_same a m w; covers = λ i l. absurd (omega arith) }
 
-  pub noted_next : {i : ℕ} {s₀ s s' moved₀ moved moved' : List ℕ} → Noted a m place from i s₀ s moved₀ moved → NotedAt a m (place i) s s' moved moved'
-      → Noted a m place from (i + 1) s₀ s' moved₀ moved'
+  noted_next : {i : ℕ} {s₀ s s' moved₀ moved moved' : List ℕ} → Noted a m place i s₀ s moved₀ moved → NotedAt a m (place i) s s' moved moved'
+      → Noted a m place (i + 1) s₀ s' moved₀ moved'
   noted_next {i} {s₀} {s} {s'} v r =
       record {
         noting = noting_on a m v.noting r.noting;
-        covers = λ j l u. elim (ℕ_discrete j i) [
+        covers = λ j u. elim (ℕ_discrete j i) [
           | yes z ↦ subst (λ (k : ℕ). Covers a m s₀ s' (place k)) (sym z) (covers_after a m v.noting s' (place i) r.covers)
-          | no z ↦ covers_on a m v.noting r.noting (place j) (v.covers j l (omega arith))
+          | no z ↦ covers_on a m v.noting r.noting (place j) (v.covers j (omega arith))
         ];
       }
 
 -- the loop over a group
-pub record NotingGroup (a : List ℕ) (m : List Bool) (places : List ℕ) (from to n : ℕ) (s₀ s moved₀ moved : List ℕ) (i : ℕ) : Type 0 where
-  pub lookable : Lookable a places from to
+pub record NotingGroup (a : List ℕ) (m : List Bool) (places : List ℕ) (s₀ s moved₀ moved : List ℕ) (i : ℕ) : Type 0 where
   pub notable : Notable a m s moved
-  pub size : n ≡ conditions_of a
-  pub begun : from ≤ i
-  pub within : i ≤ to
-  pub noted : Noted a m (λ j. get_or places j 0) from i s₀ s moved₀ moved
+  pub noted : Noted a m (λ j. get_or places j 0) i s₀ s moved₀ moved
 
-pub group_first : {a : List ℕ} {m : List Bool} {places : List ℕ} {from to n : ℕ} {s moved : List ℕ} → Notable a m s moved → n ≡ conditions_of a → Lookable a places from to
-    → NotingGroup a m places from to n s s moved moved from
-group_first {a} {m} {places} h q L =
-    record { lookable = L; notable = h; size = q; begun = omega arith; within = L.ordered; noted = noted_first a m (λ j. get_or places j 0) _ h.set_in }
-
-module _ {a : List ℕ} {m : List Bool} {places : List ℕ} {from to n : ℕ} {s₀ s moved₀ moved : List ℕ} {i : ℕ} (v : NotingGroup a m places from to n s₀ s moved₀ moved i) where
-  pub group_line : i < to → LineIn a (get_or places i 0)
-  group_line l = v.lookable.lines i v.begun l
-
-  pub group_next : i < to → {s' moved' : List ℕ} → NotedAt a m (get_or places i 0) s s' moved moved' → NotingGroup a m places from to n s₀ s' moved₀ moved' (i + 1)
-  group_next l r =
-      record {
-        lookable = v.lookable;
-        notable = notable_on a m r.noting v.notable;
-        size = v.size;
-        begun = omega (arith, v.begun);
-        within = omega arith;
-        noted = noted_next a m (λ j. get_or places j 0) from v.noted r;
-      }
-
-  pub group_last : to ≤ i → Noted a m (λ j. get_or places j 0) from to s₀ s moved₀ moved
-  group_last l = let q : i ≡ to = omega (arith, v.within) in subst (λ (x : ℕ). Noted a m (λ j. get_or places j 0) from x s₀ s moved₀ moved) q v.noted
+pub group_next : {a : List ℕ} {m : List Bool} {places : List ℕ} {s₀ s s' moved₀ moved moved' : List ℕ} {i : ℕ} → NotingGroup a m places s₀ s moved₀ moved i
+    → NotedAt a m (get_or places i 0) s s' moved moved' → NotingGroup a m places s₀ s' moved₀ moved' (i + 1)
+group_next {a} {m} {places} v r = record { notable = notable_on a m r.noting v.notable; noted = noted_next a m (λ j. get_or places j 0) v.noted r }
 
 -- the loop over the page
 pub record NotingPage (a : List ℕ) (m : List Bool) (s₀ s moved₀ moved : List ℕ) (at k : ℕ) : Type 0 where
   pub notable : Notable a m s moved
   pub place : at ≡ place_of a k
   pub in_count : k ≤ count_of a
-  pub noted : Noted a m (place_of a) 0 k s₀ s moved₀ moved
+  pub noted : Noted a m (place_of a) k s₀ s moved₀ moved
 
-pub page_first : {a : List ℕ} {m : List Bool} {s moved : List ℕ} {at k : ℕ} → Notable a m s moved → (at ≡ first_line a) × (k ≡ 0) → NotingPage a m s s moved moved at k
+pub page_first : {a : List ℕ} {m : List Bool} {s moved : List ℕ} {at k : ℕ} → Notable a m s moved → at ≡ first_line a → k ≡ 0 → NotingPage a m s s moved moved at k
 unfolding place_of
-page_first {a} {m} h f = rw (f.0, f.1) (record { notable = h; place = refl; in_count = omega arith; noted = noted_first a m (place_of a) 0 h.set_in })
+page_first {a} {m} h f z = rw (f, z) (record { notable = h; place = refl; in_count = omega arith; noted = noted_first a m (place_of a) h.set_in })
 
 module _ {a : List ℕ} {m : List Bool} {s₀ s moved₀ moved : List ℕ} {at k : ℕ} (v : NotingPage a m s₀ s moved₀ moved at k) where
-  pub page_line : k < count_of a → LineIn a at
-  page_line l = record { number = k; in_count = l; place = v.place }
-
   pub page_next : k < count_of a → {s' moved' : List ℕ} {at' k' : ℕ} → NotedAt a m at s s' moved moved' → Next a at k at' k' → NotingPage a m s₀ s' moved₀ moved' at' k'
   unfolding place_of
   page_next l {s'} {moved'} r e =
@@ -279,66 +250,49 @@ module _ {a : List ℕ} {m : List Bool} {s₀ s moved₀ moved : List ℕ} {at k
         notable = notable_on a m r.noting v.notable;
         place = rw (← q, v.place);
         in_count = omega arith;
-        noted = noted_next a m (place_of a) 0 v.noted (subst (λ (x : ℕ). NotedAt a m x s s' moved moved') v.place r);
+        noted = noted_next a m (place_of a) v.noted (subst (λ (x : ℕ). NotedAt a m x s s' moved moved') v.place r);
       })
 
-  pub page_last : count_of a ≤ k → Noted a m (place_of a) 0 (count_of a) s₀ s moved₀ moved
-  page_last l = let q : k ≡ count_of a = omega (arith, v.in_count) in subst (λ (x : ℕ). Noted a m (place_of a) 0 x s₀ s moved₀ moved) q v.noted
-
 -- all lines noted: T makes no more of any
-pub page_noted : {a : List ℕ} {m : List Bool} {s s' moved moved' : List ℕ} → solvable a ≡ true → Noted a m (place_of a) 0 (count_of a) s s' moved moved' → AllNoted a m s s' moved moved'
+pub page_noted : {a : List ℕ} {m : List Bool} {s s' moved moved' : List ℕ} → solvable a ≡ true → Noted a m (place_of a) (count_of a) s s' moved moved' → AllNoted a m s s' moved moved'
 page_noted {a} {m} {s} {s'} ok v =
     record {
       noting = v.noting;
-      rests = λ c l r. body_most lower a ok (seen a s) c (ahead a s' c) (λ j u p d. v.covers j (omega arith) u c l r p d) (λ g. omega (arith, bodyless_low a c));
+      rests = λ c l r. body_most lower a ok (seen a s) c (ahead a s' c) (λ j u p d. v.covers j u c l r p d) (λ g. omega (arith, bodyless_low a c));
     }
 
 -- the loop over those that wait
-pub record NotingWaiting (a : List ℕ) (m : List Bool) (first places : List ℕ) (s₀ s moved₀ moved lows : List ℕ) (c : ℕ) : Type 0 where
+pub record NotingWaiting (a : List ℕ) (m : List Bool) (first places : List ℕ) (s₀ s moved₀ moved lows : List ℕ) : Type 0 where
   pub groups : LinesByHead a first places
   pub notable : Notable a m s moved
   pub noting : Noting a m s₀ s moved₀ moved
   pub lows_in : WaitSet (conditions_of a) lows
   pub rests : (d : ℕ) → d < conditions_of a → member m d ≡ true → has lows d ≡ false → Ahead a s₀ s d
-  pub any : AnyIn lows c
 
-pub waiting_first : {a : List ℕ} {m : List Bool} {first places s moved lows : List ℕ} {c : ℕ} → LinesByHead a first places → Notable a m s moved → WaitSet (conditions_of a) lows → LowsRest a m s lows
-    → AnyIn lows c → NotingWaiting a m first places s s moved moved lows c
-waiting_first {a} {m} g h w r y = record { groups = g; notable = h; noting = noting_same a m h.set_in; lows_in = w; rests = r; any = y }
+module _ {a : List ℕ} {m : List Bool} {first places : List ℕ} {s₀ s moved₀ moved lows : List ℕ} (v : NotingWaiting a m first places s₀ s moved₀ moved lows) where
+  few : conditions_of a ≤ 512
+  few = (head_of a v.notable.page_solvable).few
 
-module _ {a : List ℕ} {m : List Bool} {first places : List ℕ} {s₀ s moved₀ moved lows : List ℕ} {c : ℕ} (v : NotingWaiting a m first places s₀ s moved₀ moved lows c) where
-  pub waiting_few : conditions_of a ≤ 512
-  waiting_few = (head_of a v.notable.page_solvable).few
-
-  pub waiting_last : 512 ≤ c → AllNoted a m s₀ s moved₀ moved × WaitSet (conditions_of a) lows
-  waiting_last l = (
-    record { noting = v.noting; rests = λ d k r. v.rests d k r (v.any.none (omega (arith, v.any.within)) d (omega (arith, waiting_few))) },
-    v.lows_in,
-  )
-
-  module _ (small : c < 512) where
+  module _ {c : ℕ} (waits : Member lows c) where
     pub waiting_real : c < conditions_of a
-    waiting_real = any_real v.lows_in v.any small
+    waiting_real = v.lows_in.inside c waits.within waits.found
 
-    pub waiting_group : Lookable a places (get_or first c 0) (get_or first (c + 1) 0)
-    waiting_group = group_lookable a first places v.notable.page_solvable v.groups c waiting_real
+    abbrev group : List ℕ
+    group = slice places (get_or first c 0) (get_or first (c + 1) 0)
 
     module _ (lows₁ : List ℕ) (x : Removed c lows lows₁) where
-      pub waiting_less : {c' : ℕ} → AnyIn lows₁ c' → waiters lows₁ < waiters lows
-      waiting_less y = fewer lows lows₁ c x small (v.any.found small)
-
-      module _ {s' moved' : List ℕ} (r : Noted a m (λ i. get_or places i 0) (get_or first c 0) (get_or first (c + 1) 0) s s' moved moved') where
+      module _ {s' moved' : List ℕ} (r : Noted a m (λ i. get_or group i 0) (length group) s s' moved moved') where
         rests_c : member m c ≡ true → Ahead a s₀ s' c
         rests_c q =
             body_most lower a v.notable.page_solvable (seen a s₀) c (ahead a s' c)
             (λ j u p d.
-            let y = v.groups.every c (place_of a j) waiting_real (line_of (top_of a) (seen a s₀) c a j u d) in
-            covers_after a m v.noting s' (get_or places y.0 0) (r.covers y.0 y.1 y.2) c waiting_real q p
-            (subst (λ (i : ℕ). line_body (top_of a) (seen a s₀) c (line_at (drop i a)) ≡ p ∷ []) (sym y.3) d))
+            let y = group_every v.groups c waiting_real (place_of a j) (line_of (top_of a) (seen a s₀) c a j u d) in
+            covers_after a m v.noting s' (get_or group y.0 0) (r.covers y.0 y.1) c waiting_real q p
+            (subst (λ (i : ℕ). line_body (top_of a) (seen a s₀) c (line_at (drop i a)) ≡ p ∷ []) (sym y.2) d))
             (λ g. omega (arith, bodyless_low a c))
 
-        pub waiting_next : {c' : ℕ} → AnyIn lows₁ c' → NotingWaiting a m first places s₀ s' moved₀ moved' lows₁ c'
-        waiting_next y =
+        pub waiting_next : NotingWaiting a m first places s₀ s' moved₀ moved' lows₁
+        waiting_next =
             record {
               groups = v.groups;
               notable = notable_on a m r.noting v.notable;
@@ -346,7 +300,6 @@ module _ {a : List ℕ} {m : List Bool} {first places : List ℕ} {s₀ s moved�
               lows_in = rest_in lows lows₁ c x v.lows_in;
               rests = λ d l q o. elim (ℕ_discrete d c) [
                 | yes z ↦ subst (Ahead a s₀ s') (sym z) (rests_c (sym (ap (member m) z) ∙ q))
-                | no z ↦ omega (arith, v.rests d l q (sym (else_same lows lows₁ c x d (omega (arith, waiting_few)) z) ∙ o), no_later a m r.noting d l)
+                | no z ↦ omega (arith, v.rests d l q (sym (else_same lows lows₁ c x d (omega (arith, few)) z) ∙ o), no_later a m r.noting d l)
               ];
-              any = y;
             }

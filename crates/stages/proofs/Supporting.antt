@@ -2,7 +2,7 @@
 use mathlib.Core.Path.{◌≡◌, sym, ◌∙◌, ap, subst}
 use mathlib.Core.Logic.{◌⊎◌, inl, inr, ⊎_elim}
 use mathlib.Core.Bool.{Bool, true, false, true≢false, false≢true}
-use mathlib.Core.List.{List, [], ◌∷◌}
+use mathlib.Core.List.{List}
 use Prim.Native.Nat.{ℕ, suc, ◌+◌, ◌*◌, ◌-◌, ◌≤◌, ◌<◌}
 use native.Mathlib.Decide.{ℕ_discrete}
 use native.Mathlib.Omega.{arith}
@@ -22,19 +22,11 @@ use Rattle.settle.specs.Scratch.{held, Half, RestsAt, Settled}
 use Rattle.settle.specs.Waiting.{MaybeIndex, MaybeIndexed}
 use Rattle.settle.proofs.Raising.{S, E, T_below}
 use Rattle.rounds.specs.Round.{LowsBegun, Woke, past, closed_at}
-use Rattle.rounds.proofs.AllWaiting.{nobody_waits}
-use Rattle.stages.specs.Steps.{Nobody, free_at, LowerReady, Unlooked, Lowered, FollowReady}
+use Rattle.stages.specs.Steps.{free_at, Unlooked, Lowered, FollowReady}
 use Rattle.stages.specs.Stages.{stage_at, between_at, Tables, Older, AtStage, Supported}
 use Rattle.stages.proofs.Assignments.{low_eq, high_eq}
 use Rattle.stages.proofs.PageStages.{stage_over, between_falls, FloorOf, support_at, capped_at, KeepsTop, restart_at}
 use Rattle.page.specs.Solvable.{solvable}
-
--- an empty set
-abbrev pub zeros : List ℕ
-zeros = 0 ∷ 0 ∷ 0 ∷ 0 ∷ 0 ∷ 0 ∷ 0 ∷ 0 ∷ []
-
-pub none_in : Nobody zeros
-none_in c l = by_bool (has zeros c) (λ q. absurd (omega (arith, (nobody_waits 0).inside c l q))) (λ q. q)
 
 pub users_of : {a lines users : List ℕ} → MaybeIndex a lines users → MaybeUsers a users
 users_of (inl z) = inl z
@@ -53,18 +45,6 @@ module _ {a : List ℕ} {m : List Bool} {users tops : List ℕ} {k : ℕ} {s loo
   named : (c d : ℕ) → c < n → d < n → member m c ≡ true → reads (page_of a) false c d ≡ true → member m d ≡ true
   unfolding page_of
   named c d l i r f = b.tables.shut c d l i r ((E a ok).named false c d f)
-
-  pub lower_ready : MaybeUsers a users → LowerReady a users m tops s look zeros
-  lower_ready u =
-      record {
-        page_solvable = ok;
-        users_in = u;
-        long = b.tables.long;
-        marked = b.tables.marked;
-        known = b.tops_in.known;
-        look_in = b.look_in;
-        lowered_in = nobody_waits n;
-      }
 
   -- after the lowering
   module _ {s₁ look₂ lowered : List ℕ} {fell : Bool} (v : Lowered a m tops s s₁ look look₂ lowered fell) where

@@ -1,57 +1,31 @@
 -- The next low ends are taken over, one condition that moved after the other. Assumes nothing.
-use mathlib.Core.Path.{◌≡◌, refl, sym, ◌∙◌, ap, subst}
+use mathlib.Core.Path.{◌≡◌, sym, ◌∙◌, ap, subst}
 use mathlib.Core.Logic.{◌≢◌, ◌⊎◌, inl, inr, ⊎_elim}
 use mathlib.Core.Bool.{true, false}
 use mathlib.Core.List.{List}
 use Prim.Native.Nat.{ℕ, ◌+◌, ◌*◌, ◌-◌, ◌≤◌, ◌<◌}
 use native.Mathlib.Decide.{ℕ_discrete}
 use native.Mathlib.Omega.{arith}
-use lib.ListN.{length, get_or, set, drop, length-set}
+use lib.ListN.{length, get_or, drop, length-set}
 use lib.Seq.{get_or-set_same, get_or-set_other, drop-set-lt}
 use Rattle.semantics.specs.Area.{page_of, top_of, conditions_of}
 use Rattle.page.proofs.Head.{head_of}
-use Rattle.bits.specs.Words.{has, Removed, AnyIn}
+use Rattle.bits.specs.Sets.{Nobody, Member}
+use Rattle.bits.specs.Words.{has, Removed}
 use Rattle.index.specs.Parts.{MaybeUsers}
 use Rattle.index.specs.Readers.{lines_read}
 use Rattle.index.proofs.Readers.{reads_below}
-use Rattle.settle.specs.Waiting.{WaitSet, Woken}
-use Rattle.stages.specs.Steps.{ahead, TakenOver, TakeReady, AllTaken}
-use Rattle.settle.proofs.Members.{waiters, else_same, rest_in, fewer, any_real}
+use Rattle.settle.specs.Waiting.{WaitSet}
+use Rattle.stages.specs.Steps.{ahead, TakenOver, AllTaken}
+use Rattle.settle.proofs.Members.{else_same, rest_in}
 use Rattle.page.specs.Solvable.{solvable}
-
-module _ (a users : List ℕ) (c : ℕ) (s lows look : List ℕ) where
-  pub taken_short : length users ≡ 0 → WaitSet (conditions_of a) lows → WaitSet (conditions_of a) look → TakenOver a users c s (set s (2 * c) (ahead a s c)) lows lows look look
-  taken_short z w v =
-      record {
-        stored = refl;
-        lows_in = w;
-        look_in = v;
-        lows_kept = λ d l r. r;
-        look_kept = λ d l r. r;
-        lows_woken = inl z;
-        look_woken = inl z;
-        look_same = λ y. refl;
-      }
-
-  pub taken_woken : {lows' look' : List ℕ} → (length users ≡ 0 → ⊥) → Woken a (2 * c) lows lows' → Woken a (2 * c + 1) look look' → TakenOver a users c s (set s (2 * c) (ahead a s c)) lows lows' look look'
-  taken_woken d w v =
-      record {
-        stored = refl;
-        lows_in = w.set;
-        look_in = v.set;
-        lows_kept = w.kept;
-        look_kept = v.kept;
-        lows_woken = inr w.woken;
-        look_woken = inr v.woken;
-        look_same = λ z. absurd (d z);
-      }
 
 -- whoever reads a literal of a condition that moved and was taken over is in the set
 abbrev WokenBy : (a users s₀ moved : List ℕ) → (ℕ → ℕ) → List ℕ → Type 0
 WokenBy a users s₀ moved code words =
     (length users ≡ 0) ⊎ ((d : ℕ) → d < conditions_of a → has moved d ≡ false → get_or s₀ (2 * d) 0 ≢ ahead a s₀ d → (h : ℕ) → lines_read (code d) (page_of a).lines h ≡ true → has words h ≡ true)
 
-pub record Taking (a users s₀ s moved lows₀ lows look₀ look : List ℕ) (c : ℕ) : Type 0 where
+pub record Taking (a users s₀ s moved lows₀ lows look₀ look : List ℕ) : Type 0 where
   pub page_solvable : solvable a ≡ true
   pub users_in : MaybeUsers a users
   pub long : 4 * conditions_of a ≤ length s
@@ -69,41 +43,17 @@ pub record Taking (a users s₀ s moved lows₀ lows look₀ look : List ℕ) (c
   pub lows_kept : (d : ℕ) → d < 512 → has lows₀ d ≡ true → has lows d ≡ true
   pub look_kept : (d : ℕ) → d < 512 → has look₀ d ≡ true → has look d ≡ true
   pub look_same : (length users ≡ 0) → look ≡ look₀
-  pub any : AnyIn moved c
 
-pub taking_first : {a users s moved lows look : List ℕ} {c : ℕ} → TakeReady a users s moved lows look → AnyIn moved c → Taking a users s s moved lows lows look look c
-taking_first h y =
-    record {
-      page_solvable = h.page_solvable;
-      users_in = h.users_in;
-      long = h.long;
-      grades = h.within;
-      same_length = refl;
-      odd = λ d. refl;
-      upper = λ i l. refl;
-      beyond = refl;
-      moved_in = h.moved_in;
-      lows_in = h.lows_in;
-      look_in = h.look_in;
-      done = h.unmoved;
-      lows_woken = inr (λ d l q z. absurd (z (h.unmoved d l q)));
-      look_woken = inr (λ d l q z. absurd (z (h.unmoved d l q)));
-      lows_kept = λ d l q. q;
-      look_kept = λ d l q. q;
-      look_same = λ z. refl;
-      any = y;
-    }
-
-module _ {a users s₀ s moved lows₀ lows look₀ look : List ℕ} {c : ℕ} (v : Taking a users s₀ s moved lows₀ lows look₀ look c) where
+module _ {a users s₀ s moved lows₀ lows look₀ look : List ℕ} (v : Taking a users s₀ s moved lows₀ lows look₀ look) where
   abbrev n : ℕ
   n = conditions_of a
 
   few : n ≤ 512
   few = (head_of a v.page_solvable).few
 
-  pub taking_last : 512 ≤ c → AllTaken a users s₀ s lows₀ lows look₀ look
+  pub taking_last : Nobody moved → AllTaken a users s₀ s lows₀ lows look₀ look
   taking_last l =
-      let out : (d : ℕ) → d < conditions_of a → has moved d ≡ false = λ d k. v.any.none (omega (arith, v.any.within)) d (omega (arith, few)) in
+      let out : (d : ℕ) → d < conditions_of a → has moved d ≡ false = λ d k. l d (omega (arith, few)) in
       record {
         same_length = v.same_length;
         next = λ d k. v.done d k (out d k);
@@ -119,17 +69,11 @@ module _ {a users s₀ s moved lows₀ lows look₀ look : List ℕ} {c : ℕ} (
         look_woken = ⊎_elim (λ z. inl z) (λ f. inr (λ d k. f d k (out d k))) v.look_woken;
       }
 
-  module _ (small : c < 512) where
+  module _ {c : ℕ} (waits : Member moved c) where
     pub taking_real : c < conditions_of a
-    taking_real = any_real v.moved_in v.any small
-
-    pub taking_grade : get_or s (2 * conditions_of a + (2 * c + 1)) 0 ≤ top_of a
-    taking_grade = omega (arith, v.upper (2 * n + (2 * c + 1)) (omega arith), v.grades c taking_real)
+    taking_real = v.moved_in.inside c waits.within waits.found
 
     module _ (moved₁ : List ℕ) (x : Removed c moved moved₁) where
-      pub taking_less : {c' : ℕ} → AnyIn moved₁ c' → waiters moved₁ < waiters moved
-      taking_less y = fewer moved moved₁ c x small (v.any.found small)
-
       module _ {s' lows' look' : List ℕ} (r : TakenOver a users c s s' lows lows' look look') where
         else' : (j : ℕ) → j ≢ 2 * c → get_or s' j 0 ≡ get_or s j 0
         else' j z = ap (λ (t : List ℕ). get_or t j 0) r.stored ∙ get_or-set_other s (2 * c) j (ahead a s c) 0 z
@@ -149,8 +93,8 @@ module _ {a users s₀ s moved lows₀ lows look₀ look : List ℕ} {c : ℕ} (
               | no y ↦ λ h e. k h (omega (arith, few, reads_below a v.page_solvable (code d) h e)) (f d l (sym (else_same moved moved₁ c x d (omega (arith, few)) y) ∙ q) z h e)
             ])
 
-        pub taking_next : {c' : ℕ} → AnyIn moved₁ c' → Taking a users s₀ s' moved₁ lows₀ lows' look₀ look' c'
-        taking_next y =
+        pub taking_next : Taking a users s₀ s' moved₁ lows₀ lows' look₀ look'
+        taking_next =
             record {
               page_solvable = v.page_solvable;
               users_in = v.users_in;
@@ -172,5 +116,4 @@ module _ {a users s₀ s moved lows₀ lows look₀ look : List ℕ} {c : ℕ} (
               lows_kept = λ d l q. r.lows_kept d l (v.lows_kept d l q);
               look_kept = λ d l q. r.look_kept d l (v.look_kept d l q);
               look_same = λ z. r.look_same z ∙ v.look_same z;
-              any = y;
             }

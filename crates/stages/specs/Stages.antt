@@ -9,12 +9,13 @@ use Rattle.semantics.specs.Area.{page_of, top_of, conditions_of}
 use Rattle.semantics.specs.Body.{T, unknown_by_default}
 use Rattle.semantics.specs.Page.{names}
 use Rattle.semantics.specs.Table.{member}
+use Rattle.bits.specs.Sets.{Nobody}
 use Rattle.bits.specs.Words.{has}
 use Rattle.settle.specs.Ends.{reads}
 use Rattle.settle.specs.Scratch.{held}
 use Rattle.settle.specs.Waiting.{WaitSet}
 use Rattle.rounds.specs.Round.{MarkedWait, LowsWait, closed_at}
-use Rattle.stages.specs.Steps.{Nobody, free_at, Whole}
+use Rattle.stages.specs.Steps.{free_at, Whole}
 use Rattle.page.specs.Solvable.{solvable}
 
 -- assignment k

@@ -7,6 +7,7 @@ use Rattle.fixpoint.specs.Interval.{Interval, Assign}
 use Rattle.semantics.specs.Area.{line_at, page_of, top_of, conditions_of}
 use Rattle.semantics.specs.Body.{line_body, T, unknown_by_default}
 use Rattle.semantics.specs.Table.{member}
+use Rattle.bits.specs.Sets.{Nobody}
 use Rattle.bits.specs.Words.{has, Inserted}
 use Rattle.index.specs.Parts.{MaybeUsers}
 use Rattle.index.specs.Readers.{lines_read}
@@ -15,10 +16,6 @@ use Rattle.settle.specs.Ends.{reads}
 use Rattle.settle.specs.Waiting.{WaitSet}
 use Rattle.rounds.specs.Round.{MarkedWait, past, Fresh, LinesHave}
 use Rattle.page.specs.Solvable.{solvable}
-
--- nobody is in the set
-abbrev pub Nobody : List ℕ → Type 0
-Nobody words = (c : ℕ) → c < 512 → has words c ≡ false
 
 -- the conditions that are unknown by default
 abbrev pub free_at : List ℕ → ℕ → Bool
@@ -74,10 +71,10 @@ pub record NotedAt (a : List ℕ) (m : List Bool) (at : ℕ) (s s' moved moved' 
   pub noting : Noting a m s s' moved moved'
   pub covers : Covers a m s s' at
 
--- the lines at the places from one number up to another were noted
-pub record Noted (a : List ℕ) (m : List Bool) (place : ℕ → ℕ) (from to : ℕ) (s s' moved moved' : List ℕ) : Type 0 where
+-- the lines at the first places, below a number, were noted
+pub record Noted (a : List ℕ) (m : List Bool) (place : ℕ → ℕ) (to : ℕ) (s s' moved moved' : List ℕ) : Type 0 where
   pub noting : Noting a m s s' moved moved'
-  pub covers : (i : ℕ) → from ≤ i → i < to → Covers a m s s' (place i)
+  pub covers : (i : ℕ) → i < to → Covers a m s s' (place i)
 
 -- T makes no more of the low end of c than its next one is
 abbrev pub Ahead : (a s s' : List ℕ) → ℕ → Type 0

@@ -21,10 +21,8 @@ use Rattle.semantics.specs.RunArea.{interval_at, mark_at, run_of, worklist_of, r
 use Rattle.semantics.specs.Table.{table, all_below}
 use Rattle.semantics.specs.Worklist.{Worklist, start}
 use Rattle.semantics.proofs.Table.{length_from, get_d_table}
-use Rattle.semantics.specs.Stalls.{Stall, first, second, run_length, shared_length, beginning, part_of, with_part, open_stall, evaluate_stall}
+use Rattle.semantics.specs.Stalls.{Stall, run_length, shared_length, beginning, part_of, with_part, open_stall, evaluate_stall}
 use Rattle.semantics.proofs.StallsParts.{fits}
-use Rattle.page.proofs.Solvable.{sound_solvable}
-use Rattle.page.proofs.Head.{head_of, conditions_is}
 use Rattle.index.proofs.Lent.{put_rest}
 use Rattle.run.specs.Answers.{Answered, Drives}
 use Rattle.stalls.specs.Answers.{PartDrives}
@@ -156,9 +154,6 @@ module _ (a : List ℕ) (s : Stall) (area : List ℕ) (long : shared_length (pag
 
 -- in the code's terms: the part lent is that from a place `at`, which is the stall's beginning
 module _ (a : List ℕ) (s : Stall) (area : List ℕ) (long : shared_length (page_of a) ≤ length area) {at : ℕ} (e : at ≡ beginning (page_of a) s) where
-  pub lent_within : at ≤ length area
-  lent_within = omega (arith, fits (page_of a) s)
-
   lent_is : take (length area - at) (drop at area) ≡ drop (beginning (page_of a) s) area
   lent_is = take_all (length area - at) (drop at area) (omega (arith, length-drop at area)) ∙ ap (λ (k : ℕ). drop k area) e
 
@@ -187,13 +182,6 @@ module _ (a : List ℕ) (s : Stall) (area : List ℕ) (long : shared_length (pag
       }
 
   module _ (ok : sound a ≡ true) where
-    pub lent_few : at ≤ 1536
-    lent_few = omega (arith, few_at s, head_of a (sound_solvable a ok), conditions_is a)
-      where
-        few_at : (s : Stall) → beginning (page_of a) s ≤ 3 * (page_of a).conditions
-        few_at first = omega arith
-        few_at second = omega arith
-
     pub evaluates_lent : (c : ℕ) {x : Answer} {r : List ℕ} → Answered (evaluate_of a (take (length area - at) (drop at area)) c) x r
         → Answered (evaluate_stall a s area c) x (put_mid at (length area - at) area r)
     evaluates_lent c d =

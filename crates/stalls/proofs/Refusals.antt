@@ -10,8 +10,10 @@ use Rattle.semantics.specs.Call.{evaluate, refused}
 use Rattle.semantics.specs.Operation.{refused_opening, open_of, operation}
 use Rattle.semantics.specs.RunArea.{run_sound}
 use Rattle.semantics.specs.Stalls.{Stall, first, second, shared_length, part_of, with_part, open_stall, evaluate_stall, refused_turn, turn_of}
+use Rattle.refusal.specs.declared.Refusal.TheVariants.{PageNotSound, SharedShort}
 use Rattle.run.specs.Answers.{Answered}
 use Rattle.run.proofs.Answering.{answered}
+use Rattle.stalls.specs.Checks.{Refuses}
 
 -- 10
 module _ (a area : List ℕ) (e : sound a ≡ false) where
@@ -52,6 +54,27 @@ module _ (a area : List ℕ) (ok : sound a ≡ true) where
         → (refused_turn 14 2 ≡ (turn_of a area b).answer) × (area ≡ (turn_of a area b).area)
     unfolding turn_of
     turn_second h e = rw (ok, le-leb (shared_length (page_of a)) (length area) long, h, e) (refl, refl)
+
+-- 10 and 60 refuse every call
+pub refuses_10 : (a area : List ℕ) → sound a ≡ false → Refuses a area PageNotSound
+refuses_10 a area e =
+    record {
+      opening = λ s qs. (open_10 a area e s qs).0;
+      opening_leaves = λ s qs. (open_10 a area e s qs).1;
+      evaluation = evaluate_10 a area e;
+      turn = λ b. (turn_10 a area e b).0;
+      turn_leaves = λ b. (turn_10 a area e b).1;
+    }
+
+pub refuses_60 : (a area : List ℕ) → sound a ≡ true → length area < 6 * conditions_of a → Refuses a area SharedShort
+refuses_60 a area ok l =
+    record {
+      opening = λ s qs. (open_60 a area ok l s qs).0;
+      opening_leaves = λ s qs. (open_60 a area ok l s qs).1;
+      evaluation = evaluate_60 a area ok l;
+      turn = λ b. (turn_60 a area ok l b).0;
+      turn_leaves = λ b. (turn_60 a area ok l b).1;
+    }
 
 -- past 60, as on the stall's part alone
 module _ (a : List ℕ) (s : Stall) (area : List ℕ) (ok : sound a ≡ true) (long : shared_length (page_of a) ≤ length area) where

@@ -1,22 +1,36 @@
 // Two runs on one page, in one shared area: opening and evaluating one of them, and a turn of evaluations that both share.
 #![tactic(auto)]
 
-ghost use Rattle.std.specs.Prelude.{◌≡◌, true, ◌≤◌, length};
+ghost use Rattle.std.specs.Prelude.{◌≡◌, true, ◌≤◌, length, None};
 ghost use Rattle.semantics.specs.Area.{sound, page_of};
 ghost use Rattle.semantics.specs.RunArea.{run_sound};
 ghost use Rattle.semantics.specs.Stalls.{first, second, beginning as Stalls·beginning, shared_length, part_of, open_stall, evaluate_stall, turn_of};
 ghost use Rattle.reach.specs.Opening.{opening_of};
 ghost use Rattle.run.specs.Answers.{Answered, evaluate_answer_of};
-ghost use Rattle.stalls.specs.Answers.{stall_of, turn_answer_of, PartDrives};
+ghost use Rattle.stalls.specs.Answers.{stall_of, number_of_stall, turned_of, turn_answer_of, PartDrives};
+ghost use Rattle.stalls.specs.Checks.{SharedChecked, PartPlaced, PartChecked};
 
-use reach::OpenAnswer;
-use run::{Drove, EvaluateAnswer};
+use reach::Opened;
+use refusal::Refusal;
+use run::{Counted, Told};
 
 // The first stall's run, or the second's.
 #[derive(Clone, Copy)]
 pub enum Stall {
     First,
     Second,
+}
+
+impl Stall {
+    // The number that the C interface hands back.
+    pub fn number(self) -> u8
+        ensures { result ≡ number_of_stall self }
+    {
+        match self {
+            Stall::First => 1,
+            Stall::Second => 2,
+        }
+    }
 }
 
 // Where the run of a stall begins in the shared area: the second at 3 × C.
@@ -30,18 +44,38 @@ fn beginning(page: &[u16], stall: Stall) -> usize
     }
 }
 
-// Open the run of one stall: 10 page area not sound, 60 shared area shorter than 6 × C, then as on its part alone.
-pub fn open_stall(page: &[u16], stall: Stall, area: &mut [u16], queries: &[u16]) -> OpenAnswer
+// 10 page area not sound, 60 shared area shorter than 6 × C.
+fn check_shared(page: &[u16], area: &[u16]) -> Result<(), Refusal>
+    ensures { SharedChecked page.now area.now result }
+{
+    if !page::page_sound(page) {
+        return Err(Refusal::PageNotSound);
+    }
+    if area.len() < 6 * page[1] as usize {
+        return Err(Refusal::SharedShort);
+    }
+    Ok(())
+}
+
+// Where the part of a stall begins: 10 or 60.
+fn part_at(page: &[u16], stall: Stall, area: &[u16]) -> Result<usize, Refusal>
+    ensures { PartPlaced page.now stall area.now result }
+{
+    check_shared(page, area)?;
+    Ok(beginning(page, stall))
+}
+
+// Open the run of one stall: 10, 60, then as on its part alone.
+pub fn open_stall(
+    page: &[u16],
+    stall: Stall,
+    area: &mut [u16],
+    queries: &[u16],
+) -> Result<Opened, Refusal>
     ensures answer { opening_of result ≡ (open_stall page.now (stall_of stall) queries.now area.old).answer }
     ensures left { area.new ≡ (open_stall page.now (stall_of stall) queries.now area.old).run }
 {
-    if !page::page_sound(page) {
-        return OpenAnswer::Refused(10);
-    }
-    if area.len() < 6 * page[1] as usize {
-        return OpenAnswer::Refused(60);
-    }
-    let at = beginning(page, stall);
+    let at = part_at(page, stall, area)?;
     reach::open_sound(page, queries, &mut area[at..])
 }
 
@@ -51,30 +85,15 @@ pub fn evaluate_stall(
     stall: Stall,
     area: &mut [u16],
     condition: u32,
-) -> EvaluateAnswer
+) -> Result<Told, Refusal>
     ensures { Answered (evaluate_stall page.now (stall_of stall) area.old condition) (evaluate_answer_of result) area.new }
 {
-    if !page::page_sound(page) {
-        return EvaluateAnswer::Refused(10);
-    }
-    if area.len() < 6 * page[1] as usize {
-        return EvaluateAnswer::Refused(60);
-    }
-    let at = beginning(page, stall);
+    let at = part_at(page, stall, area)?;
     run::evaluate_sound(page, &mut area[at..], condition)
 }
 
-// Whether the part of a stall is sound.
-fn part_sound(page: &[u16], stall: Stall, area: &[u16]) -> bool
-    requires { (sound page.now ≡ true) × (shared_length (page_of page.now) ≤ length area.now) }
-    ensures { result ≡ run_sound (page_of page.now) (part_of (page_of page.now) (stall_of stall) area.now) }
-{
-    let at = beginning(page, stall);
-    worklist::run_sound(page, &area[at..])
-}
-
 // A drive of one stall's part.
-fn drive_part(page: &[u16], stall: Stall, area: &mut [u16], allowance: u32) -> Drove
+fn drive_part(page: &[u16], stall: Stall, area: &mut [u16], allowance: u32) -> Counted
     requires { (sound page.now ≡ true) × (shared_length (page_of page.now) ≤ length area.old) × (run_sound (page_of page.now) (part_of (page_of page.now) (stall_of stall) area.old) ≡ true) }
     ensures { PartDrives page.now (stall_of stall) area.old allowance result.taken result.rest area.new }
 {
@@ -82,17 +101,47 @@ fn drive_part(page: &[u16], stall: Stall, area: &mut [u16], allowance: u32) -> D
     run::drive_counted(page, &mut area[at..], allowance)
 }
 
-// What a turn answers: the number of a refusal, with the stall or 0; or what each stall took, and whether it rests.
+// What each stall took in a turn, and whether it rests.
 #[derive(Clone, Copy)]
-pub enum TurnAnswer {
-    Refused { number: u8, stall: u8 },
-    Turned { first: Drove, second: Drove },
+pub struct Turned {
+    pub first: Counted,
+    pub second: Counted,
+}
+
+// Why a turn is refused, and the stall whose part is not sound, where that is why.
+#[derive(Clone, Copy)]
+pub struct TurnError {
+    pub cause: Refusal,
+    pub stall: Option<Stall>,
+}
+
+impl From<Refusal> for TurnError {
+    ghost from_gives = { λ r e. e ≡ record { cause = r; stall = None } };
+
+    fn from(cause: Refusal) -> Self {
+        TurnError { cause, stall: None }
+    }
+}
+
+// 14 the part of a stall is not sound.
+fn check_part(page: &[u16], stall: Stall, area: &[u16]) -> Result<(), TurnError>
+    requires { (sound page.now ≡ true) × (shared_length (page_of page.now) ≤ length area.now) }
+    ensures { PartChecked page.now stall area.now result }
+{
+    let at = beginning(page, stall);
+    if worklist::run_sound(page, &area[at..]) {
+        return Ok(());
+    }
+    Err(TurnError {
+        cause: Refusal::RunNotSound,
+        stall: Some(stall),
+    })
 }
 
 // A turn that nothing refuses: the first stall its half, the second its half and what the first left of its own, the first what then remains.
-fn turn_sound(page: &[u16], area: &mut [u16], allowance: u32) -> TurnAnswer
+fn turn_sound(page: &[u16], area: &mut [u16], allowance: u32) -> Turned
     requires { (sound page.now ≡ true) × (shared_length (page_of page.now) ≤ length area.old) × (run_sound (page_of page.now) (part_of (page_of page.now) first area.old) ≡ true) × (run_sound (page_of page.now) (part_of (page_of page.now) second area.old) ≡ true) }
-    ensures answer { turn_answer_of result ≡ (turn_of page.now area.old allowance).answer }
+    ensures answer { turned_of result ≡ (turn_of page.now area.old allowance).answer }
     ensures left { area.new ≡ (turn_of page.now area.old allowance).area }
 {
     let smaller = allowance / 2;
@@ -104,38 +153,17 @@ fn turn_sound(page: &[u16], area: &mut [u16], allowance: u32) -> TurnAnswer
     let more = drive_part(page, Stall::First, area, allowance - both);
     let taken = used + more.taken;
     let rest = more.rest;
-    let first = Drove { taken, rest };
-    TurnAnswer::Turned { first, second }
+    let first = Counted { taken, rest };
+    Turned { first, second }
 }
 
 // A turn of so many evaluations: 10, 60, then 14 with the stall, the first before the second.
-pub fn turn(page: &[u16], area: &mut [u16], allowance: u32) -> TurnAnswer
+pub fn turn(page: &[u16], area: &mut [u16], allowance: u32) -> Result<Turned, TurnError>
     ensures answer { turn_answer_of result ≡ (turn_of page.now area.old allowance).answer }
     ensures left { area.new ≡ (turn_of page.now area.old allowance).area }
 {
-    if !page::page_sound(page) {
-        return TurnAnswer::Refused {
-            number: 10,
-            stall: 0,
-        };
-    }
-    if area.len() < 6 * page[1] as usize {
-        return TurnAnswer::Refused {
-            number: 60,
-            stall: 0,
-        };
-    }
-    if !part_sound(page, Stall::First, area) {
-        return TurnAnswer::Refused {
-            number: 14,
-            stall: 1,
-        };
-    }
-    if !part_sound(page, Stall::Second, area) {
-        return TurnAnswer::Refused {
-            number: 14,
-            stall: 2,
-        };
-    }
-    turn_sound(page, area, allowance)
+    check_shared(page, area)?;
+    check_part(page, Stall::First, area)?;
+    check_part(page, Stall::Second, area)?;
+    Ok(turn_sound(page, area, allowance))
 }

@@ -36,7 +36,7 @@ mark_alone run c low high mark e =
     let q = same_true (interval_at run c) (record { low = low; high = high }) e in
     sym (rw (ap (λ (i : Interval). i.low) (sym q), ap (λ (i : Interval). i.high) (sym q)) (rw (set-get_or run (3 * c) 0, set-get_or run (3 * c + 1) 0)))
 
-module _ (a run : List ℕ) (ok : solvable a ≡ true) (rs : run_sound (page_of a) run ≡ true) {words values : List ℕ} (s : Beside a run words values) where
+module _ (a run : List ℕ) (ok : solvable a ≡ true) (rs : run_sound (page_of a) run ≡ true) {values : List ℕ} (s : Beside a run values) where
   -- both ends of every literal are grades
   pub beside_grades : Mirrored (top_of a) (conditions_of a) values
   beside_grades = both_grades (top_of a) (conditions_of a) (interval_at run) values s.long (graded_of a run ok rs).within s.table
@@ -54,21 +54,19 @@ module _ (a run : List ℕ) (ok : solvable a ≡ true) (rs : run_sound (page_of 
     step_room = omega (arith, long_of a run rs)
 
     -- c is taken out of the set, and waits no longer
-    removed : {words₁ : List ℕ} → Removed c words words₁ → StillMatches (conditions_of a) run words (stored c p q 1 run) words₁
+    removed : {words words₁ : List ℕ} → Removed c words words₁ → StillMatches (conditions_of a) run words (stored c p q 1 run) words₁
     removed r =
         record {
-          size = r.0;
           kept = λ w. match_removed w r (λ e. omega (arith, stored_mark run c p q 1 step_room)) (λ k b d. stored_mark_apart run c p q 1 k d);
         }
 
     -- c changes: its cell and its literals are stored, and its dependants wait
-    pub step_changed : {words₁ run' words' values' : List ℕ} → true ≡ not (same (interval_at run c) (record { low = p; high = q })) → Removed c words words₁
+    pub step_changed : {words words₁ run' words' values' : List ℕ} → true ≡ not (same (interval_at run c) (record { low = p; high = q })) → Removed c words words₁
         → Changed a c p q run words₁ values run' words' values' → EvaluatedBeside a c run words run' words' values' true
-    step_changed {words₁} {run'} {words'} {values'} d r k =
+    step_changed {words} {words₁} {run'} {words'} {values'} d r k =
         record {
           evaluated = evaluated_changed a run ok rs c l two body d refl refl k.marked;
           beside = record {
-            size = k.set_kept.size;
             long = omega (arith, s.long, ap length k.table, length-set (set values (2 * c) p) (2 * c + 1) (top_of a - q), length-set values (2 * c) p);
             table = rw k.table (table_stored lower (top_of a) (conditions_of a) (interval_at run) (interval_at run') values c apart l s.long s.table (ap (end_of lower) (sym here)) (ap (λ (i : Interval). top_of a - i.high) (sym here)));
           };
@@ -82,13 +80,13 @@ module _ (a run : List ℕ) (ok : solvable a ≡ true) (rs : run_sound (page_of 
         apart d m n = k.marked.intervals d (rw (conditions_is a) m) ∙ stored_apart run c p q 1 d n
 
     -- c does not change: its mark is stored
-    pub step_same : {words₁ : List ℕ} → false ≡ not (same (interval_at run c) (record { low = p; high = q })) → Removed c words words₁
+    pub step_same : {words words₁ : List ℕ} → false ≡ not (same (interval_at run c) (record { low = p; high = q })) → Removed c words words₁
         → EvaluatedBeside a c run words (set run (3 * c + 2) 1) words₁ values false
     step_same d r =
         rw (mark_alone run c p q 1 alike)
         (record {
           evaluated = evaluated_same a run ok rs c l two body d refl refl;
-          beside = record { size = r.0; long = s.long; table = table_agrees lower (top_of a) (conditions_of a) (interval_at run) (interval_at (stored c p q 1 run)) values held s.table };
+          beside = record { long = s.long; table = table_agrees lower (top_of a) (conditions_of a) (interval_at run) (interval_at (stored c p q 1 run)) values held s.table };
           set_kept = removed r;
         })
       where

@@ -9,9 +9,8 @@ use Rattle.worklist.specs.Cells.{DependantsMarked}
 use Rattle.worklist.specs.Evaluation.{stored, Evaluated}
 use Rattle.worklist.specs.Waiting.{StillMatches}
 
--- the table holds the intervals of the run area, and the set has its eight words
-pub record Beside (a run words values : List ℕ) : Type 0 where
-  pub size : length words ≡ 8
+-- the table holds the intervals of the run area
+pub record Beside (a run values : List ℕ) : Type 0 where
   pub long : 2 * conditions_of a ≤ length values
   pub table : EndTable lower (top_of a) (conditions_of a) (interval_at run) values
 
@@ -24,5 +23,5 @@ pub record Changed (a : List ℕ) (c l h : ℕ) (run words values run' words' va
 -- an evaluation of c, and all beside the area follows
 pub record EvaluatedBeside (a : List ℕ) (c : ℕ) (run words run' words' values' : List ℕ) (changed : Bool) : Type 0 where
   pub evaluated : Evaluated (page_of a) c run run' changed
-  pub beside : Beside a run' words' values'
+  pub beside : Beside a run' values'
   pub set_kept : StillMatches (conditions_of a) run words run' words'

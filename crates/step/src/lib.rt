@@ -11,49 +11,50 @@ ghost use Rattle.step.specs.Beside.{Beside, Changed, EvaluatedBeside};
 ghost use Rattle.step.specs.Before.{ToldBefore};
 ghost use Rattle.page.specs.Solvable.{solvable};
 
-// The condition c holds [low; high] and waits no longer, and its dependants wait. The table and the set follow.
+use bits::Set;
+use value::Ends;
+
+// The condition c holds the interval `held` and waits no longer, and its dependants wait. The table and the set follow.
 fn change(
     a: &[u16],
     users: &[u16],
     run: &mut [u16],
-    words: &mut [u64],
+    waiting: &mut Set,
     values: &mut [u8],
     c: u16,
-    low: u16,
-    high: u16,
+    held: Ends,
 )
-    requires { (solvable a.now ≡ true) × MaybeUsers a.now users.now × (c < conditions_of a.now) × (low ≤ top_of a.now) × (high ≤ top_of a.now) × (3 * conditions_of a.now ≤ length run.old) × (2 * conditions_of a.now ≤ length values.old) × (length words.old ≡ 8) }
-    ensures { Changed a.now c low high run.old words.old values.old run.new words.new values.new }
+    requires { (solvable a.now ≡ true) × MaybeUsers a.now users.now × (c < conditions_of a.now) × (held.low ≤ top_of a.now) × (held.high ≤ top_of a.now) × (3 * conditions_of a.now ≤ length run.old) × (2 * conditions_of a.now ≤ length values.old) }
+    ensures { Changed a.now c held.low held.high run.old waiting.old.words values.old run.new waiting.new.words values.new }
 {
     let top = a[0];
-    worklist::store_cell(run, c, low, high, 1);
-    ends::store(values, c, low, top - high);
-    worklist::wake_dependants(a, users, run, words, c);
+    worklist::store_cell(run, c, held.low, held.high, 1);
+    ends::store(values, c, held.low, top - held.high);
+    worklist::wake_dependants(a, users, run, waiting, c);
 }
 
 // An evaluation of c, which waits. With an index `lines` and `users` are its parts; without one both are empty and the page is scanned.
+// The run area, the set and the table come apart, since the run area is lent by the caller, who reads it between two evaluations.
 pub fn step(
     a: &[u16],
     lines: &[u16],
     users: &[u16],
     run: &mut [u16],
-    words: &mut [u64],
+    waiting: &mut Set,
     values: &mut [u8],
     c: u16,
 ) -> bool
-    requires { (solvable a.now ≡ true) × (run_sound (page_of a.now) run.old ≡ true) × (c < conditions_of a.now) × (mark_at run.old c ≡ 2) × MaybeLines a.now lines.now × MaybeUsers a.now users.now × Beside a.now run.old words.old values.old }
-    ensures { EvaluatedBeside a.now c run.old words.old run.new words.new values.new result }
+    requires { (solvable a.now ≡ true) × (run_sound (page_of a.now) run.old ≡ true) × (c < conditions_of a.now) × (mark_at run.old c ≡ 2) × MaybeLines a.now lines.now × MaybeUsers a.now users.now × Beside a.now run.old values.old }
+    ensures { EvaluatedBeside a.now c run.old waiting.old.words run.new waiting.new.words values.new result }
 {
     let ends = body::body(a, lines, values, c);
-    let low = ends.low;
-    let high = ends.high;
-    bits::remove(words, c);
-    let at = 3 * c as usize;
-    if worklist::differs(run[at], run[at + 1], low, high) {
-        change(a, users, run, words, values, c, low, high);
+    waiting.remove(c);
+    let before = held(run, c);
+    if before.ends != ends {
+        change(a, users, run, waiting, values, c, ends);
         return true;
     }
-    run[at + 2] = 1;
+    run[3 * c as usize + 2] = 1;
     false
 }
 
@@ -61,31 +62,32 @@ pub fn step(
 #[derive(Clone, Copy)]
 pub struct Before {
     pub condition: u16,
-    pub low: u16,
-    pub high: u16,
+    pub ends: Ends,
 }
 
 // What c holds now.
 pub fn held(run: &[u16], c: u16) -> Before
     requires { 3 * c + 3 ≤ length run.now }
-    ensures { (result.condition ≡ c) × (result.low ≡ get_or run.now (3 * c) 0) × (result.high ≡ get_or run.now (3 * c + 1) 0) }
+    ensures { (result.condition ≡ c) × (result.ends.low ≡ get_or run.now (3 * c) 0) × (result.ends.high ≡ get_or run.now (3 * c + 1) 0) }
 {
     let at = 3 * c as usize;
     Before {
         condition: c,
-        low: run[at],
-        high: run[at + 1],
+        ends: Ends {
+            low: run[at],
+            high: run[at + 1],
+        },
     }
 }
 
 // The line that holds the low end of a condition that was just evaluated, on the intervals held before: the table goes back to them.
 pub fn line_told(a: &[u16], run: &[u16], values: &mut [u8], before: Before) -> u16
-    requires { (solvable a.now ≡ true) × (run_sound (page_of a.now) run.now ≡ true) × (2 * conditions_of a.now ≤ length values.old) × EndTable lower (top_of a.now) (conditions_of a.now) (interval_at run.now) values.old × (before.condition < conditions_of a.now) × (before.low ≤ top_of a.now) × (before.high ≤ top_of a.now) }
-    ensures { ToldBefore a.now run.now before.condition before.low before.high result }
+    requires { (solvable a.now ≡ true) × (run_sound (page_of a.now) run.now ≡ true) × (2 * conditions_of a.now ≤ length values.old) × EndTable lower (top_of a.now) (conditions_of a.now) (interval_at run.now) values.old × (before.condition < conditions_of a.now) × (before.ends.low ≤ top_of a.now) × (before.ends.high ≤ top_of a.now) }
+    ensures { ToldBefore a.now run.now before.condition before.ends.low before.ends.high result }
 {
     let c = before.condition;
     let top = a[0];
     let low = run[3 * c as usize];
-    ends::store(values, c, before.low, top - before.high);
+    ends::store(values, c, before.ends.low, top - before.ends.high);
     body::first_line(a, values, c, low)
 }

@@ -1,107 +1,93 @@
--- The beginning of the output: the refused line of a page or a list, or the first line. Assumes nothing.
-use mathlib.Core.Path.{◌≡◌, sym, ◌∙◌, ap, subst}
+-- What reading a page and a list comes to, and what it leaves. Assumes nothing.
+use mathlib.Core.Path.{◌≡◌, sym, ◌∙◌, ap}
 use mathlib.Core.Bool.{true}
 use mathlib.Core.List.{List, [], ◌∷◌, ◌++◌}
 use mathlib.Core.Option.{none, some}
-use Prim.Native.Nat.{ℕ, ◌*◌, ◌≤◌, ◌<◌}
+use Prim.Native.Nat.{ℕ, ◌*◌, ◌≤◌}
 use native.Mathlib.Omega.{arith}
 use lib.ListN.{length, drop}
 use Rattle.semantics.specs.Area.{sound, page_of, top_of, conditions_of}
-use Rattle.semantics.specs.Output.{top_fields, refusal_fields, printed}
+use Rattle.semantics.specs.Output.{refusal_fields, printed}
 use Rattle.semantics.specs.Page.{Page}
 use Rattle.semantics.specs.ReadPage.{or_else, text_refusal, page_read, refused_page, read_page, read_of}
 use Rattle.semantics.specs.Trials.{list_refusal, list_read, IsTrialsOutput}
 use Rattle.semantics.proofs.Outputs.{read_refused, read_accepted, page_accepted}
+use Rattle.semantics.proofs.ReadProper.{read_small}
 use Rattle.semantics.proofs.TrialLists.{list_small}
 use Rattle.semantics.proofs.UsedLength.{most_used}
-use Rattle.print.specs.Wrote.{Wrote}
+use Rattle.print.specs.declared.Text.{Text}
+use Rattle.std.specs.Prelude.{Result, Ok, Err}
+use Rattle.print.specs.Texts.{Room, Puts}
+use Rattle.print.proofs.Writing.{puts_fits}
 use Rattle.list.specs.Codes.{list_codes}
 use Rattle.list.specs.Answers.{ListRefused, ListRead}
 use Rattle.list.proofs.Results.{refusal_for}
-use Rattle.trial.specs.declared.Begun.{Begun}
-use Rattle.trial.specs.declared.Begun.TheVariants.{Refused, Read}
-use Rattle.trial.specs.Parts.{list_left, BegunList, BegunAs, ListBegun, RefusalBegun, BothBegun, OutputBegun}
+use Rattle.trial.specs.Parts.{list_left, BothRead, EitherRefused, OutputBegun, BegunAs}
+use Rattle.trial.specs.declared.Refusal.{Refusal}
 use Rattle.trial.proofs.Listing.{list_in}
 
--- a list for a page that is read
-module _ (bytes a list list' : List ℕ) where
-  -- its refusal is of the page's top and C
-  told : {number line : ℕ} → ListRefused bytes (top_of a) (conditions_of a) number line list list'
-      → list_refusal (page_of a) bytes ≡ some (record { number = number; line = line; place = 0 })
-  unfolding page_of
-  told h = refusal_for (page_of a) bytes ∙ h.told
+-- what is refused is the output
+pub refused_output : {text bytes : List ℕ} {number line : ℕ} {t t' : Text} → EitherRefused text bytes number line → Puts t (printed (refusal_fields number line ∷ [])) t'
+    → OutputBegun text bytes t t'
+unfolding IsTrialsOutput
+refused_output {number = number} {line = line} r w =
+    record { output = printed (refusal_fields number line ∷ []); is_output = rw r.told; wrote = w }
 
-  pub refusal_few : {number line : ℕ} → ListRefused bytes (top_of a) (conditions_of a) number line list list' → (number < 1000) × (line < 10000)
-  refusal_few h = let s = list_small (page_of a) bytes _ (told h) in (omega (arith, s), omega (arith, s))
+-- whatever the beginning, it lies in the slice
+pub begun_fits : (text bytes a list : List ℕ) (t t' : Text) (r : Result ℕ Refusal) → BegunAs text bytes a list t t' r → Room t' 0
+begun_fits text bytes a list t t' (Err r) b = puts_fits b.wrote
+begun_fits text bytes a list t t' (Ok lines) b = puts_fits b.wrote
 
-  pub list_refused : {out out' : List ℕ} {size number line : ℕ} → ListRefused bytes (top_of a) (conditions_of a) number line list list' → Wrote out 0 (printed (refusal_fields number line ∷ [])) out' size
-      → RefusalBegun (list_refusal (page_of a) bytes) out out' size
-  list_refused {number = number} {line = line} h w = record { refusal = record { number = number; line = line; place = 0 }; told = told h; wrote = w }
-
-  pub list_begun : {out out' : List ℕ} {size k : ℕ} → ListRead bytes (top_of a) (conditions_of a) k list list' → 4096 ≤ length list' → Wrote out 0 (printed (top_fields (top_of a) ∷ [])) out' size
-      → ListBegun bytes a list' out out' size k
-  unfolding page_of
-  list_begun {k = k} h l w =
-      let e : list_refusal (page_of a) bytes ≡ none = refusal_for (page_of a) bytes ∙ h.good in
-      let q = list_in (page_of a) bytes list' (drop (4 * k) list) e h.count h.written (omega (arith, h.few)) in
-      record { accepted = e; in_range = q.0; same = q.1; wrote = w }
-
-  -- what the slice then holds
-  pub left_refused : {number line : ℕ} → ListRefused bytes (top_of a) (conditions_of a) number line list list' → list' ≡ list_left (list_refusal (page_of a) bytes) bytes list
-  left_refused h = rw (told h) h.same
-
-  pub left_read : {k : ℕ} → ListRead bytes (top_of a) (conditions_of a) k list list' → list' ≡ list_left (list_refusal (page_of a) bytes) bytes list
-  unfolding page_of
-  left_read h =
-      let e : list_refusal (page_of a) bytes ≡ none = refusal_for (page_of a) bytes ∙ h.good in
-      rw e (h.written ∙ ap (λ (k : ℕ). list_codes (list_read bytes) ++ drop (4 * k) list) h.count)
-
--- a page and a list
 module _ (text bytes area : List ℕ) (long : most_used ≤ length area) where
-  pub page_refused : {out out' : List ℕ} {size number line place : ℕ} → refused_page number line place ≡ (read_of text area).answer → Wrote out 0 (printed (refusal_fields number line ∷ [])) out' size
-      → OutputBegun text bytes out out' size
-  unfolding IsTrialsOutput
-  page_refused {number = number} {line = line} e w =
-      record {
-        output = printed (refusal_fields number line ∷ []);
-        is_output = rw (read_refused text area long e);
-        wrote = w;
-      }
+  -- the page is refused
+  module _ {number line place : ℕ} (e : refused_page number line place ≡ (read_of text area).answer) where
+    pub page_refused : EitherRefused text bytes number line
+    page_refused =
+        let s = read_small text area e in
+        record { place = place; told = rw (read_refused text area long e); number_few = omega (arith, s.number_most); line_few = omega (arith, s.line_most) }
 
-  pub left_as_it_was : {number line place : ℕ} → refused_page number line place ≡ (read_of text area).answer → (list : List ℕ)
-      → list ≡ list_left (or_else (text_refusal text) (list_refusal (page_read text) bytes)) bytes list
-  left_as_it_was e list = rw (read_refused text area long e)
+    pub left_as_it_was : (list : List ℕ) → list ≡ list_left (or_else (text_refusal text) (list_refusal (page_read text) bytes)) bytes list
+    left_as_it_was list = rw (read_refused text area long e)
 
-  module _ {used : ℕ} {a : List ℕ} (e : read_page used ≡ (read_of text area).answer) (q : a ≡ (read_of text area).area) where
+  -- the page is read, and the list for it
+  module _ {used : ℕ} {a : List ℕ} (e : read_page used ≡ (read_of text area).answer) (q : a ≡ (read_of text area).area) (list list' : List ℕ) where
     same_page : page_of a ≡ page_read text
     same_page = ap page_of q ∙ page_accepted text area long (read_accepted text area long e)
 
-    refused_after : {out out' : List ℕ} {size : ℕ} → RefusalBegun (list_refusal (page_of a) bytes) out out' size → OutputBegun text bytes out out' size
-    unfolding IsTrialsOutput
-    refused_after h =
-        let o : list_refusal (page_read text) bytes ≡ some h.refusal = ap (λ (p : Page). list_refusal p bytes) (sym same_page) ∙ h.told in
-        record {
-          output = printed (refusal_fields h.refusal.number h.refusal.line ∷ []);
-          is_output = rw (read_accepted text area long e) (rw o);
-          wrote = h.wrote;
-        }
-
-    both_begun : {list out out' : List ℕ} {size lines : ℕ} → sound a ≡ true → ListBegun bytes a list out out' size lines → BothBegun text bytes a list out out' size lines
-    both_begun ok h = record { accepted = read_accepted text area long e; page_sound = ok; page_is = same_page; list_begun = h }
-
-    pub left_after : (list : List ℕ) {list' : List ℕ} → list' ≡ list_left (list_refusal (page_of a) bytes) bytes list
+    left : list' ≡ list_left (list_refusal (page_of a) bytes) bytes list
         → list' ≡ list_left (or_else (text_refusal text) (list_refusal (page_read text) bytes)) bytes list
-    left_after list h = rw (read_accepted text area long e) (h ∙ ap (λ (p : Page). list_left (list_refusal p bytes) bytes list) same_page)
+    left h = rw (read_accepted text area long e) (h ∙ ap (λ (p : Page). list_left (list_refusal p bytes) bytes list) same_page)
 
-    -- whichever the list comes to
-    pub begun_after : sound a ≡ true → (list out out' : List ℕ) (r : Begun) → BegunList bytes a list out out' r → BegunAs text bytes a list out out' r
-    begun_after ok list out out' (Refused size) h = refused_after h
-    begun_after ok list out out' (Read size lines) h = both_begun ok h
+    -- the list is refused, for the page's top and C
+    module _ {number line : ℕ} (h : ListRefused bytes (top_of a) (conditions_of a) number line list list') where
+      told : list_refusal (page_of a) bytes ≡ some (record { number = number; line = line; place = 0 })
+      unfolding page_of
+      told = refusal_for (page_of a) bytes ∙ h.told
 
--- the answer of `begin` by its cases
-module _ (text bytes a list out out' : List ℕ) {r : Begun} (h : BegunAs text bytes a list out out' r) where
-  pub begun_refused : {size : ℕ} → r ≡ Refused size → OutputBegun text bytes out out' size
-  begun_refused e = subst (BegunAs text bytes a list out out') e h
+      pub list_refused : EitherRefused text bytes number line
+      list_refused =
+          let s = list_small (page_of a) bytes _ told in
+          record {
+            place = 0;
+            told = rw (read_accepted text area long e) (ap (λ (p : Page). list_refusal p bytes) (sym same_page) ∙ told);
+            number_few = omega (arith, s);
+            line_few = omega (arith, s);
+          }
 
-  pub begun_read : {size lines : ℕ} → r ≡ Read size lines → BothBegun text bytes a list out out' size lines
-  begun_read e = subst (BegunAs text bytes a list out out') e h
+      pub left_refused : list' ≡ list_left (or_else (text_refusal text) (list_refusal (page_read text) bytes)) bytes list
+      left_refused = left (rw told h.same)
+
+    -- it is read
+    module _ {k : ℕ} (h : ListRead bytes (top_of a) (conditions_of a) k list list') where
+      good : list_refusal (page_of a) bytes ≡ none
+      unfolding page_of
+      good = refusal_for (page_of a) bytes ∙ h.good
+
+      pub both_read : sound a ≡ true → 4096 ≤ length list' → BothRead text bytes a list' k
+      unfolding page_of
+      both_read ok l =
+          let w = list_in (page_of a) bytes list' (drop (4 * k) list) good h.count h.written (omega (arith, h.few)) in
+          record { accepted = read_accepted text area long e; page_sound = ok; page_is = same_page; list_accepted = good; in_range = w.0; same = w.1 }
+
+      pub left_read : list' ≡ list_left (or_else (text_refusal text) (list_refusal (page_read text) bytes)) bytes list
+      left_read = left (rw good (h.written ∙ ap (λ (k : ℕ). list_codes (list_read bytes) ++ drop (4 * k) list) h.count))

@@ -1,5 +1,7 @@
--- the lines of a list as numbers, and the trials of a list one by one
+-- the lines of a list as numbers, and its first trial
 pub mod Listing
+-- the end of the first trial
+pub mod Ending
 -- the beginning of the output
 pub mod Beginning
 -- the page that a trial changes

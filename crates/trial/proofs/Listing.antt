@@ -1,20 +1,21 @@
--- The lines of a list as numbers: their ranges, and the trials one by one. Assumes nothing.
+-- The lines of a list as numbers: their ranges, and its first trial. Assumes nothing.
 use mathlib.Core.Path.{◌≡◌, refl, sym, ◌∙◌, ap, ap₂}
 use mathlib.Core.Logic.{◌≢◌}
 use mathlib.Core.List.{List, [], ◌∷◌, ◌++◌}
 use mathlib.Core.Option.{none}
-use Prim.Native.Nat.{ℕ, zero, suc, ◌+◌, ◌*◌, ◌-◌, ◌≤◌, ◌<◌}
-use native.Mathlib.Decide.{ℕ_discrete}
+use Prim.Native.Nat.{ℕ, zero, suc, ◌+◌, ◌*◌, ◌/◌, ◌≤◌, ◌<◌}
 use native.Mathlib.Omega.{arith}
-use lib.ListN.{length, get_or, drop}
-use lib.Seq.{drop-drop, get_or-drop}
+use lib.ListN.{length, get_or, take, drop, length-append, length-drop}
+use lib.Seq.{drop-drop, get_or-drop, length-take-le}
+use Rattle.std.proofs.lemmas.List.{take-append-drop, get_or-take, get_or_append_left, get_or-append-add}
 use Rattle.semantics.specs.Page.{Page}
 use Rattle.semantics.specs.Trials.{TrialLine, trials_of, list_refusal, list_read}
 use Rattle.semantics.proofs.TrialLists.{AllTried, AllSmall, accepted_tried}
 use Rattle.semantics.proofs.Trials.{AllOf, BeginsOther, trials_split}
-use Rattle.change.specs.Trial.{trial_at, lines_at}
+use Rattle.change.specs.Trial.{trial_at, lines_at, lines_in}
+use Rattle.change.proofs.Parts.{lines_part}
 use Rattle.list.specs.Codes.{list_codes}
-use Rattle.trial.specs.Parts.{ListIn, lines_from, TrialEnd}
+use Rattle.trial.specs.Parts.{ListIn, TrialEnd, FirstTrial}
 
 -- lines, and those behind them
 lines_add : (i j : ℕ) (p : List ℕ) → lines_at (i + j) p ≡ lines_at i p ++ lines_at j (drop (4 * i) p)
@@ -70,7 +71,7 @@ module _ (top n : ℕ) (z : List ℕ) where
 
 -- an accepted list
 pub list_in : (page : Page) (bytes list z : List ℕ) {k : ℕ} → list_refusal page bytes ≡ none → k ≡ length (list_read bytes) → list ≡ list_codes (list_read bytes) ++ z → 4 * k ≤ length list
-    → ListIn page.top page.conditions list k × (lines_from list 0 k ≡ list_read bytes)
+    → ListIn page.top page.conditions list k × (lines_at k list ≡ list_read bytes)
 list_in page bytes list z {k} e q d f =
     let a = accepted_tried page bytes e in
     let w = at_line page.top page.conditions z (list_read bytes) a.tried a.small in (
@@ -82,38 +83,40 @@ list_in page bytes list z {k} e q d f =
         ordered = λ i l. rw d (w i (omega (arith, q))).2;
         high = λ i l. rw d (w i (omega (arith, q))).3;
       },
-      let o : k - 0 ≡ length (list_read bytes) = omega (arith, q) in
-          ap₂ {C = List TrialLine} (λ (i : ℕ) (p : List ℕ). lines_at i p) o d ∙ lines_back (list_read bytes) z,
+      ap₂ {C = List TrialLine} (λ (i : ℕ) (p : List ℕ). lines_at i p) q d ∙ lines_back (list_read bytes) z,
     )
 
--- the search for the end of a trial: the lines from `from` up to `end` have one number
-pub record Ending (list : List ℕ) (from lines end : ℕ) : Type 0 where
-  pub some : from < end
-  pub within : end ≤ lines
-  pub same : (i : ℕ) → from ≤ i → i < end → get_or list (4 * i) 0 ≡ get_or list (4 * from) 0
+-- the lines of a list in range are
+pub lines_tried : {top n lines : ℕ} {list : List ℕ} → ListIn top n list lines → AllTried top n (lines_at lines list)
+lines_tried {top} {n} {lines} {list} w = tried_lines top n lines list w.condition w.ordered w.high
 
-pub ending_first : (list : List ℕ) (from lines : ℕ) → from < lines → Ending list from lines (from + 1)
-ending_first list from lines l = record { some = omega arith; within = omega arith; same = λ i h k. let e : i ≡ from = omega arith in ap (λ (j : ℕ). get_or list (4 * j) 0) e }
-
-pub ending_next : (list : List ℕ) {from lines end : ℕ} → Ending list from lines end → end < lines → get_or list (4 * end) 0 ≡ get_or list (4 * from) 0 → Ending list from lines (end + 1)
-ending_next list {from} {lines} {end} s l e =
+-- a part of a list in range: numbers that stand so many lines behind its beginning
+pub part_in : {top n lines : ℕ} {list : List ℕ} → ListIn top n list lines → (part : List ℕ) (from k : ℕ) → from + k ≤ lines → 4 * k ≤ length part
+    → ((j : ℕ) → j < 4 * k → get_or part j 0 ≡ get_or list (4 * from + j) 0) → ListIn top n part k
+part_in {list = list} w part from k l f same =
+    let at : (i j : ℕ) → i < k → j < 4 → get_or part (4 * i + j) 0 ≡ get_or list (4 * (from + i) + j) 0 =
+    λ i j h m. same (4 * i + j) (omega arith) ∙ (let e : 4 * from + (4 * i + j) ≡ 4 * (from + i) + j = omega arith in ap (λ (x : ℕ). get_or list x 0) e) in
+    let front : (i : ℕ) → i < k → get_or part (4 * i) 0 ≡ get_or list (4 * (from + i)) 0 =
+    λ i h. same (4 * i) (omega arith) ∙ (let e : 4 * from + 4 * i ≡ 4 * (from + i) = omega arith in ap (λ (x : ℕ). get_or list x 0) e) in
     record {
-      some = omega (arith, s.some);
-      within = omega arith;
-      same = λ i h k. elim (ℕ_discrete i end) [
-        | yes q ↦ ap (λ (j : ℕ). get_or list (4 * j) 0) q ∙ e
-        | no q ↦ s.same i h (omega arith)
-      ];
+      few = omega (arith, w.few);
+      inside = f;
+      number = λ i h. omega (arith, front i h, w.number (from + i) (omega arith));
+      condition = λ i h. omega (arith, at i 1 h (omega arith), w.condition (from + i) (omega arith));
+      ordered = λ i h. omega (arith, at i 2 h (omega arith), at i 3 h (omega arith), w.ordered (from + i) (omega arith));
+      high = λ i h. omega (arith, at i 3 h (omega arith), w.high (from + i) (omega arith));
     }
 
-pub ending_last : (list : List ℕ) {from lines end : ℕ} → Ending list from lines end → (end < lines → get_or list (4 * end) 0 ≢ get_or list (4 * from) 0) → TrialEnd list from lines end
-ending_last list s o = record { some = s.some; within = s.within; same = s.same; other = o }
+-- so is a list that is cut behind them
+pub front_in : {top n lines : ℕ} {list : List ℕ} → ListIn top n list lines → ListIn top n (take (4 * lines) list) (length (take (4 * lines) list) / 4)
+front_in {lines = lines} {list} w =
+    let l : length (take (4 * lines) list) ≡ 4 * lines = length-take-le (4 * lines) list w.inside in
+    part_in w (take (4 * lines) list) 0 (length (take (4 * lines) list) / 4) (omega (arith, l)) (omega arith)
+    (λ j h. let e : 4 * 0 + j ≡ j = omega arith in
+    get_or-take (4 * lines) list j 0 (omega (arith, l)) ∙ ap (λ (i : ℕ). get_or list i 0) (sym e))
 
--- one trial of a list
-module _ (list : List ℕ) {from lines end : ℕ} (e : TrialEnd list from lines end) where
-  abbrev pub lines_of_trial : List TrialLine
-  lines_of_trial = lines_at (end - from) (drop (4 * from) list)
-
+-- the first trial of a list
+module _ (list : List ℕ) {end : ℕ} (e : TrialEnd list end) where
   all_of : (k m : ℕ) (p : List ℕ) → ((i : ℕ) → i < m → get_or p (4 * i) 0 ≡ k) → AllOf k (lines_at m p)
   unfolding lines_at
   all_of k zero p h = tt
@@ -125,38 +128,49 @@ module _ (list : List ℕ) {from lines end : ℕ} (e : TrialEnd list from lines 
   begins_other k zero p h = tt
   begins_other k (suc m) p h = h (omega arith)
 
-  number_of : (i : ℕ) → i < end - from → get_or (drop (4 * from) list) (4 * i) 0 ≡ get_or list (4 * from) 0
-  number_of i l =
-      let f : 4 * from + 4 * i ≡ 4 * (from + i) = omega arith in
-      get_or-drop (4 * from) list (4 * i) 0 ∙ ap (λ (j : ℕ). get_or list j 0) f ∙ e.same (from + i) (omega arith) (omega (arith, e.some))
-
-  parted : lines_from list from lines ≡ lines_of_trial ++ lines_from list end lines
+  parted : lines_in list ≡ lines_at end list ++ lines_in (drop (4 * end) list)
   parted =
-      let f : lines - from ≡ (end - from) + (lines - end) = omega (arith, e.some, e.within) in
-      let g : 4 * from + 4 * (end - from) ≡ 4 * end = omega (arith, e.some) in
-      ap (λ (k : ℕ). lines_at k (drop (4 * from) list)) f ∙ lines_add (end - from) (lines - end) (drop (4 * from) list)
-      ∙ ap (λ (q : List ℕ). lines_of_trial ++ lines_at (lines - end) q) (drop-drop (4 * (end - from)) (4 * from) list ∙ ap (λ (k : ℕ). drop k list) g)
+      let f : length list / 4 ≡ end + length (drop (4 * end) list) / 4 = omega (arith, e.within, length-drop (4 * end) list) in
+      ap (λ (k : ℕ). lines_at k list) f ∙ lines_add end (length (drop (4 * end) list) / 4) list
 
-  split : (m : ℕ) (p : List ℕ) (us : List TrialLine) → 0 < m → AllOf (get_or list (4 * from) 0) (lines_at m p) → BeginsOther (get_or list (4 * from) 0) us
-      → trials_of (lines_at m p ++ us) ≡ record { number = get_or list (4 * from) 0; lines = lines_at m p } ∷ trials_of us
+  split : (m : ℕ) (p : List ℕ) (us : List TrialLine) → 0 < m → AllOf (get_or list 0 0) (lines_at m p) → BeginsOther (get_or list 0 0) us
+      → trials_of (lines_at m p ++ us) ≡ record { number = get_or list 0 0; lines = lines_at m p } ∷ trials_of us
   unfolding lines_at
   split zero p us l a b = absurd (omega arith)
-  split (suc m) p us l a b = trials_split (get_or list (4 * from) 0) (trial_at p) (lines_at m (drop 4 p)) us a b
+  split (suc m) p us l a b = trials_split (get_or list 0 0) (trial_at p) (lines_at m (drop 4 p)) us a b
 
   ends_at : get_or (drop (4 * end) list) 0 0 ≡ get_or list (4 * end) 0
   ends_at = let f : 4 * end + 0 ≡ 4 * end = omega arith in get_or-drop (4 * end) list 0 0 ∙ ap (λ (j : ℕ). get_or list j 0) f
 
-  pub first_trial : trials_of (lines_from list from lines) ≡ record { number = get_or list (4 * from) 0; lines = lines_of_trial } ∷ trials_of (lines_from list end lines)
+  pub first_trial : FirstTrial list (take (4 * end) list) (drop (4 * end) list)
   first_trial =
-      ap trials_of parted
-      ∙ split (end - from) (drop (4 * from) list) (lines_from list end lines) (omega (arith, e.some)) (all_of (get_or list (4 * from) 0) (end - from) (drop (4 * from) list) number_of)
-      (begins_other (get_or list (4 * from) 0) (lines - end) (drop (4 * end) list) (λ l q. e.other (omega arith) (sym (ends_at) ∙ q)))
+      let n : length (take (4 * end) list) ≡ 4 * end = length-take-le (4 * end) list e.within in
+      let number : get_or (take (4 * end) list) 0 0 ≡ get_or list 0 0 = get_or-take (4 * end) list 0 0 (omega (arith, e.some)) in
+      record {
+        whole = sym (take-append-drop (4 * end) list);
+        some = omega (arith, n, e.some);
+        full = omega (arith, n);
+        first = ap trials_of parted
+            ∙ split end list (lines_in (drop (4 * end) list)) e.some (all_of (get_or list 0 0) end list e.same)
+            (begins_other (get_or list 0 0) (length (drop (4 * end) list) / 4) (drop (4 * end) list)
+            (λ l q. e.other (omega (arith, length-drop (4 * end) list)) (sym ends_at ∙ q)))
+            ∙ rw (number, lines_part end list e.within);
+      }
 
-  module _ {top n : ℕ} (w : ListIn top n list lines) where
-    line_at_lem : (i j : ℕ) → get_or (drop (4 * from) list) (4 * i + j) 0 ≡ get_or list (4 * (from + i) + j) 0
-    line_at_lem i j = let f : 4 * from + (4 * i + j) ≡ 4 * (from + i) + j = omega arith in get_or-drop (4 * from) list (4 * i + j) 0 ∙ ap (λ (k : ℕ). get_or list k 0) f
+-- the lines of a trial, and those behind it
+pub trial_counted : {list trial rest : List ℕ} → FirstTrial list trial rest → length list ≡ length trial + length rest
+trial_counted {list} {trial} {rest} f = ap length f.whole ∙ length-append trial rest
 
-    pub trial_tried : AllTried top n lines_of_trial
-    trial_tried =
-        tried_lines top n (end - from) (drop (4 * from) list) (λ i l. omega (arith, line_at_lem i 1, w.condition (from + i) (omega (arith, e.some, e.within))))
-        (λ i l. omega (arith, line_at_lem i 2, line_at_lem i 3, w.ordered (from + i) (omega (arith, e.some, e.within)))) (λ i l. omega (arith, line_at_lem i 3, w.high (from + i) (omega (arith, e.some, e.within))))
+-- they are in range
+module _ {top n : ℕ} {list trial rest : List ℕ} (f : FirstTrial list trial rest) (w : ListIn top n list (length list / 4)) where
+  pub trial_in_range : ListIn top n trial (length trial / 4)
+  trial_in_range =
+      part_in w trial 0 (length trial / 4) (omega (arith, trial_counted f)) (omega arith)
+      (λ j l. let e : 4 * 0 + j ≡ j = omega arith in
+      sym (get_or_append_left trial rest 0 j (omega arith)) ∙ ap₂ {C = ℕ} (λ (q : List ℕ) (i : ℕ). get_or q i 0) (sym f.whole) (sym e))
+
+  pub rest_in_range : ListIn top n rest (length rest / 4)
+  rest_in_range =
+      part_in w rest (length trial / 4) (length rest / 4) (omega (arith, trial_counted f, f.full)) (omega arith)
+      (λ j l. let e : 4 * (length trial / 4) + j ≡ length trial + j = omega (arith, f.full) in
+      sym (get_or-append-add trial rest j 0) ∙ ap₂ {C = ℕ} (λ (q : List ℕ) (i : ℕ). get_or q i 0) (sym f.whole) (sym e))

@@ -2,12 +2,11 @@
 use mathlib.Core.Path.{◌≡◌, refl, sym, ◌∙◌, ap, ap₂}
 use mathlib.Core.List.{List, [], ◌∷◌, ◌++◌}
 use mathlib.Core.Option.{none}
-use Prim.Native.Nat.{ℕ, ◌+◌, ◌*◌, ◌-◌}
+use Prim.Native.Nat.{ℕ, ◌+◌, ◌*◌, ◌/◌}
 use native.Mathlib.Omega.{arith}
-use lib.ListN.{length, take, drop}
-use lib.Seq.{take_at}
-use Rattle.print.specs.Wrote.{Wrote}
-use Rattle.print.proofs.Writing.{wrote_front}
+use lib.ListN.{length, get_or, take}
+use Rattle.print.specs.declared.Text.{Text}
+use Rattle.print.proofs.Writing.{puts_front}
 use Rattle.semantics.specs.Area.{page_of}
 use Rattle.semantics.specs.Output.{Answers, queries_of, end_fields, top_fields, printed}
 use Rattle.semantics.specs.Page.{Page}
@@ -18,15 +17,12 @@ use Rattle.semantics.proofs.Proper.{Proper}
 use Rattle.semantics.proofs.ReadProper.{accepted_proper}
 use Rattle.semantics.proofs.TrialPages.{changed_proper}
 use Rattle.semantics.proofs.Trials.{TrialsTried, accepted_trials, trial_output, trial_outputs, list_output_lem}
-use Rattle.change.specs.Trial.{lines_at}
+use Rattle.change.specs.Trial.{lines_at, lines_in}
+use Rattle.change.proofs.Parts.{lines_part}
 use Rattle.page.proofs.Head.{top_is}
-use Rattle.trial.specs.Parts.{lines_from, AllPut, no_more, one_more, BothBegun}
+use Rattle.trial.specs.Parts.{AllPut, no_more, one_more, BothBegun}
 
--- what is written at the front
-front : {out bytes out' : List ℕ} {size : ℕ} → Wrote out 0 bytes out' size → take size out' ≡ bytes
-front {out} {bytes} {size = size} w = rw (wrote_front w) (take_at bytes (drop (length bytes) out) size (omega (arith, w.behind)))
-
--- the trials of the lines from a place on have answers, and these are their bytes
+-- the trials of a list have answers, and these are their bytes
 record Told (page : Page) (ts : List Trial) (bytes : List ℕ) (k : ℕ) : Type 0 where
   pub answers : List Answers
   pub are : AreAnswered page ts answers
@@ -46,34 +42,37 @@ told_first page w t ts h f c s =
       counted = omega (arith, c, s.counted);
     }
 
-module _ (page : Page) (w : Proper page) (list : List ℕ) (lines : ℕ) where
-  all_told : {from k : ℕ} {bytes : List ℕ} → AllPut page list lines from bytes k → TrialsTried page.top page.conditions (trials_of (lines_from list from lines))
-      → Told page (trials_of (lines_from list from lines)) bytes k
+module _ (page : Page) (w : Proper page) where
+  all_told : {list bytes : List ℕ} {k : ℕ} → AllPut page list bytes k → TrialsTried page.top page.conditions (trials_of (lines_in list))
+      → Told page (trials_of (lines_in list)) bytes k
   unfolding trials_of lines_at trial_outputs
-  all_told no_more h =
-      let e : lines - lines ≡ 0 = omega arith in
+  all_told {list} (no_more l) h =
+      let e : length list / 4 ≡ 0 = omega arith in
       rw e (record { answers = []; are = tt; is = refl; counted = omega arith })
-  all_told (one_more {bytes = bytes} p more) h =
-      rw p.first
-      (let g = rw p.first at h in
-      told_first page w p.trial _ g (λ A r. front (p.wrote A r.0)) p.counted (all_told more g.1))
+  all_told (one_more {trial = trial} f z p more) h =
+      rw f.first
+      (let g = rw f.first at h in
+      told_first page w (record { number = get_or trial 0 0; lines = lines_in trial }) _ g (λ A r. puts_front z p.wrote ∙ p.are A r.0) p.counted (all_told more g.1))
 
 -- what `begin` writes, what `answer_trial` writes for one trial after another, and the last line
-pub parts_output : (text bytes a list out out' : List ℕ) {size lines : ℕ} → BothBegun text bytes a list out out' size lines → {body : List ℕ} {k : ℕ} → AllPut (page_of a) list lines 0 body k
-    → IsTrialsOutput text bytes (take size out' ++ (body ++ printed (end_fields k ∷ [])))
+pub parts_output : (text bytes a list : List ℕ) {t t' : Text} {lines : ℕ} → t.at ≡ 0 → BothBegun text bytes a list t t' lines
+    → {body : List ℕ} {k : ℕ} → AllPut (page_of a) (take (4 * lines) list) body k
+    → IsTrialsOutput text bytes (take t'.at t'.out.now ++ (body ++ printed (end_fields k ∷ [])))
 unfolding IsTrialsOutput
-parts_output text bytes a list out out' {size} {lines} b {body} {k} p =
-    let l : list_refusal (page_read text) bytes ≡ none = ap (λ (q : Page). list_refusal q bytes) (sym b.page_is) ∙ b.list_begun.accepted in
-    let q : AllPut (page_read text) list lines 0 body k = rw b.page_is at p in
-    let w = accepted_proper text b.accepted in
-    let s = all_told (page_read text) w list lines q (rw b.list_begun.same (accepted_trials text bytes l)) in
-    let t : Told (page_read text) (trials_of (list_read bytes)) body k = rw b.list_begun.same at s in
-    rw b.accepted (rw l
+parts_output text bytes a list {lines = lines} z b {body} {k} p =
+    let r = b.read in
+    let l : list_refusal (page_read text) bytes ≡ none = ap (λ (q : Page). list_refusal q bytes) (sym r.page_is) ∙ r.list_accepted in
+    let same : lines_in (take (4 * lines) list) ≡ list_read bytes = lines_part lines list r.in_range.inside ∙ r.same in
+    let q : AllPut (page_read text) (take (4 * lines) list) body k = rw r.page_is at p in
+    let w = accepted_proper text r.accepted in
+    let s = all_told (page_read text) w q (rw same (accepted_trials text bytes l)) in
+    let t : Told (page_read text) (trials_of (list_read bytes)) body k = rw same at s in
+    rw r.accepted (rw l
     (record {
       answers = t.answers;
       are = t.are;
       is = ap₂ {C = List ℕ} (λ (x y : List ℕ). x ++ y)
-          (front b.list_begun.wrote ∙ ap (λ (n : ℕ). printed (top_fields n ∷ [])) (sym (top_is a) ∙ ap (λ (x : Page). x.top) b.page_is))
+          (puts_front z b.wrote ∙ ap (λ (n : ℕ). printed (top_fields n ∷ [])) (sym (top_is a) ∙ ap (λ (x : Page). x.top) r.page_is))
           (ap₂ {C = List ℕ} (λ (x : List ℕ) (n : ℕ). x ++ printed (end_fields n ∷ [])) t.is t.counted)
           ∙ sym (list_output_lem (page_read text) (trials_of (list_read bytes)) t.answers);
     }))

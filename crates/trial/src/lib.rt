@@ -2,97 +2,147 @@
 // The last line is `answers::put_end`.
 #![tactic(auto)]
 
-ghost use Rattle.std.specs.Prelude.{◌≡◌, true, ◌*◌, ◌≤◌, ◌<◌, length};
+ghost use Rattle.std.specs.Prelude.{◌≡◌, true, ◌*◌, ◌/◌, ◌≤◌, length};
+ghost use Rattle.std.specs.Iterator.{at_most};
 ghost use Rattle.semantics.specs.Area.{sound, page_of, top_of, conditions_of};
 ghost use Rattle.semantics.specs.ReadPage.{or_else, text_refusal, page_read, read_of};
 ghost use Rattle.semantics.specs.Trials.{list_refusal};
-ghost use Rattle.trial.specs.Parts.{list_left, ListIn, TrialEnd, BegunList, BegunAs, TrialPut};
+ghost use Rattle.print.specs.Texts.{Room};
+ghost use Rattle.trial.specs.Parts.{list_left, ListIn, ReadAs, BegunAs, TrialEnd, GivesTrial, TrialPut};
 
-use answers::{put_lines, put_refusal, put_top};
-use list::ListAnswer;
-use print::put_field;
-use reader::ReadAnswer;
+use answers::{Solved, put_refusal, put_top};
+use print::Text;
 
-// What a page and a list begin with, in so many bytes: the refused line, or the first line, and then the list has so many lines.
+// Why nothing is tried: the number of the refusal of the page or of the list, and the line that it tells.
 #[derive(Clone, Copy)]
-pub enum Begun {
-    Refused(usize),
-    Read { size: usize, lines: usize },
+pub struct Refusal {
+    pub number: u16,
+    pub line: usize,
 }
 
-// The beginning of a list for a page that is read.
-fn begin_list(bytes: &[u8], page: &[u16], list: &mut [u16], out: &mut [u8]) -> Begun
-    requires { (sound page.now ≡ true) × (4096 ≤ length list.old) × (27648 ≤ length out.old) }
-    ensures begun { BegunList bytes.now page.now list.new out.old out.new result }
-    ensures list { list.new ≡ list_left (list_refusal (page_of page.now) bytes.now) bytes.now list.old }
-{
-    let top = page[0];
-    let read = list::read_list(bytes, top, page[1], list);
-    match read {
-        ListAnswer::Refused { number, line } => Begun::Refused(put_refusal(out, number, line)),
-        ListAnswer::Read(lines) => Begun::Read {
-            size: put_top(out, top),
-            lines,
-        },
+impl From<reader::Refusal> for Refusal {
+    ghost use Rattle.reader.specs.Causes.{number_of};
+
+    ghost from_gives = { λ r e. (e.number ≡ number_of r.cause) × (e.line ≡ r.line) };
+
+    fn from(page: reader::Refusal) -> Self {
+        Refusal {
+            number: page.cause.number(),
+            line: page.line,
+        }
     }
 }
 
-// The beginning: the page is read to its area, the list to four numbers a line.
-pub fn begin(text: &[u8], bytes: &[u8], page: &mut [u16], list: &mut [u16], out: &mut [u8]) -> Begun
-    requires { (12804 ≤ length page.old) × (4096 ≤ length list.old) × (27648 ≤ length out.old) }
+impl From<list::Refusal> for Refusal {
+    ghost use Rattle.list.specs.Causes.{number_of};
+
+    ghost from_gives = { λ r e. (e.number ≡ number_of r.cause) × (e.line ≡ r.line) };
+
+    fn from(list: list::Refusal) -> Self {
+        Refusal {
+            number: list.cause.number(),
+            line: list.line,
+        }
+    }
+}
+
+// The page is read to its area, then the list for it to four numbers a line. Answers how many lines the list has.
+fn read(text: &[u8], bytes: &[u8], page: &mut [u16], list: &mut [u16]) -> Result<usize, Refusal>
+    requires { (12804 ≤ length page.old) × (4096 ≤ length list.old) }
+    ensures read { ReadAs text.now bytes.now page.new list.new result }
+    ensures page { page.new ≡ (read_of text.now page.old).area }
+    ensures list { list.new ≡ list_left (or_else (text_refusal text.now) (list_refusal (page_read text.now) bytes.now)) bytes.now list.old }
+{
+    reader::read_page(text, page)?;
+    let lines = list::read_list(bytes, page[0], page[1], list)?;
+    Ok(lines)
+}
+
+// The beginning: the page and the list are read, and the first line is written, or the refused line.
+pub fn begin(
+    text: &[u8],
+    bytes: &[u8],
+    page: &mut [u16],
+    list: &mut [u16],
+    out: &mut Text<'_>,
+) -> Result<usize, Refusal>
+    requires { (12804 ≤ length page.old) × (4096 ≤ length list.old) × Room out.old 17 }
     ensures begun { BegunAs text.now bytes.now page.new list.new out.old out.new result }
     ensures page { page.new ≡ (read_of text.now page.old).area }
     ensures list { list.new ≡ list_left (or_else (text_refusal text.now) (list_refusal (page_read text.now) bytes.now)) bytes.now list.old }
 {
-    let read = reader::read_page(text, page);
-    match read {
-        ReadAnswer::Refused {
-            number,
-            line,
-            place: _,
-        } => Begun::Refused(put_refusal(out, number, line)),
-        ReadAnswer::Read(_) => begin_list(bytes, page, list, out),
+    match read(text, bytes, page, list) {
+        Ok(lines) => {
+            put_top(out, page[0]);
+            Ok(lines)
+        }
+        Err(refusal) => {
+            put_refusal(out, refusal.number, refusal.line);
+            Err(refusal)
+        }
     }
 }
 
-// Where the trial of the line `from` ends: before the next line with another number, or behind the last line.
-fn trial_end(list: &[u16], from: usize, lines: usize) -> usize
-    requires { (from < lines) × (4 * lines ≤ length list.now) }
-    ensures { TrialEnd list.now from lines result }
+// How many lines at the front of a list are of its first line's trial.
+fn trial_end(list: &[u16]) -> usize
+    requires { 4 ≤ length list.now }
+    ensures { TrialEnd list.now result }
 {
-    let number = list[4 * from];
-    let mut end = from + 1;
-    while end < lines && list[4 * end] == number {
-        end += 1;
+    let number = list[0];
+    list.chunks_exact(4)
+        .position(|line| line[0] != number)
+        .unwrap_or(list.len() / 4)
+}
+
+// The trials of a list, in their order: each item is the lines of one trial, four numbers a line.
+#[derive(Drop)]
+pub struct Trials<'a> {
+    rest: &'a [u16],
+}
+
+impl<'a> Trials<'a> {
+    // Those of all lines.
+    pub fn of(list: &'a [u16]) -> Self
+        ensures { result.rest.now ≡ list.now }
+    {
+        Trials { rest: list }
     }
-    end
 }
 
-// What a trial writes: it ends before a line of the list, and takes so many bytes for so many answers.
-#[derive(Clone, Copy)]
-pub struct Part {
-    pub end: usize,
-    pub size: usize,
-    pub count: u16,
+impl<'a> Iterator for Trials<'a> {
+    type Item = &'a [u16];
+
+    ghost next_gives = { λ s r t. GivesTrial s.rest.now r t.rest.now };
+
+    ghost remaining = { λ s. at_most (length s.rest.now) };
+
+    fn next(&mut self) -> Option<&'a [u16]> {
+        if self.rest.len() < 4 {
+            return None;
+        }
+        let (trial, rest) = self.rest.split_at(4 * trial_end(self.rest));
+        self.rest = rest;
+        Some(trial)
+    }
 }
 
-// The answers of the trial that begins at the line `from`, on the page that its lines change. Both readings of that page are solved once.
-pub fn answer_trial(page: &[u16], list: &[u16], from: usize, lines: usize, out: &mut [u8]) -> Part
-    requires { (sound page.now ≡ true) × ListIn (top_of page.now) (conditions_of page.now) list.now lines × (from < lines) × (27648 ≤ length out.old) }
-    ensures { TrialPut (page_of page.now) list.now from lines out.old out.new result.end result.size result.count }
+// The answers of a trial, on the page that its lines change; answers how many they are. Both readings of that page are solved once.
+pub fn answer_trial(page: &[u16], lines: &[u16], text: &mut Text<'_>) -> u16
+    requires { (sound page.now ≡ true) × ListIn (top_of page.now) (conditions_of page.now) lines.now (length lines.now / 4) × (4 ≤ length lines.now) × Room text.old 27648 }
+    ensures { TrialPut (page_of page.now) lines.now text.old text.new result }
 {
-    let end = trial_end(list, from, lines);
     let mut area = [0u16; 14852];
-    change::change(page, &list[4 * from..4 * end], &mut area);
+    change::change(page, lines, &mut area);
     let mut plain = [0u16; 3072];
     let mut closed = [0u16; 3072];
     solve::solve(&area, &mut plain, &mut closed, false);
-    let mut lead = [0u8; 4];
-    let n = put_field(&mut lead, 0, list[4 * from] as u32, b',');
-    let done = put_lines(&area, &plain, &closed, &lead[..n], out, 0);
-    Part {
-        end,
-        size: done.at,
-        count: done.count,
-    }
+    let solved = Solved {
+        page: &area,
+        plain: &plain,
+        closed: &closed,
+    };
+    let mut bytes = [0u8; 4];
+    let mut lead = Text::new(&mut bytes);
+    lead.put_field(lines[0] as u32, b',');
+    solved.put_lines(lead.written(), text)
 }

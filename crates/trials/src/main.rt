@@ -2,36 +2,30 @@
 // printed is made by the crate `trial`; here are the arrays, the calls of the standard library, and the loop over the trials.
 #![tactic(auto)]
 
-ghost use Rattle.std.specs.Prelude.{◌≡◌, true, ◌*◌, ◌≤◌, length};
+ghost use Rattle.std.specs.Prelude.{◌≡◌, true, ◌/◌, ◌≤◌, length};
 ghost use Rattle.semantics.specs.Area.{sound, top_of, conditions_of};
 ghost use Rattle.trial.specs.Parts.{ListIn};
 
 mod input;
 
 use input::read_file;
+use print::Text;
 use std::io;
-use trial::Begun;
+use trial::Trials;
 
-// Prints the answers of each trial and the last line.
-fn print_trials(
-    rt: &impl Print,
-    page: &[u16],
-    list: &[u16],
-    lines: usize,
-    out: &mut [u8],
-) -> io::Result<()>
-    requires { (sound page.now ≡ true) × ListIn (top_of page.now) (conditions_of page.now) list.now lines × (27648 ≤ length out.old) }
+// Prints the answers of each trial of the list and the last line.
+fn print_trials(rt: &impl Print, page: &[u16], list: &[u16], out: &mut [u8]) -> io::Result<()>
+    requires { (sound page.now ≡ true) × ListIn (top_of page.now) (conditions_of page.now) list.now (length list.now / 4) × (27648 ≤ length out.old) }
 {
-    let mut from: usize = 0;
     let mut count: u32 = 0;
-    while from < lines {
-        let part = trial::answer_trial(page, list, from, lines, out);
-        rt.write_all(&out[..part.size])?;
-        from = part.end;
-        count += part.count as u32;
+    for lines in Trials::of(list) {
+        let mut text = Text::new(out);
+        count += trial::answer_trial(page, lines, &mut text) as u32;
+        rt.write_all(text.written())?;
     }
-    let size = answers::put_end(out, 0, count);
-    rt.write_all(&out[..size])
+    let mut text = Text::new(out);
+    answers::put_end(&mut text, count);
+    rt.write_all(text.written())
 }
 
 fn main(rt: HostRuntime) -> io::Result<()> {
@@ -42,12 +36,11 @@ fn main(rt: HostRuntime) -> io::Result<()> {
     let mut page = [0u16; 12804];
     let mut list = [0u16; 4096];
     let mut out = [0u8; 27648];
-    let begun = trial::begin(&text[..n], &bytes[..m], &mut page, &mut list, &mut out);
+    let mut first = Text::new(&mut out);
+    let begun = trial::begin(&text[..n], &bytes[..m], &mut page, &mut list, &mut first);
+    rt.write_all(first.written())?;
     match begun {
-        Begun::Refused(size) => rt.write_all(&out[..size]),
-        Begun::Read { size, lines } => {
-            rt.write_all(&out[..size])?;
-            print_trials(&rt, &page, &list, lines, &mut out)
-        }
+        Ok(lines) => print_trials(&rt, &page, &list[..4 * lines], &mut out),
+        Err(_) => Ok(()),
     }
 }

@@ -18,7 +18,7 @@ use Rattle.value.specs.Table.{Grades, EndTable}
 use Rattle.value.proofs.BodyEnds.{body_some, body_has, body_none}
 use Rattle.value.proofs.Tables.{table_of_lem, grades_of}
 use Rattle.settle.specs.Scratch.{held}
-use Rattle.unknowns.specs.NextHighs.{high_from, Cleared, Above, Swept, Finished, HighTable, NextHighs}
+use Rattle.unknowns.specs.NextHighs.{high_from, Mapped, Above, Swept, HighTable, NextHighs}
 use Rattle.unknowns.proofs.Storing.{steady_on}
 use Rattle.page.specs.Solvable.{solvable}
 
@@ -75,7 +75,8 @@ module _ (a s : List ℕ) (h : HighTable a s) (base : ℕ) (b : base ≡ 2 * con
   part_grades = grades_of upper (top_of a) (conditions_of a) (held (conditions_of a) s) part part_long (λ c l. (h.within c l).high_in) part_table
 
   -- the three steps together
-  pub next_highs : {m : List Bool} {next₀ next₁ next₂ next₃ : List ℕ} → solvable a ≡ true → Cleared a m next₀ next₁ → Swept a m part next₁ next₂ → Finished a m next₂ next₃ → NextHighs a m s next₀ next₃
+  pub next_highs : {m : List Bool} {next₀ next₁ next₂ next₃ : List ℕ} → solvable a ≡ true → Mapped a m (λ c x. 0) next₀ next₁ → Swept a m part next₁ next₂
+      → Mapped a m (λ c x. high_from (bodyless (page_of a) c).high x) next₂ next₃ → NextHighs a m s next₀ next₃
   next_highs {m} {next₀} {next₁} {next₂} {next₃} ok u v w =
       record {
         steady = steady_on a m (steady_on a m u.steady v.steady) w.steady;

@@ -1,5 +1,6 @@
 -- The loop over the conditions that stores an entry for each one sought: what stands before c is what f makes of the entry. Assumes nothing.
-use mathlib.Core.Path.{◌≡◌, refl, sym, ◌∙◌, ap, subst}
+use mathlib.Core.Path.{◌≡◌, refl, sym, ◌∙◌, ap}
+use mathlib.Core.Logic.{◌≢◌}
 use mathlib.Core.Bool.{Bool, true, false, true≢false}
 use mathlib.Core.List.{List}
 use Prim.Native.Nat.{ℕ, ◌+◌, ◌≤◌, ◌<◌}
@@ -8,7 +9,7 @@ use native.Mathlib.Omega.{arith}
 use lib.ListN.{get_or, set, length-set}
 use lib.Seq.{get_or-set_same, get_or-set_other}
 use Rattle.semantics.specs.Area.{conditions_of}
-use Rattle.unknowns.specs.NextHighs.{sought, Places, Steady, Mapped}
+use Rattle.unknowns.specs.NextHighs.{sought, Places, Steady}
 
 module _ (a : List ℕ) (m : List Bool) where
   pub steady_same : (next : List ℕ) → Steady a m next next
@@ -28,6 +29,7 @@ module _ (a : List ℕ) (m : List Bool) where
   pub places_on : {next next' : List ℕ} → Places a m next → Steady a m next next' → Places a m next'
   places_on p v = record { page_solvable = p.page_solvable; marked = p.marked; long = omega (arith, p.long, v.same_length) }
 
+-- the conditions before c have what f makes of their entry
 module _ (a : List ℕ) (m : List Bool) (f : ℕ → ℕ → ℕ) (next₀ : List ℕ) where
   pub record Storing (next : List ℕ) (c : ℕ) : Type 0 where
     pub places : Places a m next₀
@@ -36,37 +38,27 @@ module _ (a : List ℕ) (m : List Bool) (f : ℕ → ℕ → ℕ) (next₀ : Lis
     pub done : (d : ℕ) → d < c → sought a m d ≡ true → get_or next d 0 ≡ f d (get_or next₀ d 0)
     pub later : (d : ℕ) → c ≤ d → get_or next d 0 ≡ get_or next₀ d 0
 
-  pub storing_first : Places a m next₀ → Storing next₀ 0
-  storing_first p =
-      record { places = p; within = omega arith; steady = steady_same a m next₀; done = λ d l. absurd (omega arith); later = λ d l. refl }
-
   module _ {next : List ℕ} {c : ℕ} (v : Storing next c) (l : c < conditions_of a) where
-    pub storing_skip : sought a m c ≡ false → Storing next (c + 1)
-    storing_skip q =
-        record {
-          places = v.places;
-          within = omega arith;
-          steady = v.steady;
-          done = λ d u r. elim (ℕ_discrete d c) [
-            | yes z ↦ absurd (true≢false (sym r ∙ ap (sought a m) z ∙ q))
-            | no z ↦ v.done d (omega arith) r
-          ];
-          later = λ d u. v.later d (omega arith);
-        }
-
-    pub storing_put : sought a m c ≡ true → {x : ℕ} → x ≡ f c (get_or next c 0) → Storing (set next c x) (c + 1)
-    storing_put q {x} e =
+    -- what f makes of the entry of c is stored, if c is sought
+    pub stored_here : {x : ℕ} → sought a m c ≡ true → x ≡ f c (get_or next c 0) → Storing (set next c x) (c + 1)
+    stored_here {x} q e =
         record {
           places = v.places;
           within = omega arith;
           steady = steady_on a m v.steady (steady_set a m next c x l q);
-          done = λ d u r. elim (ℕ_discrete d c) [
-            | yes z ↦ subst (λ (d : ℕ). get_or (set next c x) d 0 ≡ f d (get_or next₀ d 0)) (sym z)
-                (get_or-set_same next c x 0 (omega (arith, v.steady.same_length, v.places.long)) ∙ e ∙ ap (f c) (v.later c (omega arith)))
+          done = λ d k r. elim (ℕ_discrete d c) [
+            | yes z ↦ rw z (get_or-set_same next c x 0 (omega (arith, v.places.long, v.steady.same_length)) ∙ e ∙ ap (f c) (v.later c (omega arith)))
             | no z ↦ get_or-set_other next c d x 0 z ∙ v.done d (omega arith) r
           ];
-          later = λ d u. get_or-set_other next c d x 0 (λ z. omega arith) ∙ v.later d (omega arith);
+          later = λ d k. get_or-set_other next c d x 0 (λ z. absurd (omega arith)) ∙ v.later d (omega arith);
         }
 
-  pub storing_last : {next : List ℕ} {c : ℕ} → Storing next c → conditions_of a ≤ c → Mapped a m f next₀ next
-  storing_last v l = record { steady = v.steady; each = λ d u r. v.done d (omega arith) r }
+    pub kept_here : sought a m c ≡ false → Storing next (c + 1)
+    kept_here q =
+        record {
+          places = v.places;
+          within = omega arith;
+          steady = v.steady;
+          done = λ d k r. v.done d (let n : d ≢ c = λ z. true≢false (sym r ∙ ap (sought a m) z ∙ q) in omega arith) r;
+          later = λ d k. v.later d (omega arith);
+        }

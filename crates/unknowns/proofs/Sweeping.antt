@@ -1,7 +1,7 @@
 -- The sweep over the lines: the entry of a condition sought is above the high ends of its lines passed. Assumes nothing.
-use mathlib.Core.Path.{◌≡◌, refl, sym, ◌∙◌, ap, subst}
+use mathlib.Core.Path.{◌≡◌, sym, ◌∙◌, ap, subst}
 use mathlib.Core.Logic.{◌≢◌, ◌⊎◌, inl, inr, ⊎_elim}
-use mathlib.Core.Bool.{Bool, true, false, true≢false}
+use mathlib.Core.Bool.{Bool, true, true≢false}
 use mathlib.Core.List.{List, [], ◌∷◌}
 use Prim.Native.Nat.{ℕ, ◌+◌, ◌≤◌, ◌<◌, max}
 use native.Mathlib.Decide.{ℕ_discrete, dec_le}
@@ -24,14 +24,6 @@ use Rattle.page.specs.Solvable.{solvable}
 -- the head of an F or R line is a condition
 pub head_below : (a : List ℕ) → solvable a ≡ true → {c at : ℕ} → LineOf a c at → get_or a at 0 < conditions_of a
 head_below a ok o = line_head a ok (record { number = o.number; in_count = o.in_count; place = o.place })
-
--- a line that changes nothing: a query, or one of a condition not sought
-module _ (a : List ℕ) (m : List Bool) (next : List ℕ) {at : ℕ} where
-  pub passed_query : 5 < get_or a (at + 1) 0 → PassedLine a m at next next
-  passed_query l = record { not_here = λ c o. absurd (omega (arith, o.body)); same = refl }
-
-  pub passed_other : sought a m (get_or a at 0) ≡ false → PassedLine a m at next next
-  passed_other q = record { not_here = λ c o. ap (sought a m) (sym o.head) ∙ q; same = refl }
 
 -- the places of the lines before line k
 abbrev pub Passed : List ℕ → ℕ → ℕ → Type 0

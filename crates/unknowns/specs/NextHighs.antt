@@ -2,7 +2,7 @@
 use Rattle.std.specs.Prelude.{◌≡◌, ◌⊎◌, Bool, true, false, cond, ◌&&◌, List, [], ◌∷◌, ℕ, ◌+◌, ◌*◌, ◌-◌, ◌≤◌, ◌<◌, max, eqb, length, get_or, set, drop}
 use Rattle.fixpoint.specs.Interval.{Interval, Within, Assign}
 use Rattle.semantics.specs.Area.{line_at, page_of, top_of, conditions_of}
-use Rattle.semantics.specs.Body.{line_body, bodyless, T, unknown_by_default}
+use Rattle.semantics.specs.Body.{line_body, T, unknown_by_default}
 use Rattle.semantics.specs.Grade.{upper}
 use Rattle.semantics.specs.Table.{member}
 use Rattle.page.specs.Places.{LineOf}
@@ -30,10 +30,6 @@ pub record Steady (a : List ℕ) (m : List Bool) (next next' : List ℕ) : Type 
 pub record Mapped (a : List ℕ) (m : List Bool) (f : ℕ → ℕ → ℕ) (next next' : List ℕ) : Type 0 where
   pub steady : Steady a m next next'
   pub each : (c : ℕ) → c < conditions_of a → sought a m c ≡ true → get_or next' c 0 ≡ f c (get_or next c 0)
-
--- it is 0
-abbrev pub Cleared : (a : List ℕ) (m : List Bool) (next next' : List ℕ) → Type 0
-Cleared a m next next' = Mapped a m (λ c x. 0) next next'
 
 -- the entry of the head of the line at a place becomes 1 more than the line's high end, if it is below that
 pub record Taken (a values : List ℕ) (at : ℕ) (next next' : List ℕ) : Type 0 where
@@ -68,9 +64,6 @@ pub record Swept (a : List ℕ) (m : List Bool) (values next next' : List ℕ) :
 -- the high end that an entry stands for, where d is that of a condition without lines
 abbrev pub high_from : (d x : ℕ) → ℕ
 high_from d x = cond (eqb x 0) d (x - 1)
-
-abbrev pub Finished : (a : List ℕ) (m : List Bool) (next next' : List ℕ) → Type 0
-Finished a m next next' = Mapped a m (λ c x. high_from (bodyless (page_of a) c).high x) next next'
 
 -- the intervals held are grades, and the negations at the high end are those of the low ends held
 pub record HighTable (a s : List ℕ) : Type 0 where

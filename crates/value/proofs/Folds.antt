@@ -10,7 +10,7 @@ use lib.Seq.{drop-cons, get_or-take, get_or-drop}
 use Rattle.semantics.specs.Area.{kind, rule_kind}
 use Rattle.semantics.specs.Grade.{End, Op, M, X, L, B, P, combine, divided, rounding}
 use Rattle.semantics.proofs.Ops.{combine_bounded}
-use Rattle.value.specs.LineEnds.{slice, numbers_of, Listed, Foldable, Folded, excess, bounded, product}
+use Rattle.value.specs.LineEnds.{slice, numbers_of, Foldable, Folded, excess, bounded, product}
 
 module _ (f : ℕ → ℕ → ℕ) (codes values : List ℕ) (first : ℕ) where
   -- the state after j literals
@@ -27,48 +27,30 @@ module _ (f : ℕ → ℕ → ℕ) (codes values : List ℕ) (first : ℕ) where
   pub folding_last : {r j : ℕ} → Folding r j → length codes ≤ j → Folded f codes values first r
   folding_last {r} {j} s l = record { is = sym (s.is ∙ rw (drop_of_length-le codes l)) }
 
--- the same over a part of a list, where the next literal stands at j
-module _ (f : ℕ → ℕ → ℕ) (a : List ℕ) (from to : ℕ) (values : List ℕ) (first : ℕ) where
-  pub record FoldingAt (r j : ℕ) : Type 0 where
-    pub begun : from ≤ j
-    pub within : j ≤ to
-    pub inside : to ≤ length a
-    pub folding : Folding f (slice a from to) values first r (j - from)
+-- the literals from one place up to another, of which one stands at j
+module _ (a : List ℕ) (from to : ℕ) (inside : to ≤ length a) where
+  pub slice_length : length (slice a from to) ≡ to - from
+  slice_length = simp (length-take, length-drop) (omega arith)
 
-  slice_length : to ≤ length a → length (slice a from to) ≡ to - from
-  slice_length l = simp (length-take, length-drop) (omega arith)
+  module _ {j : ℕ} (b : from ≤ j) (l : j < to) where
+    pub here : j - from < length (slice a from to)
+    here = omega (arith, slice_length)
 
-  pub folding_at_first : from ≤ to → to ≤ length a → FoldingAt first from
-  folding_at_first o l =
-      let z : from - from ≡ 0 = omega arith in
-      record { begun = omega arith; within = o; inside = l; folding = rw z (folding_first f (slice a from to) values first) }
+    pub code_here : get_or (slice a from to) (j - from) 0 ≡ get_or a j 0
+    code_here = get_or-take (to - from) (drop from a) (j - from) 0 (omega arith) ∙ get_or-drop from a (j - from) 0 ∙ ap (λ (i : ℕ). get_or a i 0) (omega arith)
 
-  module _ {r j : ℕ} (v : FoldingAt r j) where
-    here : j < to → j - from < length (slice a from to)
-    here l = omega (arith, slice_length v.inside, v.begun)
+    module _ {values : List ℕ} {top first : ℕ} (w : Foldable top (slice a from to) values first) where
+      pub listed_here : get_or a j 0 < length values
+      listed_here = rw (← code_here) (w.listed (j - from) here)
 
-    code_here : j < to → get_or (slice a from to) (j - from) 0 ≡ get_or a j 0
-    code_here l =
-        get_or-take (to - from) (drop from a) (j - from) 0 (omega (arith, v.begun)) ∙ get_or-drop from a (j - from) 0 ∙ ap (λ (i : ℕ). get_or a i 0) (omega (arith, v.begun))
+      pub grade_here : get_or values (get_or a j 0) 0 ≤ top
+      grade_here = rw (← code_here) (w.grades (j - from) here)
 
-    pub listed_here : Listed (slice a from to) values → j < to → get_or a j 0 < length values
-    listed_here h l = rw (← code_here l) (h (j - from) (here l))
-
-    pub grade_here : {top : ℕ} → Foldable top (slice a from to) values first → j < to → get_or values (get_or a j 0) 0 ≤ top
-    grade_here h l = rw (← code_here l) (h.grades (j - from) (here l))
-
-    pub folding_at_next : {r' : ℕ} → j < to → r' ≡ f r (get_or values (get_or a j 0) 0) → FoldingAt r' (j + 1)
-    folding_at_next l h =
-        let z : j + 1 - from ≡ j - from + 1 = omega (arith, v.begun) in
-        record {
-          begun = omega (arith, v.begun);
-          within = omega arith;
-          inside = v.inside;
-          folding = rw z (folding_next f (slice a from to) values first v.folding (here l) (h ∙ ap (λ (k : ℕ). f r (get_or values k 0)) (sym (code_here l))));
-        }
-
-    pub folding_at_last : to ≤ j → Folded f (slice a from to) values first r
-    folding_at_last l = folding_last f (slice a from to) values first v.folding (omega (arith, slice_length v.inside))
+    pub folding_here : {f : ℕ → ℕ → ℕ} {values : List ℕ} {first r r' : ℕ} → Folding f (slice a from to) values first r (j - from) → r' ≡ f r (get_or values (get_or a j 0) 0)
+        → Folding f (slice a from to) values first r' (j + 1 - from)
+    folding_here {f} {values} {first} {r} s h =
+        let z : j + 1 - from ≡ j - from + 1 = omega arith in
+        rw z (folding_next f (slice a from to) values first s here (h ∙ ap (λ (k : ℕ). f r (get_or values k 0)) (sym code_here)))
 
 -- a fold of an op ends with a grade
 module _ (top : ℕ) (op : Op) (e : End) (values : List ℕ) where

@@ -32,6 +32,15 @@ pub record Foldable (top : ℕ) (codes values : List ℕ) (first : ℕ) : Type 0
   pub grades : (j : ℕ) → j < length codes → get_or values (get_or codes j 0) 0 ≤ top
   pub start : first ≤ top
 
+-- an op may be called on two grades, and gives a grade
+pub record OnGrades (top : ℕ) (pre : ℕ → ℕ → Type 0) (post : ℕ → ℕ → ℕ → Type 0) : Type 0 where
+  pub callable : (p q : ℕ) → p ≤ top → q ≤ top → pre p q
+  pub grade : (p q r : ℕ) → p ≤ top → q ≤ top → post p q r → r ≤ top
+
+-- whatever an op gives is what f makes of the same two numbers
+abbrev pub Computes : (f : ℕ → ℕ → ℕ) → (post : ℕ → ℕ → ℕ → Type 0) → Type 0
+Computes f post = (p q r : ℕ) → post p q r → r ≡ f p q
+
 -- r is what f makes of a first number and the numbers of literals, from left to right
 pub record Folded (f : ℕ → ℕ → ℕ) (codes values : List ℕ) (first r : ℕ) : Type 0 where
   pub is : r ≡ foldl f first (numbers_of values codes)

@@ -1,14 +1,14 @@
 // The value of one line at one end, over a table of that end of every literal (document 01, "The page").
 #![tactic(auto)]
 
-ghost use Rattle.std.specs.Prelude.{◌≡◌, true, ◌≤◌, ◌<◌, ◌+◌, ◌*◌, ◌/◌, min, max, length, get_or};
+ghost use Rattle.std.specs.Prelude.{◌≡◌, true, ℕ, ◌≤◌, ◌<◌, ◌+◌, ◌*◌, ◌/◌, length, get_or};
 ghost use Rattle.semantics.specs.Area.{page_of, top_of, conditions_of, kind, rule_kind};
 ghost use Rattle.semantics.specs.Body.{bodyless};
 ghost use Rattle.semantics.specs.Grade.{Op, combine, divided, rounding};
 ghost use Rattle.page.specs.Graded.{RuleAt};
 ghost use Rattle.page.specs.Places.{LineOf};
 ghost use Rattle.value.specs.Table.{side, Grades};
-ghost use Rattle.value.specs.LineEnds.{slice, behind_first, Listed, Foldable, Folded, excess, bounded, product, Adds, EndAdding, RuleEnd, LineEnd};
+ghost use Rattle.value.specs.LineEnds.{slice, behind_first, Foldable, Folded, OnGrades, Computes, excess, bounded, product, Adds, EndAdding, RuleEnd, LineEnd};
 ghost use Rattle.page.specs.Solvable.{solvable};
 
 // An end of an interval.
@@ -19,45 +19,28 @@ pub enum End {
 }
 
 // The two ends of an interval.
-#[derive(Clone, Copy)]
+#[derive(Clone, Copy, PartialEq, Eq)]
 pub struct Ends {
     pub low: u16,
     pub high: u16,
 }
 
 // What a condition without F and R lines has.
+#[tactic(auto, using(crate::proofs::Defaults::bodyless_free, crate::proofs::Defaults::bodyless_kept))]
 pub fn bodyless(a: &[u16], c: u16) -> Ends
     requires { (solvable a.now ≡ true) × (c < conditions_of a.now) }
     ensures { record { low = result.low; high = result.high } ≡ bodyless (page_of a.now) c }
 {
-    let mut high: u16 = 0;
-    if page::unknown_by_default(a, c) {
-        high = a[0];
-    }
+    let high = if page::unknown_by_default(a, c) {
+        a[0]
+    } else {
+        0
+    };
     Ends { low: 0, high }
 }
 
-// The smaller of two grades.
-pub fn minimum(p: u16, q: u16) -> u16
-    ensures { result ≡ min p q }
-{
-    if q < p {
-        return q;
-    }
-    p
-}
-
-// The larger of two grades.
-pub fn maximum(p: u16, q: u16) -> u16
-    ensures { result ≡ max p q }
-{
-    if p < q {
-        return q;
-    }
-    p
-}
-
 // What an end adds to a number before it is divided by top: the low end rounds down, the high end up.
+#[tactic(auto, unfolding(semantics::specs::Grade::rounding))]
 pub fn rounding(top: u16, end: End) -> u16
     requires { 1 ≤ top }
     ensures { result ≡ rounding (side end) top }
@@ -84,126 +67,82 @@ pub fn divided(x: u16, top: u16, end: End) -> u16
     quotient(x, top, rounding(top, end))
 }
 
-// M over the numbers of the literals from one place up to another: the smallest.
-fn fold_smallest(a: &[u16], from: usize, to: usize, values: &[u16], first: u16) -> u16
-    requires { (from ≤ to) × (to ≤ length a.now) × Listed (slice a.now from to) values.now }
-    ensures { Folded min (slice a.now from to) values.now first result }
-{
-    let mut r = first;
-    let mut j = from;
-    while j < to {
-        let q = values[a[j] as usize];
-        r = minimum(r, q);
-        j += 1;
-    }
-    r
-}
-
-// X: the largest.
-fn fold_largest(a: &[u16], from: usize, to: usize, values: &[u16], first: u16) -> u16
-    requires { (from ≤ to) × (to ≤ length a.now) × Listed (slice a.now from to) values.now }
-    ensures { Folded max (slice a.now from to) values.now first result }
-{
-    let mut r = first;
-    let mut j = from;
-    while j < to {
-        let q = values[a[j] as usize];
-        r = maximum(r, q);
-        j += 1;
-    }
-    r
-}
-
 // L: what a sum has over top.
-fn fold_excess(a: &[u16], from: usize, to: usize, values: &[u16], first: u16, top: u16) -> u16
-    requires { (from ≤ to) × (to ≤ length a.now) × Foldable top (slice a.now from to) values.now first }
-    ensures { Folded (excess top) (slice a.now from to) values.now first result }
+pub fn excess(p: u16, q: u16, top: u16) -> u16
+    requires { p + q < 65536 }
+    ensures { result ≡ excess top p q }
 {
-    let mut r = first;
-    let mut j = from;
-    while j < to {
-        let q = values[a[j] as usize];
-        r = maximum(r + q, top) - top;
-        j += 1;
-    }
-    r
+    (p + q).saturating_sub(top)
 }
 
 // B: the sum, at most top.
-fn fold_bounded(a: &[u16], from: usize, to: usize, values: &[u16], first: u16, top: u16) -> u16
-    requires { (from ≤ to) × (to ≤ length a.now) × Foldable top (slice a.now from to) values.now first }
-    ensures { Folded (bounded top) (slice a.now from to) values.now first result }
+pub fn bounded(p: u16, q: u16, top: u16) -> u16
+    requires { p + q < 65536 }
+    ensures { result ≡ bounded top p q }
 {
-    let mut r = first;
-    let mut j = from;
-    while j < to {
-        let q = values[a[j] as usize];
-        r = minimum(r + q, top);
-        j += 1;
-    }
-    r
+    (p + q).min(top)
 }
 
-// P: the product divided by top, with what the end adds.
-fn fold_product(
+// P: the product divided by top, with what an end adds.
+fn product(p: u16, q: u16, top: u16, add: u16) -> u16
+    requires { (top ≤ 200) × (p ≤ top) × (q ≤ top) × (add < top) }
+    ensures value { result ≡ product add top p q }
+    ensures grade { result ≤ top }
+{
+    quotient(p * q, top, add)
+}
+
+// An op over the numbers of the literals from one place up to another, from left to right. By index: over a slice of them a line's end takes
+// a fifth more instructions.
+fn fold<F: Fn(u16, u16) -> u16>(
     a: &[u16],
     from: usize,
     to: usize,
     values: &[u16],
     first: u16,
-    top: u16,
-    add: u16,
+    op: F,
 ) -> u16
-    requires { (from ≤ to) × (to ≤ length a.now) × Foldable top (slice a.now from to) values.now first × (add < top) }
-    ensures { Folded (product add top) (slice a.now from to) values.now first result }
+    requires { (from ≤ to) × (to ≤ length a.now) × (top : ℕ) × Foldable top (slice a.now from to) values.now first × OnGrades top (F.pre op) (F.post op) }
+    ensures { (f : ℕ → ℕ → ℕ) → Computes f (F.post op) → Folded f (slice a.now from to) values.now first result }
 {
     let mut r = first;
-    let mut j = from;
-    while j < to {
-        let q = values[a[j] as usize];
-        r = quotient(r * q, top, add);
-        j += 1;
+    for j in from..to {
+        r = op(r, values[a[j] as usize]);
     }
     r
 }
 
-// The op of the rule at `at` over the numbers of its literals behind the first: the kinds 1 to 5 are M, X, L, B, P.
+// The op of the rule at `at` over the numbers of its literals behind the first: the kinds 1 to 5 are M, X, L, B, P. With no other literal there
+// is nothing to choose.
 fn fold_by_op(a: &[u16], at: usize, values: &[u16], first: u16, top: u16, add: u16) -> u16
-    requires { RuleAt top (conditions_of a.now) a.now at × Foldable top (behind_first a.now at) values.now first × (1 ≤ get_or a.now (at + 1) 0) × (get_or a.now (at + 1) 0 ≤ 5) × (add < top) }
-    ensures { EndAdding top add (λ e. (op : Op) → kind (get_or a.now (at + 1) 0) ≡ rule_kind op → Folded (combine top op e) (behind_first a.now at) values.now first result) }
-{
-    let from = at + 5;
-    let to = at + 4 + a[at + 3] as usize;
-    let k = a[at + 1];
-    match k {
-        1 => fold_smallest(a, from, to, values, first),
-        2 => fold_largest(a, from, to, values, first),
-        3 => fold_excess(a, from, to, values, first, top),
-        4 => fold_bounded(a, from, to, values, first, top),
-        _ => fold_product(a, from, to, values, first, top, add),
-    }
-}
-
-// The same; with no other literal there is nothing to choose.
-fn fold_literals(a: &[u16], at: usize, values: &[u16], first: u16, top: u16, add: u16) -> u16
     requires { RuleAt top (conditions_of a.now) a.now at × Foldable top (behind_first a.now at) values.now first × (1 ≤ get_or a.now (at + 1) 0) × (get_or a.now (at + 1) 0 ≤ 5) × (add < top) }
     ensures { EndAdding top add (λ e. (op : Op) → kind (get_or a.now (at + 1) 0) ≡ rule_kind op → Folded (combine top op e) (behind_first a.now at) values.now first result) }
 {
     if a[at + 3] < 2 {
         return first;
     }
-    fold_by_op(a, at, values, first, top, add)
+    let from = at + 5;
+    let to = at + 4 + a[at + 3] as usize;
+    let k = a[at + 1];
+    match k {
+        1 => fold(a, from, to, values, first, |p, q| p.min(q)),
+        2 => fold(a, from, to, values, first, |p, q| p.max(q)),
+        3 => fold(a, from, to, values, first, |p, q| excess(p, q, top)),
+        4 => fold(a, from, to, values, first, |p, q| bounded(p, q, top)),
+        _ => fold(a, from, to, values, first, |p, q| product(p, q, top, add)),
+    }
 }
 
 // One end of the value of the rule at `at`: its op over its literals' numbers from left to right, then its weight.
+#[tactic(auto, using(crate::proofs::RuleEnds::code_under))]
 fn rule_end(a: &[u16], at: usize, values: &[u16], add: u16) -> u16
     requires { (solvable a.now ≡ true) × Grades (top_of a.now) (conditions_of a.now) values.now × RuleAt (top_of a.now) (conditions_of a.now) a.now at × (1 ≤ get_or a.now (at + 1) 0) × (get_or a.now (at + 1) 0 ≤ 5) × Adds (top_of a.now) add }
     ensures { EndAdding (top_of a.now) add (λ e. RuleEnd e a.now values.now at result) }
 {
     let top = a[0];
     let first = values[a[at + 4] as usize];
-    let r = fold_literals(a, at, values, first, top, add);
-    quotient(r * a[at + 2], top, add)
+    let r = fold_by_op(a, at, values, first, top, add);
+    product(r, a[at + 2], top, add)
 }
 
 // One end of the value of the F or R line at `at`; `add` is what the end adds before a division.

@@ -9,9 +9,9 @@ use lib.ListN.{length, get_or, drop}
 use Rattle.semantics.specs.Area.{page_of, line_at, top_of, conditions_of, count_of, first_line}
 use Rattle.semantics.specs.Page.{Line, names, lines_name}
 use Rattle.semantics.specs.RunArea.{interval_at, mark_at}
-use Rattle.page.specs.Lines.{Next, line_names}
+use Rattle.page.specs.Lines.{Next, line_names, Scanning}
 use Rattle.page.proofs.Naming.{lines_name_lem}
-use Rattle.page.proofs.Scanning.{Scanning, lines_left, scanning_first, lines_first, entry_ok, scanning_moved, lines_moved, lines_none}
+use Rattle.page.proofs.Scanning.{lines_left, scanning_first, lines_first, entry_ok, scanning_moved, lines_moved, lines_none}
 use Rattle.page.proofs.Scan.{entry_head}
 use Rattle.worklist.specs.Cells.{DependantsMarked}
 use Rattle.worklist.specs.Marks.{marked}

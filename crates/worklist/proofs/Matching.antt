@@ -3,18 +3,18 @@ use mathlib.Core.Path.{◌≡◌, refl, sym, ◌∙◌, ap}
 use mathlib.Core.Logic.{◌≢◌, ◌⊎◌, inl, inr}
 use mathlib.Core.Bool.{Bool, true, false, ◌&&◌, and-true, and-false, or-true, or-false, true≢false}
 use mathlib.Core.List.{List}
-use Prim.Native.Nat.{ℕ, ◌+◌, ◌*◌, ◌≤◌, ◌<◌, ◌/◌}
+use Prim.Native.Nat.{ℕ, ◌+◌, ◌*◌, ◌≤◌, ◌<◌}
 use native.Mathlib.Decide.{ℕ_discrete}
 use native.Mathlib.Omega.{arith}
 use lib.Dec.{eqb, ltb}
 use lib.ListN.{length, set}
-use borrow.Author.Tests.{eq-eqb, ne_eqb, lt-ltb, le-ltb, ltb-true, ltb-false, eqb-true}
+use borrow.Author.Tests.{eq-eqb, ne_eqb, lt-ltb, ltb-true, ltb-false, eqb-true}
 use Rattle.semantics.specs.RunArea.{mark_at}
 use Rattle.semantics.proofs.Soundness.{both_true}
-use Rattle.bits.specs.Words.{has, Inserted, Removed, LowestIn}
-use Rattle.index.specs.Groups.{Cleared}
-use Rattle.bits.proofs.Sets.{word_none}
-use Rattle.worklist.specs.Cells.{Lowest}
+use Rattle.std.specs.Prelude.{None, Some}
+use Rattle.bits.specs.Words.{has, Inserted, Removed}
+use Rattle.bits.specs.Sets.{LowestIn}
+use Rattle.worklist.specs.Cells.{LowestAt, Lowest}
 use Rattle.worklist.specs.Waiting.{WordsMatch, StillMatches}
 use Rattle.worklist.proofs.Stores.{mark_same, mark_other}
 
@@ -44,21 +44,21 @@ module _ {n : ℕ} {run words : List ℕ} (w : WordsMatch n run words) where
   not_in_set {k} l m e q = true≢false (sym (w.bits k l ∙ rw (lt-ltb k n m, eq-eqb (mark_at run k) 2 q)) ∙ e)
 
   -- the lowest of the set is the lowest that waits
-  pub lowest_waits : {r : ℕ} → LowestIn words r → r < 512 → (r < n) × Lowest n run r
-  lowest_waits {r} s l =
-      let b = in_set l (s.found l) in
-      (b.0, record { within = omega (arith, b.0); below = λ k m. not_in_set (omega arith) (omega (arith, b.0)) (s.below k m); found = λ m. b.1 })
+  pub lowest_waits : {r : ℕ} → LowestIn words (Some r) → LowestAt n run r
+  lowest_waits {r} s =
+      let l = s.0.within in
+      let b = in_set l s.0.found in
+      record { within = b.0; found = b.1; below = λ k m. not_in_set (omega arith) (omega (arith, b.0)) (s.1 k m) }
 
   -- and if there is none, none waits
-  pub none_waits : {r : ℕ} → LowestIn words r → 512 ≤ r → n ≤ 512 → Lowest n run n
-  none_waits {r} s l f = record { within = omega arith; below = λ k m. not_in_set (omega arith) m (s.below k (omega arith)); found = λ m. absurd (omega arith) }
+  pub none_waits : LowestIn words None → n ≤ 512 → Lowest n run None
+  none_waits s f = λ k m. not_in_set (omega arith) m (s k (omega arith))
 
   -- c waits no longer
   pub match_removed : {c : ℕ} {run' words' : List ℕ} → Removed c words words' → mark_at run' c ≢ 2 → ((k : ℕ) → k < n → k ≢ c → mark_at run' k ≡ mark_at run k)
       → WordsMatch n run' words'
   match_removed {c} {run'} r z h =
       record {
-        size = r.0;
         bits = λ k l. r.1 k l ∙ elim (ℕ_discrete k c) [
           | yes e ↦ rw (eq-eqb k c e, and-false) (rw (e, ne_eqb (mark_at run' c) 2 z) (sym (and-false (ltb c n))))
           | no e ↦ rw (ne_eqb k c e, and-true) (w.bits k l ∙ below_cong k n (λ m. ap (λ (x : ℕ). eqb x 2) (sym (h k m e))))
@@ -70,24 +70,19 @@ module _ {n : ℕ} {run words : List ℕ} (w : WordsMatch n run words) where
       → WordsMatch n run' words'
   match_inserted {c} {run'} r m z h =
       record {
-        size = r.0;
         bits = λ k l. r.1 k l ∙ elim (ℕ_discrete k c) [
           | yes e ↦ rw (eq-eqb k c e, or-true) (rw (e, eq-eqb (mark_at run' c) 2 z, lt-ltb c n m))
           | no e ↦ rw (ne_eqb k c e, or-false) (w.bits k l ∙ below_cong k n (λ m. ap (λ (x : ℕ). eqb x 2) (sym (h k m e))))
         ];
       }
 
--- the empty set
-pub match_none : (run words : List ℕ) → length words ≡ 8 → Cleared words → WordsMatch 0 run words
-match_none run words s z = record { size = s; bits = λ k l. word_none words k (z (k / 64)) ∙ sym (rw (le-ltb k 0 (omega arith))) }
-
 -- a match that is kept: nothing changes, one more condition waits, and one change after another
-pub still_same : (n : ℕ) (run words : List ℕ) → length words ≡ 8 → StillMatches n run words run words
-still_same n run words s = record { size = s; kept = λ w. w }
+pub still_same : (n : ℕ) (run words : List ℕ) → StillMatches n run words run words
+still_same n run words = record { kept = λ w. w }
 
 pub still_inserted : {n d : ℕ} (run : List ℕ) {words words' : List ℕ} → 3 * d + 3 ≤ length run → d < n → Inserted d words words' → StillMatches n run words (set run (3 * d + 2) 2) words'
 still_inserted {n} {d} run long l r =
-    record { size = r.0; kept = λ w. match_inserted w r l (mark_same run d 2 long) (λ k b q. mark_other run d 2 k q) }
+    record { kept = λ w. match_inserted w r l (mark_same run d 2 long) (λ k b q. mark_other run d 2 k q) }
 
 pub still_then : {n : ℕ} {r₀ w₀ r₁ w₁ r₂ w₂ : List ℕ} → StillMatches n r₀ w₀ r₁ w₁ → StillMatches n r₁ w₁ r₂ w₂ → StillMatches n r₀ w₀ r₂ w₂
-still_then p q = record { size = q.size; kept = λ w. q.kept (p.kept w) }
+still_then p q = record { kept = λ w. q.kept (p.kept w) }

@@ -9,7 +9,7 @@ use native.Mathlib.Omega.{arith}
 use lib.Dec.{eqb, leb}
 use lib.ListN.{length, set, drop, length-set}
 use lib.Seq.{get_or-set_same, get_or-set_other, set-get_or, drop-set-lt}
-use borrow.Author.Tests.{eq-eqb, ne_eqb, le-leb}
+use borrow.Author.Tests.{eq-eqb, ne_eqb}
 use Rattle.fixpoint.proofs.KnowledgeOrder.{pair_eq}
 use Rattle.semantics.specs.RunArea.{interval_at, mark_at}
 use Rattle.worklist.specs.Marks.{marked}
@@ -69,6 +69,3 @@ module _ (d : ℕ) (run : List ℕ) where
   pub stays_waiting : mark_at run d ≡ 2 → (t : Bool) → run ≡ cond t (marked d run) run
   stays_waiting e true = rw e (sym (set-get_or run (3 * d + 2) 0) ∙ ap (set run (3 * d + 2)) e)
   stays_waiting e false = refl
-
-  pub now_waiting : (mark_at run d ≡ 0 → ⊥) → set run (3 * d + 2) 2 ≡ marked d run
-  now_waiting h = rw (le-leb 1 (mark_at run d) (omega arith))

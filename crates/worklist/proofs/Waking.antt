@@ -25,8 +25,8 @@ module _ (heads : List ℕ) (from : ℕ) where
         beyond = λ n b. refl;
       }
 
-  pub kept_first : (run words : List ℕ) → length words ≡ 8 → SetKept heads from from run words run words
-  kept_first run words s = record { size = s; kept = λ n b w. w }
+  pub kept_first : (run words : List ℕ) → SetKept heads from from run words run words
+  kept_first run words = record { kept = λ n b w. w }
 
   module _ {i : ℕ} (past : from ≤ i) where
     -- one place more
@@ -92,13 +92,12 @@ module _ (heads : List ℕ) (from : ℕ) where
 
     module _ {run₀ words₀ run words : List ℕ} (s : SetKept heads from i run₀ words₀ run words) where
       pub kept_kept : SetKept heads from (i + 1) run₀ words₀ run words
-      kept_kept = record { size = s.size; kept = λ n b w. s.kept n (fewer b) w }
+      kept_kept = record { kept = λ n b w. s.kept n (fewer b) w }
 
       pub kept_next : {words' : List ℕ} → 3 * get_or heads i 0 + 3 ≤ length run → Inserted (get_or heads i 0) words words'
           → SetKept heads from (i + 1) run₀ words₀ (set run (3 * get_or heads i 0 + 2) 2) words'
       kept_next long r =
           record {
-            size = r.0;
             kept = λ n b w. match_inserted (s.kept n (fewer b) w) r (b i past (omega arith)) (mark_same run (get_or heads i 0) 2 long)
                 (λ k l q. mark_other run (get_or heads i 0) 2 k q);
           }
@@ -107,3 +106,19 @@ module _ (heads : List ℕ) (from : ℕ) where
 pub head_in : {heads run₀ run : List ℕ} {from to i : ℕ} → HeadsIn heads from to run₀ → HeadsWoken heads from i run₀ run → from ≤ i → i < to
     → (get_or heads i 0 < 512) × (3 * get_or heads i 0 + 3 ≤ length run)
 head_in {i = i} p s l m = (p.few i l m, omega (arith, p.long i l m, s.same_length))
+
+-- the head h at the place behind those passed: it waits already or is not reached, or it is reached and waits from now on
+module _ {heads run₀ words₀ run words : List ℕ} {from : ℕ} (i : ℕ) {h : ℕ} (e : h ≡ get_or heads (from + i) 0) (s : HeadsWoken heads from (from + i) run₀ run)
+    (k : SetKept heads from (from + i) run₀ words₀ run words) where
+  pub head_stays : (mark_at run h ≡ 2) ⊎ (mark_at run h ≡ 0) → HeadsWoken heads from (from + (i + 1)) run₀ run × SetKept heads from (from + (i + 1)) run₀ words₀ run words
+  head_stays m =
+      let past : from ≤ from + i = omega arith in
+      let more : from + (i + 1) ≡ from + i + 1 = omega arith in
+      rw more (woken_kept heads from past s (rw e at m), kept_kept heads from past k)
+
+  pub head_wakes : 3 * h + 3 ≤ length run → mark_at run h ≢ 0 → {words' : List ℕ} → Inserted h words words'
+      → HeadsWoken heads from (from + (i + 1)) run₀ (set run (3 * h + 2) 2) × SetKept heads from (from + (i + 1)) run₀ words₀ (set run (3 * h + 2) 2) words'
+  head_wakes l m r =
+      let past : from ≤ from + i = omega arith in
+      let more : from + (i + 1) ≡ from + i + 1 = omega arith in
+      rw (more, e) (woken_next heads from past s (rw e at l) (rw e at m), kept_next heads from past k (rw e at l) (rw e at r))

@@ -1,13 +1,18 @@
 -- What the inner steps of a run leave in the cells (low, high, mark for each condition) of an area. Assumes nothing.
-use Rattle.std.specs.Prelude.{◌≡◌, ◌≢◌, cond, ◌&&◌, List, ℕ, ◌*◌, ◌≤◌, ◌<◌, leb, length, drop}
+use Rattle.std.specs.Prelude.{◌≡◌, ◌≢◌, cond, ◌&&◌, List, ℕ, ◌*◌, ◌<◌, leb, length, drop, Option, None, Some}
 use Rattle.semantics.specs.Page.{Page, names}
 use Rattle.semantics.specs.RunArea.{interval_at, mark_at}
 
--- r is the lowest of n conditions with mark 2, or n if none has it
-pub record Lowest (n : ℕ) (run : List ℕ) (r : ℕ) : Type 0 where
-  pub within : r ≤ n
+-- r is one of n conditions with mark 2, and none below it has it
+pub record LowestAt (n : ℕ) (run : List ℕ) (r : ℕ) : Type 0 where
+  pub within : r < n
+  pub found : mark_at run r ≡ 2
   pub below : (k : ℕ) → k < r → mark_at run k ≢ 2
-  pub found : r < n → mark_at run r ≡ 2
+
+-- the lowest of n conditions with mark 2 is told, or nothing exactly if none has it
+abbrev pub Lowest : ℕ → List ℕ → Option ℕ → Type 0
+Lowest n run None = (k : ℕ) → k < n → mark_at run k ≢ 2
+Lowest n run (Some r) = LowestAt n run r
 
 -- every reached condition (mark 1 or 2) with an R line naming c has mark 2, and nothing else is changed
 pub record DependantsMarked (page : Page) (c : ℕ) (run run' : List ℕ) : Type 0 where

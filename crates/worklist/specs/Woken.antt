@@ -28,5 +28,4 @@ pub record HeadsWoken (heads : List ℕ) (from to : ℕ) (run run' : List ℕ) :
 
 -- a set that matched the marks matches them still
 pub record SetKept (heads : List ℕ) (from to : ℕ) (run words run' words' : List ℕ) : Type 0 where
-  pub size : length words' ≡ 8
   pub kept : (n : ℕ) → HeadsBelow n heads from to → WordsMatch n run words → WordsMatch n run' words'

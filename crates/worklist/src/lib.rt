@@ -1,12 +1,10 @@
 // The cells of a run area (low, high, mark for each condition): soundness, the lowest waiting condition, waking dependants, a store.
 #![tactic(auto)]
 
-ghost use Rattle.std.specs.Prelude.{◌≡◌, true, cond, not, ℕ, ◌≤◌, ◌+◌, ◌<◌, ◌*◌, length, get_or, drop};
-ghost use Rattle.fixpoint.specs.Interval.{same, Interval};
+ghost use Rattle.std.specs.Prelude.{◌≡◌, true, cond, ℕ, ◌≤◌, ◌+◌, ◌<◌, ◌*◌, length, get_or, drop};
 ghost use Rattle.semantics.specs.Area.{page_of, conditions_of, every, line_at};
 ghost use Rattle.semantics.specs.RunArea.{interval_at, mark_at, cell_tests, run_sound};
 ghost use Rattle.page.specs.Lines.{EntryIn, line_names};
-ghost use Rattle.index.specs.Groups.{Cleared};
 ghost use Rattle.index.specs.Parts.{MaybeUsers};
 ghost use Rattle.worklist.specs.Cells.{Lowest, DependantsMarked};
 ghost use Rattle.worklist.specs.Waiting.{WordsMatch, StillMatches, Digits};
@@ -14,6 +12,8 @@ ghost use Rattle.worklist.specs.Woken.{HeadsIn, HeadsWoken, SetKept};
 ghost use Rattle.worklist.specs.Marks.{marked};
 ghost use Rattle.worklist.specs.Evaluation.{stored};
 ghost use Rattle.page.specs.Solvable.{solvable};
+
+use bits::Set;
 
 // Whether the cell of c (low, high, mark) is sound.
 fn cell_ok(run: &[u16], c: u16, top: u16) -> bool
@@ -24,22 +24,12 @@ fn cell_ok(run: &[u16], c: u16, top: u16) -> bool
     let low = run[at];
     let high = run[at + 1];
     let mark = run[at + 2];
-    if high < low {
-        return false;
-    }
-    if top < high {
-        return false;
-    }
-    match mark {
-        0 => {
-            if low != 0 {
-                return false;
-            }
-            high == top
-        }
+    let marked = match mark {
+        0 => low == 0 && high == top,
         1..=2 => true,
         _ => false,
-    }
+    };
+    low <= high && high <= top && marked
 }
 
 // Whether a run area is long enough and sound.
@@ -52,32 +42,27 @@ pub fn run_sound(a: &[u16], run: &[u16]) -> bool
     if run.len() < 3 * n as usize {
         return false;
     }
-    let mut c: u16 = 0;
-    while c < n {
+    for c in 0..n {
         if !cell_ok(run, c, top) {
             return false;
         }
-        c += 1;
     }
     true
 }
 
-// The lowest of n conditions that waits, or n if none does.
-pub fn lowest_waiting(run: &[u16], n: u16) -> u16
+// The lowest of n conditions that waits.
+pub fn lowest_waiting(run: &[u16], n: u16) -> Option<u16>
     requires { 3 * n ≤ length run.now }
     ensures { Lowest n run.now result }
 {
-    let mut k: u16 = 0;
-    let c = loop {
-        if n <= k {
-            break k;
+    'search: {
+        for k in 0..n {
+            if run[3 * k as usize + 2] == 2 {
+                break 'search Some(k);
+            }
         }
-        if run[3 * k as usize + 2] == 2 {
-            break k;
-        }
-        k += 1;
-    };
-    c
+        None
+    }
 }
 
 // The conditions from `from` up to `to` that wait, as digits from the lowest on. A mark is 0, 1 or 2, so its half is the digit.
@@ -86,112 +71,83 @@ fn waiting_digits(run: &[u16], from: usize, to: usize) -> u64
     ensures { Digits run.now from to result }
 {
     let mut x: u64 = 0;
-    let mut c = to;
-    while from < c {
-        c -= 1;
+    for c in (from..to).rev() {
         x = 2 * x + (run[3 * c + 2] / 2) as u64;
     }
     x
 }
 
 // The set of the conditions that wait.
-pub fn fill_words(run: &[u16], n: u16, words: &mut [u64])
-    requires { (3 * n ≤ length run.now) × (n ≤ 512) × (length words.old ≡ 8) × Cleared words.old × ((c : ℕ) → c < n → mark_at run.now c ≤ 2) }
-    ensures { WordsMatch n run.now words.new }
+pub fn waiting_set(run: &[u16], n: u16) -> Set
+    requires { (3 * n ≤ length run.now) × (n ≤ 512) × ((c : ℕ) → c < n → mark_at run.now c ≤ 2) }
+    ensures { WordsMatch n run.now result.words }
 {
     let limit = n as usize;
-    let mut w: usize = 0;
-    let mut from: usize = 0;
-    while from + 64 <= limit {
-        words[w] = waiting_digits(run, from, from + 64);
-        w += 1;
-        from += 64;
+    let mut words = [0u64; 8];
+    for w in 0..8 {
+        let from = limit.min(64 * w);
+        words[w] = waiting_digits(run, from, limit.min(from + 64));
     }
-    if from < limit {
-        words[w] = waiting_digits(run, from, limit);
-    }
+    Set::from(words)
 }
 
 // The head of the entry at `at` waits if the entry is a rule that names c and the head is reached. A head that is not reached
 // or that waits already stays as it is, so its literals are not looked at.
-fn wake_head(a: &[u16], at: usize, run: &mut [u16], words: &mut [u64], c: u16)
-    requires { EntryIn a.now at × (3 * get_or a.now at 0 + 3 ≤ length run.old) × (get_or a.now at 0 < 512) × (length words.old ≡ 8) }
+fn wake_head(a: &[u16], at: usize, run: &mut [u16], waiting: &mut Set, c: u16)
+    requires { EntryIn a.now at × (3 * get_or a.now at 0 + 3 ≤ length run.old) × (get_or a.now at 0 < 512) }
     ensures marks { run.new ≡ cond (line_names (line_at (drop at a.now)) c) (marked (get_or a.now at 0) run.old) run.old }
-    ensures set { (n : ℕ) → get_or a.now at 0 < n → StillMatches n run.old words.old run.new words.new }
+    ensures set { (n : ℕ) → get_or a.now at 0 < n → StillMatches n run.old waiting.old.words run.new waiting.new.words }
 {
     let h = a[at];
     let place = 3 * h as usize + 2;
     let mark = run[place];
-    if mark == 0 {
-        return;
-    }
-    if mark == 2 {
-        return;
-    }
-    if page::line_names(a, at, c) {
+    if mark != 2 && mark != 0 && page::line_names(a, at, c) {
         run[place] = 2;
-        bits::insert(words, h);
+        waiting.insert(h);
     }
 }
 
 // Every reached condition with a rule that names c waits, and the set follows: by a scan of the page.
-fn wake_by_scan(a: &[u16], run: &mut [u16], words: &mut [u64], c: u16)
-    requires { (solvable a.now ≡ true) × (3 * conditions_of a.now ≤ length run.old) × (length words.old ≡ 8) }
-    ensures { DependantsMarked (page_of a.now) c run.old run.new × StillMatches (conditions_of a.now) run.old words.old run.new words.new }
+fn wake_by_scan(a: &[u16], run: &mut [u16], waiting: &mut Set, c: u16)
+    requires { (solvable a.now ≡ true) × (3 * conditions_of a.now ≤ length run.old) }
+    ensures { DependantsMarked (page_of a.now) c run.old run.new × StillMatches (conditions_of a.now) run.old waiting.old.words run.new waiting.new.words }
 {
-    let count = a[2];
-    let mut line = page::Cursor::first(a);
-    while line.passed < count {
-        let at = line.at;
-        line = line.next(a);
-        wake_head(a, at, run, words, c);
+    for at in page::Lines::of(a) {
+        wake_head(a, at, run, waiting, c);
     }
 }
 
 // Every reached condition among heads[from..to) waits, and the set follows.
-fn wake_group(run: &mut [u16], words: &mut [u64], heads: &[u16], from: usize, to: usize)
-    requires { HeadsIn heads.now from to run.old × (length words.old ≡ 8) }
-    ensures { HeadsWoken heads.now from to run.old run.new × SetKept heads.now from to run.old words.old run.new words.new }
+fn wake_group(run: &mut [u16], waiting: &mut Set, heads: &[u16], from: usize, to: usize)
+    requires { HeadsIn heads.now from to run.old }
+    ensures { HeadsWoken heads.now from to run.old run.new × SetKept heads.now from to run.old waiting.old.words run.new waiting.new.words }
 {
-    let mut i = from;
-    while i < to {
-        let h = heads[i];
+    for &h in &heads[from..to] {
         let at = 3 * h as usize + 2;
         let mark = run[at];
-        if mark != 2 {
-            if mark != 0 {
-                run[at] = 2;
-                bits::insert(words, h);
-            }
+        if mark != 2 && mark != 0 {
+            run[at] = 2;
+            waiting.insert(h);
         }
-        i += 1;
     }
 }
 
 // Every reached condition with a rule that names c waits, and the set follows: by the dependants of the index, or by a scan where there is none.
-pub fn wake_dependants(a: &[u16], users: &[u16], run: &mut [u16], words: &mut [u64], c: u16)
-    requires { (solvable a.now ≡ true) × MaybeUsers a.now users.now × (3 * conditions_of a.now ≤ length run.old) × (length words.old ≡ 8) × (c < conditions_of a.now) }
-    ensures { DependantsMarked (page_of a.now) c run.old run.new × StillMatches (conditions_of a.now) run.old words.old run.new words.new }
+pub fn wake_dependants(a: &[u16], users: &[u16], run: &mut [u16], waiting: &mut Set, c: u16)
+    requires { (solvable a.now ≡ true) × MaybeUsers a.now users.now × (3 * conditions_of a.now ≤ length run.old) × (c < conditions_of a.now) }
+    ensures { DependantsMarked (page_of a.now) c run.old run.new × StillMatches (conditions_of a.now) run.old waiting.old.words run.new waiting.new.words }
 {
-    if users.len() == 0 {
-        wake_by_scan(a, run, words, c);
+    if users.is_empty() {
+        wake_by_scan(a, run, waiting, c);
         return;
     }
     let base = 2 * a[1] as usize + 1;
     let start = &users[0..base];
     let heads = &users[base..];
     let t = 2 * c as usize;
-    wake_group(run, words, heads, start[t] as usize, start[t + 2] as usize);
-}
-
-// Whether two intervals differ, at either end.
-pub fn differs(low: u16, high: u16, new_low: u16, new_high: u16) -> bool
-    ensures { result ≡ not (same (record { low = low; high = high }) (record { low = new_low; high = new_high })) }
-{
-    if low != new_low {
-        return true;
-    }
-    high != new_high
+    let from = start[t] as usize;
+    let to = start[t + 2] as usize;
+    wake_group(run, waiting, heads, from, to);
 }
 
 // The cell of c becomes low, high, mark.

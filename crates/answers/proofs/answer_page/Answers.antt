@@ -1,18 +1,18 @@
 -- `answers::answer_page` meets its contract: the output is made, and copied if there is room. Assumes nothing.
-use mathlib.Core.Path.{sym}
 use native.Mathlib.Omega.{arith}
-use lib.Seq.{length-take-le}
+use Rattle.print.proofs.Writing.{puts_fits}
 use Rattle.answers.proofs.Printing.{prints_whole, prints_nothing}
 use Rattle.answers.proofs.answer_page.Goals as goal
+use Rattle.answers.proofs.answer_page.Goals.{then-output-out, else-output-out}
 
-pub slice_bounds-put_all-end : goal.slice_bounds-put_all-end
-slice_bounds-put_all-end c = let o = c.put_output-n in sym (length-take-le o.result o.new.out (omega (arith, o.ensures.wrote.room, o.auto.out)))
+pub written-requires : goal.written-requires
+written-requires c = puts_fits c.put_output.ensures.wrote
 
-pub put_all-requires : goal.put_all-requires
-put_all-requires c = let o = c.put_output-n in omega (arith, length-take-le o.result o.new.out (omega (arith, o.ensures.wrote.room, o.auto.out)))
-
-pub returns-then-n-out : goal.returns-then-n-out
-returns-then-n-out c = prints_whole c.put_output-n.ensures (omega arith) c.put_all.ensures
-
-pub returns-else-n-out : goal.returns-else-n-out
-returns-else-n-out c = prints_nothing c.put_output-n.ensures c.args.out.now (omega arith)
+pub returns : goal.returns
+returns c =
+    let p = c.put_output.ensures in
+    let z = c.new-output.ensures.place in
+    elim c.if-output-out.branch [
+      | then-output-out w ↦ rw w.out-is (prints_whole z p (omega arith) w.written.ensures w.put_all.ensures)
+      | else-output-out w ↦ rw w.out-is (prints_nothing z p c.args.out.now (omega arith))
+    ]

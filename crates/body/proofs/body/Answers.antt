@@ -2,8 +2,8 @@
 use Rattle.body.proofs.Gathering.{body_found, body_empty}
 use Rattle.body.proofs.body.Goals as goal
 
-pub returns-then-best : goal.returns-then-best
-returns-then-best c = body_found _ _ _ c.requires.0 c.best_of-best.ensures c.if-best.true
+pub returns-in-Some : goal.returns-in-Some
+returns-in-Some c = body_found _ _ _ c.requires.0 c.in-Some.ensures
 
-pub returns : goal.returns
-returns c = body_empty _ _ _ c.requires.0 c.best_of-best.ensures c.if-best.false c.bodyless.ensures
+pub returns-in-None : goal.returns-in-None
+returns-in-None c = body_empty _ _ _ c.requires.0 c.in-None.ensures c.bodyless.ensures

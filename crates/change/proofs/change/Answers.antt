@@ -1,8 +1,7 @@
 -- `change` meets its contract: the head, the lines that stay, the facts, and then two numbers of the head. Assumes nothing.
-use mathlib.Core.Path.{◌∙◌}
-use Prim.Native.Nat.{◌-◌}
+use mathlib.Core.Path.{refl, sym, ◌∙◌}
 use native.Mathlib.Omega.{arith}
-use lib.ListN.{length-set}
+use borrow.Author.Rules.{rules}
 use lib.Seq.{length-take-le}
 use Rattle.semantics.specs.Area.{first_line}
 use Rattle.change.specs.Trial.{lines_in}
@@ -20,48 +19,40 @@ overflow_cast-first c = omega (arith, (bounds _ c.requires.0).few)
 pub overflow_add-first : goal.overflow_add-first
 overflow_add-first c = omega (arith, (bounds _ c.requires.0).few)
 
-pub slice_bounds-put_numbers-end : goal.slice_bounds-put_numbers-end
-slice_bounds-put_numbers-end c = let b = bounds _ c.requires.0 in omega (arith, b.first, b.inside)
+pub slice_bounds-put_all-end : goal.slice_bounds-put_all-end
+slice_bounds-put_all-end c = let b = bounds _ c.requires.0 in sym (length-take-le (first_line c.args.a.now) c.args.a.now (omega (arith, b.first, b.inside)))
 
-pub put_numbers-requires : goal.put_numbers-requires
-put_numbers-requires c =
+pub put_all-end-requires : goal.put_all-end-requires
+put_all-end-requires c =
     let b = bounds _ c.requires.0 in
     omega (arith, b.few, c.requires.1, length-take-le (first_line c.args.a.now) c.args.a.now (omega (arith, b.first, b.inside)))
 
-pub keep_lines-kept-requires : goal.keep_lines-kept-requires
-keep_lines-kept-requires c =
-    (c.requires.0, omega (arith, (bounds _ c.requires.0).most, c.requires.1, wrote_length c.put_numbers.ensures))
+pub keep_lines-requires : goal.keep_lines-requires
+keep_lines-requires c =
+    let b = bounds _ c.requires.0 in (
+      c.requires.0,
+      omega (arith, b.most, c.requires.1, wrote_length c.put_all-end.ensures),
+      omega (arith, c.put_all-end.ensures.behind, length-take-le (first_line c.args.a.now) c.args.a.now (omega (arith, b.first, b.inside))),
+      refl,
+    )
 
-pub put_facts-all-requires : goal.put_facts-all-requires
-put_facts-all-requires c =
+pub put_facts-requires : goal.put_facts-requires
+put_facts-requires c =
     let b = bounds _ c.requires.0 in
-    let k = c.keep_lines-kept.ensures in
+    let k = c.keep_lines.ensures in
     record {
-      room = omega (arith, b.few, b.most, c.requires.1, k.short, lines_length_lem k.wrote, wrote_length c.put_numbers.ensures);
+      room = omega (arith, b.few, b.most, c.requires.1, k.short, lines_length_lem k.puts.wrote, wrote_length c.put_all-end.ensures);
       counts = omega (arith, b.few, k.few);
     }
 
 pub overflow_cast-area : goal.overflow_cast-area
 overflow_cast-area c =
     let b = bounds _ c.requires.0 in
-    omega (arith, b.few, b.most, c.keep_lines-kept.ensures.short, c.put_facts-all.ensures.short)
-
-pub bounds-area-3 : goal.bounds-area-3
-bounds-area-3 c =
-    simp length-set
-    (omega (
-      arith,
-      c.requires.1,
-      lines_length_lem c.put_facts-all.ensures.wrote,
-      lines_length_lem c.keep_lines-kept.ensures.wrote,
-      wrote_length c.put_numbers.ensures,
-    ))
-
-pub shape_of-area : goal.shape_of-area
-shape_of-area c =
-    simp length-set
-    (lines_length_lem c.put_facts-all.ensures.wrote ∙ lines_length_lem c.keep_lines-kept.ensures.wrote ∙ wrote_length c.put_numbers.ensures)
+    omega (arith, b.few, b.most, c.keep_lines.ensures.short, c.put_facts.ensures.short)
 
 pub returns : goal.returns
 returns c =
-    changed c.args.a.now (lines_in c.args.lines.now) c.requires.0 {m = first_line c.args.a.now - 0} (omega arith) c.put_numbers.ensures c.keep_lines-kept.ensures.wrote c.put_facts-all.ensures.wrote
+    let k = c.keep_lines.ensures.puts in
+    let f = c.put_facts.ensures.puts in
+    let e = sym (f.same ∙ k.same) in
+    changed c.args.a.now (lines_in c.args.lines.now) c.requires.0 {m = first_line c.args.a.now} (omega arith) c.put_all-end.ensures k.wrote f.wrote _ (search rules)

@@ -3,8 +3,8 @@ use native.Mathlib.Omega.{arith}
 use Rattle.change.proofs.Facts.{fact_none, fact_one}
 use Rattle.change.proofs.put_fact.Goals as goal
 
-pub returns-in-Nothing : goal.returns-in-Nothing
-returns-in-Nothing c = fact_none c.args.to.count c.args.c c.in-Nothing.ensures (omega (arith, c.requires.0))
+pub returns-in_default : goal.returns-in_default
+returns-in_default c = fact_none c.args.entries.now c.args.c c.in_default.ensures (omega (arith, c.requires.0))
 
-pub returns-in-Fact : goal.returns-in-Fact
-returns-in-Fact c = fact_one c.args.to.count c.args.c c.in-Fact.ensures c.put_numbers-end.ensures
+pub returns-in-Some : goal.returns-in-Some
+returns-in-Some c = fact_one c.args.entries.now c.args.c c.in-Some.ensures c.put.ensures

@@ -24,14 +24,16 @@ any_free-free-requires c = (c.requires.0.page_solvable, omega (arith, c.mark_clo
 pub alternate-requires : goal.alternate-requires
 alternate-requires c = (rounds_begin _ _ _ _ c.requires.0 c.mark_closure.ensures c.begin.ensures, c.requires.1, (head_of c.args.a.now c.requires.0.page_solvable).few, c.any_free-free.ensures)
 
-pub write_answers-requires : goal.write_answers-requires
-write_answers-requires c = (under_at _ _ c.requires.0.under, omega (arith, c.requires.0.long, c.begin.ensures.same_length, c.alternate.ensures.0.same_length), (head_of c.args.a.now c.requires.0.page_solvable).few, c.requires.0.room)
+pub write_ends-requires : goal.write_ends-requires
+write_ends-requires c =
+    let u = under_at _ _ c.requires.0.under in
+    (λ k l. omega (arith, u k l, c.requires.0.long, c.begin.ensures.same_length, c.alternate.ensures.0.same_length), c.requires.0.room)
 
 pub returns-then-not-counting : goal.returns-then-not-counting
-returns-then-not-counting c = rw c.if-not-counting.true (solved_uncounted _ _ _ _ c.requires.0 c.mark_closure.ensures c.begin.ensures c.alternate.ensures.0 c.write_answers.ensures 0)
+returns-then-not-counting c = rw c.if-not-counting.true (solved_uncounted _ _ _ _ c.requires.0 c.mark_closure.ensures c.begin.ensures c.alternate.ensures.0 c.write_ends.ensures 0)
 
 pub count_rounds-requires : goal.count_rounds-requires
 count_rounds-requires c = (count_ready _ _ _ _ c.requires.0 c.mark_closure.ensures c.begin.ensures c.alternate.ensures.0, c.requires.1, omega (arith, c.alternate.ensures.1, head_of c.args.a.now c.requires.0.page_solvable), c.any_free-free.ensures)
 
 pub returns : goal.returns
-returns c = solved_counted _ _ _ _ c.requires.0 c.mark_closure.ensures c.begin.ensures c.alternate.ensures.0 c.write_answers.ensures _ c.count_rounds.ensures
+returns c = solved_counted _ _ _ _ c.requires.0 c.mark_closure.ensures c.begin.ensures c.alternate.ensures.0 c.write_ends.ensures _ c.count_rounds.ensures

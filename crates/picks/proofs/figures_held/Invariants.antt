@@ -1,12 +1,8 @@
--- `picks::figures_held` meets its contract. The loop's invariant: the figures are right exactly if those still to come are. Assumes nothing.
-use Prim.Native.Nat.{◌-◌}
-use lib.ListN.{length}
-use Rattle.semantics.specs.Area.{top_of}
+-- `figures_held` meets its contract. The loop's invariant: the figures are right exactly if those still to come are.
+use mathlib.Core.Path.{◌≡◌}
+use Rattle.semantics.specs.Area.{top_of, conditions_of}
 use Rattle.picks.proofs.Comparing.{Comparing}
 use Rattle.picks.proofs.figures_held.Given as goal
 
-abbrev pub invariant-loop-i : goal.invariant-loop-i
-invariant-loop-i l = Comparing (top_of l.a) l.queries l.figures l.values l.i
-
-abbrev pub decreases-loop-i : goal.decreases-loop-i
-decreases-loop-i l = length l.queries - l.i
+abbrev pub invariant-loop-query : goal.invariant-loop-query
+invariant-loop-query l = (l.query-iterator.b.size ≡ 2) × Comparing (top_of l.a) l.queries l.figures l.values (conditions_of l.a) l.query-iterator.a.rest.now l.query-iterator.b.rest.now

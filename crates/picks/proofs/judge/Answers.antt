@@ -1,5 +1,6 @@
--- `picks::judge` meets its contract. The loop's invariant: the picks so far waited each, and the book after them is held. Assumes nothing.
-use mathlib.Core.Path.{sym}
+-- `judge` meets its contract.
+use mathlib.Core.Path.{sym, ◌∙◌}
+use mathlib.Core.Bool.{true≢false}
 use native.Mathlib.Omega.{arith}
 use Rattle.page.proofs.Head.{head_of}
 use Rattle.picks.proofs.Judging.{picks_solvable, queries_few, queries_inside, judging_first, judging_some, judging_small, judged_not_waiting, pick_inside, judging_next, judged_not_at_rest, judged_wrong, judged_accepted, judging_grades}
@@ -14,12 +15,6 @@ spread-reached-requires c = (picks_solvable c.args.page.now c.args.queries.now c
 pub loop-i-init : goal.loop-i-init
 loop-i-init c = judging_first _ _ c.requires c.args.picks.now c.spread-reached.ensures
 
-pub slice_bounds-waits-end : goal.slice_bounds-waits-end
-slice_bounds-waits-end c = sym c.loop-i.invariant.holds.waiting_set.size
-
-pub waits-requires : goal.waits-requires
-waits-requires c = (c.loop-i.invariant.holds.waiting_set.size, (head_of c.args.page.now (picks_solvable c.args.page.now c.args.queries.now c.requires)).few)
-
 pub overflow_cast-result : goal.overflow_cast-result
 overflow_cast-result c = omega (arith, judging_small _ _ c.requires _ c.loop-i.invariant)
 
@@ -29,15 +24,6 @@ overflow_add-result c = omega (arith, judging_small _ _ c.requires _ c.loop-i.in
 pub returns-then-not-waits : goal.returns-then-not-waits
 returns-then-not-waits c = judged_not_waiting _ _ c.requires _ c.loop-i.invariant (omega arith) c.waits.ensures c.if-not-waits.true c.args.figures.now
 
-pub slice_bounds-evaluate-end : goal.slice_bounds-evaluate-end
-slice_bounds-evaluate-end c = sym c.loop-i.invariant.holds.reached_set.size
-
-pub slice_bounds-evaluate-end-in-loop-i : goal.slice_bounds-evaluate-end-in-loop-i
-slice_bounds-evaluate-end-in-loop-i c = sym c.loop-i.invariant.holds.waiting_set.size
-
-pub slice_bounds-evaluate-end-in-loop-i-2 : goal.slice_bounds-evaluate-end-in-loop-i-2
-slice_bounds-evaluate-end-in-loop-i-2 c = sym c.loop-i.invariant.size
-
 pub evaluate-requires : goal.evaluate-requires
 evaluate-requires c =
     let s = c.loop-i.invariant in
@@ -46,23 +32,18 @@ evaluate-requires c =
 pub loop-i-preserved : goal.loop-i-preserved
 loop-i-preserved c = judging_next _ _ c.requires _ c.loop-i.invariant (omega arith) c.waits.ensures c.if-not-waits.false c.evaluate.ensures
 
-pub slice_bounds-lowest_in-end : goal.slice_bounds-lowest_in-end
-slice_bounds-lowest_in-end c = sym c.loop-i.invariant.holds.waiting_set.size
-
-pub lowest_in-requires : goal.lowest_in-requires
-lowest_in-requires c = c.loop-i.invariant.holds.waiting_set.size
-
-pub returns-then-lowest_in-lt512 : goal.returns-then-lowest_in-lt512
-returns-then-lowest_in-lt512 c = judged_not_at_rest _ _ c.requires _ c.loop-i.invariant (omega arith) c.lowest_in.ensures c.if-lowest_in-lt512.true c.args.figures.now
-
-pub slice_bounds-figures_held-end : goal.slice_bounds-figures_held-end
-slice_bounds-figures_held-end c = sym c.loop-i.invariant.size
+pub returns-then-not-is_empty : goal.returns-then-not-is_empty
+returns-then-not-is_empty c =
+    judged_not_at_rest _ _ c.requires _ c.loop-i.invariant (omega arith) (λ n. true≢false (sym (c.is_empty.ensures.1 n) ∙ c.if-not-is_empty.true)) c.args.figures.now
 
 pub figures_held-requires : goal.figures_held-requires
-figures_held-requires c = (picks_solvable c.args.page.now c.args.queries.now c.requires, queries_inside c.args.page.now c.args.queries.now c.requires, queries_few c.args.page.now c.args.queries.now c.requires, judging_grades _ _ c.requires _ c.loop-i.invariant)
+figures_held-requires c =
+    let s = c.loop-i.invariant in
+    (picks_solvable c.args.page.now c.args.queries.now c.requires, queries_inside c.args.page.now c.args.queries.now c.requires, queries_few c.args.page.now c.args.queries.now c.requires, judging_grades _ _ c.requires _ s)
 
 pub returns-then-not-figures_held : goal.returns-then-not-figures_held
-returns-then-not-figures_held c = judged_wrong _ _ c.requires _ c.loop-i.invariant (omega arith) c.lowest_in.ensures c.if-lowest_in-lt512.false c.figures_held.ensures c.if-not-figures_held.true
+returns-then-not-figures_held c =
+    judged_wrong _ _ c.requires _ c.loop-i.invariant (omega arith) (c.is_empty.ensures.0 c.if-not-is_empty.false) c.figures_held.ensures c.if-not-figures_held.true
 
 pub returns : goal.returns
-returns c = judged_accepted _ _ c.requires _ c.loop-i.invariant (omega arith) c.lowest_in.ensures c.if-lowest_in-lt512.false c.figures_held.ensures c.if-not-figures_held.false
+returns c = judged_accepted _ _ c.requires _ c.loop-i.invariant (omega arith) (c.is_empty.ensures.0 c.if-not-is_empty.false) c.figures_held.ensures c.if-not-figures_held.false

@@ -1,17 +1,13 @@
--- `print::put_all` meets its contract. The loop's invariant: the bytes passed are written. Assumes nothing.
-use mathlib.Core.Path.{refl}
-use native.Mathlib.Omega.{arith}
-use lib.ListN.{length-set}
+-- `print::put_all` meets its contract. Assumes nothing.
+use Rattle.std.proofs.Common.{refl, arith}
 use Rattle.print.proofs.Writing.{wrote_more, wrote_all}
 use Rattle.print.proofs.put_all.Goals as goal
 
 pub loop-i-init : goal.loop-i-init
-loop-i-init c = let z = c.args in (omega arith, refl, record { is = refl; behind = omega arith; room = omega arith })
+loop-i-init g c = record { is = refl; behind = omega arith; room = omega arith }
 
 pub loop-i-preserved : goal.loop-i-preserved
-loop-i-preserved c =
-    let l = c.loop-i in
-    (omega arith, simp length-set l.invariant.1, wrote_more c.args.bytes.now l.i l.invariant.2 (omega arith) (omega arith))
+loop-i-preserved g c = wrote_more _ _ _ c.index-items-i.is c.loop-i.invariant (omega arith) c.loop-i-test.true
 
 pub returns : goal.returns
-returns c = let l = c.loop-i in wrote_all c.args.bytes.now l.i l.invariant.2 (omega arith)
+returns g c = wrote_all _ c.loop-i.i (omega arith) c.loop-i.invariant

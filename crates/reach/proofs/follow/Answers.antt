@@ -1,7 +1,6 @@
--- `reach::follow` meets its contract. Assumes nothing.
-use Rattle.index.proofs.Parts.{cleared_zeros}
+-- `follow` meets its contract.
 use Rattle.reach.proofs.Visiting.{followed}
 use Rattle.reach.proofs.follow.Goals as goal
 
 pub returns : goal.returns
-returns c = followed c.args.a.now c.requires.0 c.args.c (cleared_zeros 8) c.insert_named-edges.ensures c.absorb.ensures
+returns c = followed c.args.a.now c.requires c.args.c _ _ c.empty-named.ensures c.insert_named-edges.ensures c.absorb.ensures

@@ -1,34 +1,29 @@
--- `reach::mark_closure` meets its contract: each pass but the last marks a condition, and there are 512. Assumes nothing.
-use mathlib.Core.Path.{◌∙◌, sym}
+-- `mark_closure` meets its contract: each pass but the last marks a condition, and there are 512.
 use native.Mathlib.Omega.{arith}
 use Rattle.semantics.specs.Area.{page_of}
 use Rattle.semantics.specs.Table.{member}
+use Rattle.page.proofs.Solvable.{solvable_proper}
 use Rattle.reach.proofs.Closing.{spreading_first, spreading_next, spreading_last}
 use Rattle.reach.proofs.Inserting.{size_most}
 use Rattle.reach.proofs.Naming.{queries_few}
-use Rattle.page.proofs.Solvable.{solvable_proper}
 use Rattle.reach.proofs.mark_closure.Goals as goal
 
-pub mark_queries-requires : goal.mark_queries-requires
-mark_queries-requires c = (queries_few c.args.a.now c.requires.0 c.args.queries.now c.requires.1, c.requires.2.0)
+pub insert_queries-requires : goal.insert_queries-requires
+insert_queries-requires c = queries_few c.args.a.now c.requires.0 c.args.queries.now c.requires.1
 
 pub loop-init : goal.loop-init
 unfolding page_of
-loop-init c = spreading_first (page_of c.args.a.now) c.args.queries.now (solvable_proper c.args.a.now c.requires.0) c.requires.1 c.requires.2 c.mark_queries.ensures
+loop-init c =
+    let i = c.insert_queries in
+    spreading_first (page_of c.args.a.now) c.args.queries.now (solvable_proper c.args.a.now c.requires.0) c.requires.1 _ _ c.requires.2 i.ensures i.array_long
 
-pub sweep-requires : goal.sweep-requires
-sweep-requires c = (c.requires.0, c.loop.invariant.size)
+pub loop-preserved : goal.loop-preserved
+unfolding page_of
+loop-preserved c = spreading_next (page_of c.args.a.now) c.args.queries.now (solvable_proper c.args.a.now c.requires.0) c.requires.1 c.loop.invariant c.sweep.ensures c.sweep.array_long
 
 pub loop-smaller : goal.loop-smaller
 loop-smaller c = omega (arith, c.sweep.ensures.counted, size_most 512 (member c.sweep.new.marks))
 
-pub loop-preserved : goal.loop-preserved
-unfolding page_of
-loop-preserved c = spreading_next (page_of c.args.a.now) c.args.queries.now (solvable_proper c.args.a.now c.requires.0) c.requires.1 c.loop.invariant c.sweep.ensures
-
-pub shape_of-marks : goal.shape_of-marks
-shape_of-marks c = c.sweep.ensures.size ∙ sym c.requires.2.0
-
 pub returns : goal.returns
 unfolding page_of
-returns c = spreading_last (page_of c.args.a.now) c.args.queries.now (solvable_proper c.args.a.now c.requires.0) c.requires.1 c.loop.invariant c.sweep.ensures (omega arith)
+returns c = spreading_last (page_of c.args.a.now) c.args.queries.now (solvable_proper c.args.a.now c.requires.0) c.requires.1 c.loop.invariant c.sweep.ensures c.sweep.array_long (omega arith)

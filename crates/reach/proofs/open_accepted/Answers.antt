@@ -1,30 +1,19 @@
--- `reach::open_accepted` meets its contract: R, E, the bound and the passes are those of the closure, and the run area holds its marks. Assumes nothing.
-use native.Mathlib.Omega.{arith}
+-- `open_accepted` meets its contract: R, E, the bound and the passes are those of the closure, and the run area holds its marks.
 use Rattle.semantics.specs.Area.{page_of}
 use Rattle.page.proofs.Head.{head_of}
-use Rattle.page.proofs.Scan.{solvable_head}
 use Rattle.reach.proofs.Counting.{counted_few}
 use Rattle.reach.proofs.Marking.{unmarked, closure_marks}
 use Rattle.reach.proofs.Writing.{accepted_answer, accepted_run}
 use Rattle.reach.proofs.open_accepted.Goals as goal
 
-pub bounds-page-0 : goal.bounds-page-0
-bounds-page-0 c = omega (arith, solvable_head c.args.page.now c.requires.0)
-
-pub bounds-page-1 : goal.bounds-page-1
-bounds-page-1 c = omega (arith, solvable_head c.args.page.now c.requires.0)
-
 pub mark_set-requires : goal.mark_set-requires
-mark_set-requires c = (c.find-closure.ensures.found.set.size, (head_of c.args.page.now c.requires.0).few, unmarked)
-
-pub write_run-requires : goal.write_run-requires
-write_run-requires c = (c.requires.2, omega (arith, (head_of c.args.page.now c.requires.0).few, c.mark_set.ensures.size))
+mark_set-requires c = ((head_of c.args.page.now c.requires.0).few, unmarked)
 
 pub bound_of-requires : goal.bound_of-requires
 unfolding page_of
 bound_of-requires c =
     let h = head_of c.args.page.now c.requires.0 in
-    let f = counted_few _ _ c.find-closure.ensures.counted h.few in
+    let f = counted_few _ _ c.find-found.ensures.counted h.few in
     (f.0, h.top_most, f.1)
 
 pub returns : goal.returns
@@ -32,7 +21,7 @@ unfolding page_of
 returns c =
     let a = c.args.page.now in
     let few = (head_of a c.requires.0).few in
-    let f = c.find-closure.ensures in
+    let f = c.find-found.ensures in
     record {
       answer = accepted_answer a c.args.queries.now c.args.run.now few f.found f.counted c.bound_of.ensures;
       left = accepted_run a c.args.queries.now c.args.run.now (closure_marks (page_of a) c.args.queries.now few f.found.set c.mark_set.ensures) c.requires.2 c.write_run.ensures;

@@ -1,5 +1,4 @@
--- `reach::pass` meets its contract: each turn makes one fresh condition more that is done, and there are at most C. Assumes nothing.
-use mathlib.Core.Path.{sym, ◌∙◌}
+-- `pass` meets its contract.
 use native.Mathlib.Omega.{arith}
 use Rattle.semantics.specs.Area.{page_of, conditions_of}
 use Rattle.semantics.specs.Page.{names}
@@ -8,56 +7,35 @@ use Rattle.reach.proofs.Inserting.{size_most}
 use Rattle.reach.proofs.Passing.{following_first, following_next, following_few, following_last}
 use Rattle.reach.proofs.pass.Goals as goal
 
-pub loop-reached-init : goal.loop-reached-init
-loop-reached-init c = following_first (page_of c.args.a.now) c.args.fresh.now c.args.found.now c.requires.1.0 c.requires.2 c.requires.3 c.requires.4
-
-pub lowest_in-c-requires : goal.lowest_in-c-requires
-lowest_in-c-requires c = c.loop-reached.invariant.rest_size
-
-pub shape_of-fresh-then-c-ge512 : goal.shape_of-fresh-then-c-ge512
-shape_of-fresh-then-c-ge512 c = c.loop-reached.invariant.rest_size ∙ sym c.requires.1.0
-
-pub shape_of-found-then-c-ge512 : goal.shape_of-found-then-c-ge512
-shape_of-found-then-c-ge512 c = c.loop-reached.invariant.found_size ∙ sym c.requires.2
-
-pub shape_of-new-then-c-ge512 : goal.shape_of-new-then-c-ge512
-shape_of-new-then-c-ge512 c = c.loop-reached.invariant.new_size ∙ sym c.requires.3
-
-pub returns-then-c-ge512 : goal.returns-then-c-ge512
-unfolding page_of
-returns-then-c-ge512 c =
-    let t = following_last (page_of c.args.a.now) c.args.fresh.now c.args.found.now (head_of c.args.a.now c.requires.0).few c.loop-reached.invariant (λ k l. c.lowest_in-c.ensures.below k (omega arith)) in
-    record { passed = t.0; counted = t.1 }
-
-pub remove-requires : goal.remove-requires
-remove-requires c = (c.loop-reached.invariant.rest_size, omega arith)
-
-pub follow-edges-requires : goal.follow-edges-requires
-follow-edges-requires c = let h = c.loop-reached.invariant in (c.requires.0, h.found_size, h.new_size)
+pub loop-c-init : goal.loop-c-init
+loop-c-init c = following_first (page_of c.args.a.now) c.args.fresh.now.words c.args.found.now.words c.requires.2
 
 pub overflow_add-edges : goal.overflow_add-edges
 unfolding page_of
 overflow_add-edges c =
-    omega (arith, (following_few (page_of c.args.a.now) c.args.fresh.now c.args.found.now (head_of c.args.a.now c.requires.0).few c.loop-reached.invariant).1, c.follow-edges.ensures.edges_is, size_most (conditions_of c.args.a.now) (names (page_of c.args.a.now) c.lowest_in-c.result), (head_of c.args.a.now c.requires.0).few)
+    omega (arith, (following_few (page_of c.args.a.now) _ _ (head_of c.args.a.now c.requires.0).few c.loop-c.invariant).1, c.follow-edges.ensures.edges_is, size_most (conditions_of c.args.a.now) (names (page_of c.args.a.now) c.in-Some.c), (head_of c.args.a.now c.requires.0).few)
 
 pub overflow_add-reached : goal.overflow_add-reached
 unfolding page_of
-overflow_add-reached c = omega (arith, (following_few (page_of c.args.a.now) c.args.fresh.now c.args.found.now (head_of c.args.a.now c.requires.0).few c.loop-reached.invariant).0, (head_of c.args.a.now c.requires.0).few)
+overflow_add-reached c = omega (arith, (following_few (page_of c.args.a.now) _ _ (head_of c.args.a.now c.requires.0).few c.loop-c.invariant).0, (head_of c.args.a.now c.requires.0).few)
 
-pub loop-reached-smaller : goal.loop-reached-smaller
+pub loop-c-preserved : goal.loop-c-preserved
 unfolding page_of
-loop-reached-smaller c =
-    let h = c.loop-reached.invariant in
-    let m = c.lowest_in-c in
-    let waits = m.ensures.found (omega arith) in
-    let f = following_next (page_of c.args.a.now) c.args.fresh.now c.args.found.now (head_of c.args.a.now c.requires.0).few h m.result _ c.remove.new.words _ _ (c.requires.1.1 m.result (omega arith) (h.inside m.result (omega arith) waits)) waits c.remove.ensures c.follow-edges.ensures in
-    omega (arith, (following_few (page_of c.args.a.now) c.args.fresh.now c.args.found.now (head_of c.args.a.now c.requires.0).few f).0)
+loop-c-preserved c =
+    let h = c.loop-c.invariant in
+    let m = c.in-Some.ensures.0 in
+    following_next (page_of c.args.a.now) _ _ (head_of c.args.a.now c.requires.0).few h c.in-Some.c _ c.remove.new.self.words _ _ (c.requires.1 c.in-Some.c m.within (h.inside c.in-Some.c m.within m.found)) m.found c.remove.ensures c.follow-edges.ensures
 
-pub loop-reached-preserved : goal.loop-reached-preserved
+pub loop-c-smaller : goal.loop-c-smaller
 unfolding page_of
-loop-reached-preserved c =
-    let h = c.loop-reached.invariant in
-    let m = c.lowest_in-c in
-    let waits = m.ensures.found (omega arith) in
-    let f = following_next (page_of c.args.a.now) c.args.fresh.now c.args.found.now (head_of c.args.a.now c.requires.0).few h m.result _ c.remove.new.words _ _ (c.requires.1.1 m.result (omega arith) (h.inside m.result (omega arith) waits)) waits c.remove.ensures c.follow-edges.ensures in
-    f
+loop-c-smaller c =
+    let h = c.loop-c.invariant in
+    let m = c.in-Some.ensures.0 in
+    let f = following_next (page_of c.args.a.now) _ _ (head_of c.args.a.now c.requires.0).few h c.in-Some.c _ c.remove.new.self.words _ _ (c.requires.1 c.in-Some.c m.within (h.inside c.in-Some.c m.within m.found)) m.found c.remove.ensures c.follow-edges.ensures in
+    omega (arith, (following_few (page_of c.args.a.now) _ _ (head_of c.args.a.now c.requires.0).few f).0)
+
+pub returns : goal.returns
+unfolding page_of
+returns c =
+    let t = following_last (page_of c.args.a.now) _ _ (head_of c.args.a.now c.requires.0).few c.loop-c.invariant c.in_default.ensures in
+    record { passed = t.0; counted = t.1 }

@@ -1,12 +1,7 @@
--- `reach::sweep` meets its contract: the lines behind are passed. Assumes nothing.
+-- `sweep` meets its contract. The loop's invariant: what the passed lines of marked conditions name is marked.
 use mathlib.Core.Path.{◌≡◌}
-use Prim.Native.Nat.{◌+◌}
-use Rattle.semantics.specs.Area.{count_of}
 use Rattle.reach.proofs.Sweeping.{Sweeping}
 use Rattle.reach.proofs.sweep.Given as goal
 
-abbrev pub invariant-loop-left : goal.invariant-loop-left
-invariant-loop-left l = (l.line.passed + l.left ≡ count_of l.a) × Sweeping l.a l.initial.marks l.marks l.line.at l.line.passed l.new
-
-abbrev pub decreases-loop-left : goal.decreases-loop-left
-decreases-loop-left l = l.left
+abbrev pub invariant-loop-at : goal.invariant-loop-at
+invariant-loop-at l = (l.at-iterator.numbers.now ≡ l.a) × Sweeping l.a l.initial.marks l.marks l.at-iterator.at l.at-iterator.passed l.new

@@ -1,10 +1,6 @@
 -- `fall` lowers one condition after the other (`Falling`).
-use Prim.Native.Nat.{◌-◌}
 use Rattle.rounds.proofs.Falling.{Falling}
 use Rattle.rounds.proofs.fall.Given as goal
 
 abbrev pub invariant-loop-c : goal.invariant-loop-c
-invariant-loop-c l = Falling l.a l.marks l.users l.next l.initial.scratch l.initial.words l.scratch l.words l.fell l.c
-
-abbrev pub decreases-loop-c : goal.decreases-loop-c
-decreases-loop-c l = l.n - l.c
+invariant-loop-c l = Falling l.a l.marks l.users l.next l.initial.scratch l.initial.words.words l.scratch l.words.words l.fell l.c

@@ -1,33 +1,13 @@
 -- `negation_stale` looks at one line after the other (`Searching`).
-use native.Mathlib.Omega.{arith}
-use Rattle.page.proofs.Head.{head_of}
-use Rattle.settle.proofs.Raising.{line_entry}
-use Rattle.rounds.proofs.Stale.{searching_first, search_line, searching_next, searching_last, searched_found}
+use Rattle.page.proofs.Steps.{stepped, passed_all}
+use Rattle.rounds.proofs.Stale.{searching_first, searching_next, searching_last}
 use Rattle.rounds.proofs.negation_stale.Goals as goal
 
-pub bounds-a-2 : goal.bounds-a-2
-bounds-a-2 c = omega (arith, head_of c.args.a.now c.requires.page_solvable)
+pub loop-at-init : goal.loop-at-init
+loop-at-init c = let b = c.of-at-items.ensures in rw c.into_iter-at-iterator.ensures.into_iter_gives (b.same, searching_first c.requires b.place b.count)
 
-pub first-line-requires : goal.first-line-requires
-first-line-requires c = (head_of c.args.a.now c.requires.page_solvable).four
-
-pub loop-line-init : goal.loop-line-init
-loop-line-init c = searching_first c.requires c.first-line.ensures
-
-pub line_stale-requires : goal.line_stale-requires
-line_stale-requires c = (c.requires, search_line c.loop-line.invariant (omega arith))
-
-pub returns-then-line_stale : goal.returns-then-line_stale
-returns-then-line_stale c = searched_found _ _ c.line_stale.ensures c.if-line_stale.true
-
-pub next-line-requires : goal.next-line-requires
-next-line-requires c = (line_entry _ c.requires.page_solvable (search_line c.loop-line.invariant (omega arith)), omega (arith, head_of c.args.a.now c.requires.page_solvable))
-
-pub loop-line-smaller : goal.loop-line-smaller
-loop-line-smaller c = omega (arith, c.next-line.ensures.count)
-
-pub loop-line-preserved : goal.loop-line-preserved
-loop-line-preserved c = searching_next c.loop-line.invariant (omega arith) c.line_stale.ensures c.if-line_stale.false c.next-line.ensures
+pub loop-at-preserved : goal.loop-at-preserved
+loop-at-preserved c = let s = stepped c.loop-at.invariant.0 c.in-Some.ensures.steps in (s.same, searching_next c.loop-at.invariant.1 s.more (rw s.here at c.line_stale.ensures) c.if-line_stale.false s.next)
 
 pub returns : goal.returns
-returns c = searching_last c.loop-line.invariant (omega arith)
+returns c = searching_last c.loop-at.invariant.1 (passed_all c.loop-at.invariant.0 c.in-None.ensures.steps)

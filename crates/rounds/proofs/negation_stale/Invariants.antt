@@ -1,10 +1,7 @@
 -- `negation_stale` looks at one line after the other (`Searching`).
-use Prim.Native.Nat.{◌-◌}
+use mathlib.Core.Path.{◌≡◌}
 use Rattle.rounds.proofs.Stale.{Searching}
 use Rattle.rounds.proofs.negation_stale.Given as goal
 
-abbrev pub invariant-loop-line : goal.invariant-loop-line
-invariant-loop-line l = Searching l.a l.scratch l.line.at l.line.passed
-
-abbrev pub decreases-loop-line : goal.decreases-loop-line
-decreases-loop-line l = l.count - l.line.passed
+abbrev pub invariant-loop-at : goal.invariant-loop-at
+invariant-loop-at l = (l.at-iterator.numbers.now ≡ l.a) × Searching l.a l.scratch l.at-iterator.at l.at-iterator.passed

@@ -1,10 +1,6 @@
 -- `start_lows` negates one condition after the other (`StartingLows`).
-use Prim.Native.Nat.{◌-◌}
 use Rattle.rounds.proofs.Starting.{StartingLows}
 use Rattle.rounds.proofs.start_lows.Given as goal
 
 abbrev pub invariant-loop-c : goal.invariant-loop-c
-invariant-loop-c l = StartingLows l.a l.users l.initial.scratch l.initial.words l.scratch l.words l.c
-
-abbrev pub decreases-loop-c : goal.decreases-loop-c
-decreases-loop-c l = l.n - l.c
+invariant-loop-c l = StartingLows l.a l.users l.initial.scratch l.initial.words.words l.scratch l.words.words l.c

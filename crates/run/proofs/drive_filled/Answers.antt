@@ -1,8 +1,6 @@
 -- `run::drive_filled` meets its contract. Assumes nothing.
-use mathlib.Core.Path.{refl}
 use native.Mathlib.Omega.{arith}
 use Rattle.page.proofs.Head.{head_of}
-use Rattle.index.proofs.Parts.{cleared_zeros}
 use Rattle.worklist.proofs.Evaluation.{long_of, graded_of, marks_of}
 use Rattle.run.proofs.drive_filled.Goals as goal
 
@@ -18,12 +16,11 @@ fill-requires c = (graded_of c.args.a.now c.args.run.now c.requires.0 c.requires
 pub bounds-a-1-2 : goal.bounds-a-1-2
 bounds-a-1-2 c = omega (arith, head_of c.args.a.now c.requires.0)
 
-pub fill_words-requires : goal.fill_words-requires
-fill_words-requires c =
-    (long_of c.args.a.now c.args.run.now c.requires.1, (head_of c.args.a.now c.requires.0).few, refl, cleared_zeros 8, marks_of c.args.a.now c.args.run.now c.requires.1)
+pub waiting_set-waiting-requires : goal.waiting_set-waiting-requires
+waiting_set-waiting-requires c =
+    (long_of c.args.a.now c.args.run.now c.requires.1, (head_of c.args.a.now c.requires.0).few, marks_of c.args.a.now c.args.run.now c.requires.1)
 
 pub drive_steps-requires : goal.drive_steps-requires
 drive_steps-requires c =
     let f = c.fill in
-    let w = c.fill_words.ensures in
-    (c.requires.0, c.requires.1, c.requires.2, c.requires.3, record { size = w.size; long = omega (arith, c.requires.4, f.auto.values); table = f.ensures }, w)
+    (c.requires.0, c.requires.1, c.requires.2, c.requires.3, record { long = omega (arith, c.requires.4, f.auto.values); table = f.ensures }, c.waiting_set-waiting.ensures)

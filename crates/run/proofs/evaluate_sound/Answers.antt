@@ -1,52 +1,39 @@
 -- `run::evaluate_sound` meets its contract. Assumes nothing.
-use mathlib.Core.Path.{sym, ◌∙◌, ap}
-use mathlib.Core.Bool.{Bool, cond}
+use mathlib.Core.Path.{refl}
 use native.Mathlib.Omega.{arith}
-use Rattle.semantics.specs.Call.{evaluate, changed, unchanged}
+use Rattle.semantics.specs.Call.{evaluate}
+use Rattle.std.proofs.lemmas.Result.{err_from_is_err_and}
 use Rattle.worklist.proofs.Evaluation.{long_of}
-use Rattle.page.proofs.Head.{head_of}
-use Rattle.run.proofs.Answering.{refused_14, evaluate_15, evaluate_16, evaluate_answers}
 use Rattle.page.proofs.Solvable.{sound_solvable}
+use Rattle.run.proofs.Answering.{refused_14, evaluate_15, evaluate_16, evaluate_answers}
 use Rattle.run.proofs.evaluate_sound.Goals as goal
 
-pub run_sound-requires : goal.run_sound-requires
-run_sound-requires c = sound_solvable c.args.page.now c.requires
+pub returns-in_err-check_run : goal.returns-in_err-check_run
+returns-in_err-check_run c =
+    let p = err_from_is_err_and c.from_residual.result c.from_residual.ensures.1 in
+    let f = c.in_err-check_run.ensures in
+    rw (p.1, p.2, f.0) (refused_14 _ _ c.requires f.1 (evaluate c.args.condition))
 
-pub returns-then-not-run_sound : goal.returns-then-not-run_sound
-returns-then-not-run_sound c =
-    refused_14 c.args.page.now c.args.run.now c.requires (sym c.run_sound.ensures ∙ c.if-not-run_sound.true) (evaluate c.args.condition)
-
-pub bounds-page-1 : goal.bounds-page-1
-bounds-page-1 c = omega (arith, head_of c.args.page.now (sound_solvable c.args.page.now c.requires))
-
-pub overflow_cast-n : goal.overflow_cast-n
-overflow_cast-n c = omega (arith, head_of c.args.page.now (sound_solvable c.args.page.now c.requires))
-
-pub returns-then-n-condition : goal.returns-then-n-condition
-returns-then-n-condition c =
-    evaluate_15 c.args.page.now c.args.run.now c.requires (sym c.run_sound.ensures ∙ c.if-not-run_sound.false) c.args.condition c.if-n-condition.true
-
-pub overflow_cast-c : goal.overflow_cast-c
-overflow_cast-c c = omega (arith, head_of c.args.page.now (sound_solvable c.args.page.now c.requires))
+pub returns-in_err-c : goal.returns-in_err-c
+returns-in_err-c c =
+    let p = err_from_is_err_and c.from_residual-in_err-c.result c.from_residual-in_err-c.ensures.1 in
+    let f = c.in_err-c.ensures in
+    rw (p.1, p.2, f.0) (evaluate_15 _ _ c.requires c.in_ok-check_run.ensures c.args.condition f.1)
 
 pub bounds-run-c : goal.bounds-run-c
-bounds-run-c c =
-    omega (arith, long_of c.args.page.now c.args.run.now (sym c.run_sound.ensures ∙ c.if-not-run_sound.false))
+bounds-run-c c = omega (arith, long_of c.args.page.now c.args.run.now c.in_ok-check_run.ensures, c.in_ok-c.ensures)
 
-pub returns-then-run-c-ne2 : goal.returns-then-run-c-ne2
-returns-then-run-c-ne2 c =
-    evaluate_16 c.args.page.now c.args.run.now c.requires (sym c.run_sound.ensures ∙ c.if-not-run_sound.false) c.args.condition (omega arith) c.if-run-c-ne2.true
+pub returns-then-not-waits : goal.returns-then-not-waits
+returns-then-not-waits c =
+    let i = c.in_ok-c.ensures in
+    evaluate_16 _ _ c.requires c.in_ok-check_run.ensures c.args.condition i.1 (rw i.0 at c.if-not-waits.true)
 
-pub evaluate_waiting-told-requires : goal.evaluate_waiting-told-requires
-evaluate_waiting-told-requires c =
-    (sound_solvable c.args.page.now c.requires, (sym c.run_sound.ensures ∙ c.if-not-run_sound.false), omega arith, omega arith)
-
-pub returns-then-told : goal.returns-then-told
-returns-then-told c =
-    evaluate_answers c.args.page.now c.args.run.now c.requires (sym c.run_sound.ensures ∙ c.if-not-run_sound.false) c.args.condition (omega arith) (omega arith) c.evaluate_waiting-told.ensures
-    (ap (λ (t : Bool). cond t changed unchanged c.evaluate_waiting-told.result.line) c.if-told.true)
+pub evaluate_waiting-requires : goal.evaluate_waiting-requires
+evaluate_waiting-requires c =
+    let i = c.in_ok-c.ensures in
+    (sound_solvable c.args.page.now c.requires, c.in_ok-check_run.ensures, rw i.0 i.1, c.if-not-waits.false)
 
 pub returns : goal.returns
 returns c =
-    evaluate_answers c.args.page.now c.args.run.now c.requires (sym c.run_sound.ensures ∙ c.if-not-run_sound.false) c.args.condition (omega arith) (omega arith) c.evaluate_waiting-told.ensures
-    (ap (λ (t : Bool). cond t changed unchanged c.evaluate_waiting-told.result.line) c.if-told.false)
+    let i = c.in_ok-c.ensures in
+    evaluate_answers _ _ c.requires c.in_ok-check_run.ensures c.args.condition i.1 (rw i.0 at c.if-not-waits.false) (rw i.0 at c.evaluate_waiting.ensures) refl

@@ -21,7 +21,7 @@ held-before-requires c = omega (arith, long_of c.args.page.now c.args.run.now c.
 
 pub step-changed-requires : goal.step-changed-requires
 step-changed-requires c =
-    (c.requires.0, c.requires.1, c.requires.2, c.requires.3, inl refl, inl refl, record { size = refl; long = omega (arith, head_of c.args.page.now c.requires.0, c.fill.auto.values); table = c.fill.ensures })
+    (c.requires.0, c.requires.1, c.requires.2, c.requires.3, inl refl, inl refl, record { long = omega (arith, head_of c.args.page.now c.requires.0, c.fill.auto.values); table = c.fill.ensures })
 
 pub line_told-line-requires : goal.line_told-line-requires
 line_told-line-requires c =

@@ -31,14 +31,14 @@ loop-i-init c =
     let s = c.args.pairs.now in
     let a = season_accepted s c.requires in
     let g = good_at s 0 (omega (arith, a.least)) a.good in
-    rw c.first-sums.ensures (omega arith, a.least, begun_small (pair_at s 0) g.0 g.1, sums_start s (omega (arith, a.least)))
+    rw c.first-sums.ensures (begun_small (pair_at s 0) g.0 g.1, sums_start s (omega (arith, a.least)))
 
 pub add-sums-requires : goal.add-sums-requires
 add-sums-requires c =
     let s = c.args.pairs.now in
     let a = season_accepted s c.requires in
     let g = good_at s c.loop-i.i (omega arith) a.good in
-    (small_more c.loop-i.i 4095 c.loop-i.sums (omega (arith, a.most)) c.loop-i.invariant.2, low_before s c.loop-i.i c.loop-i.invariant.0 (omega arith) a.good, g.0, g.1)
+    (small_more c.loop-i.i 4095 c.loop-i.sums (omega (arith, a.most)) c.loop-i.invariant.0, low_before s c.loop-i.i (omega arith) (omega arith) a.good, g.0, g.1)
 
 pub loop-i-preserved : goal.loop-i-preserved
 loop-i-preserved c =
@@ -49,14 +49,12 @@ loop-i-preserved c =
     let g = good_at s i (omega arith) a.good in
     let x = get_or s (2 * i - 2) 0 in
     rw (c.add-sums.ensures, f) (
-      omega arith,
-      omega arith,
-      grown_small i c.loop-i.sums x (pair_at s i) c.loop-i.invariant.2 (low_before s i c.loop-i.invariant.0 (omega arith) a.good) g.0 g.1,
-      c.loop-i.invariant.3 ∙ sums_step s c.loop-i.sums x i (omega arith),
+      grown_small i c.loop-i.sums x (pair_at s i) c.loop-i.invariant.0 (low_before s i (omega arith) (omega arith) a.good) g.0 g.1,
+      c.loop-i.invariant.1 ∙ sums_step s c.loop-i.sums x i (omega arith),
     )
 
 pub returns : goal.returns
 returns c =
     let s = c.args.pairs.now in
     let a = season_accepted s c.requires in
-    (sym (c.loop-i.invariant.3 ∙ sums_end s c.loop-i.sums (get_or s (2 * c.loop-i.i - 2) 0) c.loop-i.i (omega arith)), small_more c.loop-i.i 4096 c.loop-i.sums (omega (arith, a.most)) c.loop-i.invariant.2)
+    (sym (c.loop-i.invariant.1 ∙ sums_end s c.loop-i.sums (get_or s (2 * c.loop-i.i - 2) 0) c.loop-i.i (omega arith)), small_more c.loop-i.i 4096 c.loop-i.sums (omega (arith, a.most)) c.loop-i.invariant.0)

@@ -1,14 +1,16 @@
--- `wake` finds where the groups begin. Assumes nothing.
-use mathlib.Core.Path.{refl}
+-- `wake` inserts the heads of the group of the literal.
 use native.Mathlib.Omega.{arith}
-use Rattle.page.proofs.Head.{head_of}
+use Rattle.settle.proofs.Waking.{joined_next, heads_inside, heads_small, woken_by}
 use Rattle.settle.proofs.wake.Goals as goal
 
-pub bounds-a-1 : goal.bounds-a-1
-bounds-a-1 c = omega (arith, head_of c.args.a.now c.requires.0)
+pub slice_bounds-group-end : goal.slice_bounds-group-end
+slice_bounds-group-end c = omega (arith, heads_inside _ c.requires.0 _ c.requires.1 _ c.requires.2)
 
-pub wake_group-requires : goal.wake_group-requires
-wake_group-requires c = (c.requires.0, c.requires.1, c.requires.2, c.requires.3, refl)
+pub insert-requires : goal.insert-requires
+insert-requires c = heads_small _ c.requires.0 _ c.requires.1 _ c.requires.2 c.loop-h.h-index (omega arith)
+
+pub loop-h-preserved : goal.loop-h-preserved
+loop-h-preserved c = joined_next (λ j l. heads_small _ c.requires.0 _ c.requires.1 _ c.requires.2 j (omega (arith, l))) c.loop-h.invariant c.insert.ensures.set
 
 pub returns : goal.returns
-returns c = c.wake_group.ensures
+returns c = woken_by _ c.requires.0 _ c.requires.1 _ c.requires.2 (omega arith) c.requires.3 c.loop-h.invariant

@@ -1,40 +1,19 @@
 -- `solve::note_queries` meets its contract: a turn passes one line (`Noting`). Assumes nothing.
-use mathlib.Core.Path.{sym, ◌∙◌}
 use native.Mathlib.Omega.{arith}
 use Rattle.page.proofs.Head.{head_of}
-use Rattle.page.proofs.Scanning.{entry_ok, room, entry_here}
+use Rattle.page.proofs.Scanning.{entry_ok, room}
+use Rattle.page.proofs.Steps.{stepped, passed_all}
 use Rattle.solve.proofs.Noting.{noting_first, noting_few, noting_next, noting_last}
 use Rattle.solve.proofs.note_queries.Goals as goal
 
-pub bounds-page-2 : goal.bounds-page-2
-bounds-page-2 c = omega (arith, head_of c.args.page.now c.requires.0)
-
-pub first-line-requires : goal.first-line-requires
-first-line-requires c = (head_of c.args.page.now c.requires.0).four
-
 pub loop-line-init : goal.loop-line-init
-loop-line-init c = noting_first c.args.page.now c.args.queries.now c.requires.0 c.requires.1 c.first-line.ensures
+loop-line-init c = let b = c.of-line-items.ensures in rw c.into_iter-line-iterator.ensures.into_iter_gives (b.same, noting_first c.args.page.now c.args.queries.now c.requires.0 c.requires.1 b.place b.count)
 
 pub note_query-k-requires : goal.note_query-k-requires
-note_query-k-requires c =
-    let a = c.args.page.now in
-    let p = c.loop-line.invariant in
-    (room a p.scan (omega arith), entry_ok a p.scan (omega arith), omega (arith, noting_few a p, p.width, (head_of a c.requires.0).count))
-
-pub next-line-requires : goal.next-line-requires
-next-line-requires c =
-    let a = c.args.page.now in
-    (entry_here a c.loop-line.invariant.scan (omega arith), omega (arith, head_of a c.requires.0))
-
-pub loop-line-smaller : goal.loop-line-smaller
-loop-line-smaller c = omega (arith, c.next-line.ensures.count)
+note_query-k-requires c = let a = c.args.page.now in let p = c.loop-line.invariant.1 in let s = stepped c.loop-line.invariant.0 c.in-Some.ensures.steps in rw s.here (room a p.scan s.more, entry_ok a p.scan s.more, omega (arith, s.more, noting_few a p, p.width, (head_of a c.requires.0).count))
 
 pub loop-line-preserved : goal.loop-line-preserved
-loop-line-preserved c =
-    noting_next c.args.page.now c.loop-line.invariant (omega arith) c.note_query-k.ensures c.next-line.ensures
-
-pub shape_of-queries : goal.shape_of-queries
-shape_of-queries c = c.loop-line.invariant.width ∙ sym c.requires.1
+loop-line-preserved c = let p = c.loop-line.invariant.1 in let s = stepped c.loop-line.invariant.0 c.in-Some.ensures.steps in (s.same, noting_next c.args.page.now p s.more (rw s.here at c.note_query-k.ensures) s.next)
 
 pub returns : goal.returns
-returns c = noting_last c.args.page.now c.loop-line.invariant c.requires.0 (omega arith)
+returns c = noting_last c.args.page.now c.loop-line.invariant.1 c.requires.0 (passed_all c.loop-line.invariant.0 c.in-None.ensures.steps)

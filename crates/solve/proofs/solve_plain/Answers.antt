@@ -28,12 +28,12 @@ drive_built-requires c =
     let a = c.args.page.now in
     (c.requires.0, opened_sound a c.requires.0 c.args.queries.now c.requires.1 _ (omega (arith, (head_of a c.requires.0).few)) c.mark_closure.ensures c.write_run.ensures, length-take-le _ _ (omega (arith, c.requires.2, c.index_length-m.ensures.1)) ∙ c.index_length-m.ensures.0)
 
-pub write_held-requires : goal.write_held-requires
-write_held-requires c =
+pub write_ends-requires : goal.write_ends-requires
+write_ends-requires c =
     let a = c.args.page.now in
     (λ k l. omega (arith, under_at (conditions_of a) c.args.queries.now c.requires.1 k l, (head_of a c.requires.0).few, c.drive_built.auto.run), c.requires.3)
 
 pub returns : goal.returns
 returns c =
     let a = c.args.page.now in
-    plain_solved a c.requires.0 c.args.queries.now c.requires.1 _ (omega (arith, (head_of a c.requires.0).few)) c.mark_closure.ensures c.write_run.ensures c.args.answers.now _ c.drive_built.ensures c.write_held.ensures
+    plain_solved a c.requires.0 c.args.queries.now c.requires.1 _ (omega (arith, (head_of a c.requires.0).few)) c.mark_closure.ensures c.write_run.ensures c.args.answers.now _ c.drive_built.ensures c.write_ends.ensures

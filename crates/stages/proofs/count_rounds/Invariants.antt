@@ -3,8 +3,8 @@ use Prim.Native.Nat.{◌-◌}
 use Rattle.stages.proofs.Counting.{Rounding}
 use Rattle.stages.proofs.count_rounds.Given as goal
 
-abbrev pub invariant-loop-k : goal.invariant-loop-k
-invariant-loop-k l = Rounding l.a l.marks l.users l.initial.tops l.tops l.initial.scratch l.scratch l.look l.lows l.k
+abbrev pub invariant-loop-look : goal.invariant-loop-look
+invariant-loop-look l = Rounding l.a l.marks l.users l.initial.tops l.tops l.initial.scratch l.scratch l.look.words l.lows.words l.k
 
-abbrev pub decreases-loop-k : goal.decreases-loop-k
-decreases-loop-k l = 102400 - l.k
+abbrev pub decreases-loop-look : goal.decreases-loop-look
+decreases-loop-look l = 102400 - l.k

@@ -1,10 +1,6 @@
 -- `lower_free` lowers one free condition after the other (`Freeing`).
-use Prim.Native.Nat.{◌-◌}
 use Rattle.stages.proofs.Freeing.{Freeing}
 use Rattle.stages.proofs.lower_free.Given as goal
 
 abbrev pub invariant-loop-c : goal.invariant-loop-c
-invariant-loop-c l = Freeing l.a l.users l.marks l.tops l.initial.scratch l.scratch l.initial.look l.look l.lowered l.any l.c
-
-abbrev pub decreases-loop-c : goal.decreases-loop-c
-decreases-loop-c l = l.n - l.c
+invariant-loop-c l = Freeing l.a l.users l.marks l.tops l.initial.scratch l.scratch l.initial.look.words l.look.words l.lowered.words l.fell l.c

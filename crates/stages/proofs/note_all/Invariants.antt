@@ -1,10 +1,8 @@
--- `note_all` notes one line after the other (`NotingPage`).
-use Prim.Native.Nat.{◌-◌}
+-- `note_all` notes one line of the page after the other (`NotingPage`).
+use mathlib.Core.Path.{◌≡◌}
 use Rattle.stages.proofs.Notes.{NotingPage}
 use Rattle.stages.proofs.note_all.Given as goal
 
-abbrev pub invariant-loop-line : goal.invariant-loop-line
-invariant-loop-line l = NotingPage l.a l.marks l.initial.scratch l.scratch l.initial.moved l.moved l.line.at l.line.passed
-
-abbrev pub decreases-loop-line : goal.decreases-loop-line
-decreases-loop-line l = l.count - l.line.passed
+abbrev pub invariant-loop-at : goal.invariant-loop-at
+invariant-loop-at l =
+    (l.at-iterator.numbers.now ≡ l.a) × NotingPage l.a l.marks l.initial.scratch l.scratch l.initial.moved.words l.moved.words l.at-iterator.at l.at-iterator.passed

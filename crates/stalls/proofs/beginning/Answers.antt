@@ -12,15 +12,6 @@ use Rattle.stalls.proofs.beginning.Goals as goal
 pub bounds-page-1 : goal.bounds-page-1
 bounds-page-1 c = omega (arith, head_of c.args.page.now (sound_solvable c.args.page.now c.requires))
 
-pub overflow_cast-result : goal.overflow_cast-result
-overflow_cast-result c = omega (arith, head_of c.args.page.now (sound_solvable c.args.page.now c.requires))
-
-pub overflow_mul-result : goal.overflow_mul-result
-overflow_mul-result c = omega (arith, head_of c.args.page.now (sound_solvable c.args.page.now c.requires))
-
-pub returns-in-First : goal.returns-in-First
-returns-in-First c = ap (λ (x : Stall). beginning (page_of c.args.page.now) (stall_of x)) (sym c.in-First.is)
-
 pub returns-in-Second : goal.returns-in-Second
 unfolding page_of
 returns-in-Second c = ap (λ (x : Stall). beginning (page_of c.args.page.now) (stall_of x)) (sym c.in-Second.is)

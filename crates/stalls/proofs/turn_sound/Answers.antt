@@ -1,12 +1,8 @@
 -- `stalls::turn_sound` meets its contract: three drives make the turn. Assumes nothing.
 use native.Mathlib.Omega.{arith}
-use borrow.Author.Rules.{rules}
 use Rattle.semantics.specs.Stalls.{half}
 use Rattle.stalls.proofs.Turning.{within_1, long_1, sound_1, within_2, long_2, sound_2, within_3, turn_answers, turn_area}
 use Rattle.stalls.proofs.turn_sound.Goals as goal
-
-pub drive_part-half-requires : goal.drive_part-half-requires
-drive_part-half-requires c = search rules
 
 pub overflow_sub-allowance : goal.overflow_sub-allowance
 unfolding half

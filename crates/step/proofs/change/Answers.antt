@@ -1,7 +1,6 @@
 -- `step::change` meets its contract. Assumes nothing.
 use native.Mathlib.Omega.{arith}
 use Rattle.page.proofs.Head.{head_of}
-use borrow.Author.Rules.{rules}
 use Rattle.step.proofs.change.Goals as goal
 
 pub bounds-a-0 : goal.bounds-a-0
@@ -9,9 +8,6 @@ bounds-a-0 c = omega (arith, head_of c.args.a.now c.requires.0)
 
 pub store-requires : goal.store-requires
 store-requires c = let h = head_of c.args.a.now c.requires.0 in (omega (arith, c.requires.2, c.requires.6), omega (arith, c.requires.3), omega arith)
-
-pub wake_dependants-requires : goal.wake_dependants-requires
-wake_dependants-requires c = search rules
 
 pub returns : goal.returns
 returns c = record { marked = rw c.store_cell.ensures at c.wake_dependants.ensures.0; set_kept = rw c.store_cell.ensures at c.wake_dependants.ensures.1; table = c.store.ensures }

@@ -25,10 +25,10 @@ pub first_line-requires : goal.first_line-requires
 first_line-requires c = (
   c.requires.0,
   subst (λ (v : List ℕ). Mirrored (top_of c.args.a.now) (conditions_of c.args.a.now) v) (sym c.store.ensures)
-      (restored_grades c.args.a.now c.args.run.now c.args.values.now c.args.before.condition c.args.before.low c.args.before.high c.requires.4 c.requires.2 c.requires.3 c.requires.0 c.requires.1 c.requires.5 c.requires.6),
+      (restored_grades c.args.a.now c.args.run.now c.args.values.now c.args.before.condition c.args.before.ends.low c.args.before.ends.high c.requires.4 c.requires.2 c.requires.3 c.requires.0 c.requires.1 c.requires.5 c.requires.6),
 )
 
 pub returns : goal.returns
 returns c =
-    told_before c.args.a.now c.args.run.now c.args.values.now c.args.before.condition c.args.before.low c.args.before.high c.requires.4 c.requires.2 c.requires.3
+    told_before c.args.a.now c.args.run.now c.args.values.now c.args.before.condition c.args.before.ends.low c.args.before.ends.high c.requires.4 c.requires.2 c.requires.3
     (rw c.store.ensures at c.first_line.ensures)

@@ -1,27 +1,17 @@
--- `any_free` looks at one condition after the other, until one is sought.
-use mathlib.Core.Path.{sym, ◌∙◌}
+-- `any_free` asks of one condition after the other, until one is sought.
+use mathlib.Core.Path.{refl, ◌∙◌}
 use native.Mathlib.Omega.{arith}
-use Rattle.page.proofs.Head.{head_of}
-use Rattle.unknowns.proofs.Sought.{none_next, none_last, found_here}
+use borrow.Author.Rules.{rules}
+use borrow.Author.Tests.{tests}
+use Rattle.std.proofs.lemmas.Iterator.{YieldsList-from_range}
+use Rattle.std.proofs.lemmas.Iterator.Search.{any_from_yields_List}
+use Rattle.semantics.specs.Area.{conditions_of}
+use Rattle.unknowns.specs.NextHighs.{sought}
+use Rattle.unknowns.proofs.Sought.{any_in_range}
 use Rattle.unknowns.proofs.any_free.Goals as goal
 
-pub bounds-a-1 : goal.bounds-a-1
-bounds-a-1 c = omega (arith, head_of c.args.a.now c.requires.0)
-
-pub loop-c-init : goal.loop-c-init
-loop-c-init c = (omega arith, λ d l. absurd (omega arith))
-
-pub is_sought-requires : goal.is_sought-requires
-is_sought-requires c = (c.requires.0, c.requires.1, omega arith)
-
-pub returns-then-is_sought : goal.returns-then-is_sought
-returns-then-is_sought c = let z = c.args in sym (found_here z.a.now z.marks.now {c = c.loop-c.c} (omega arith) (sym c.is_sought.ensures ∙ c.if-is_sought.true))
-
-pub overflow_add-c : goal.overflow_add-c
-overflow_add-c c = omega (arith, (head_of c.args.a.now c.requires.0).few)
-
-pub loop-c-preserved : goal.loop-c-preserved
-loop-c-preserved c = let z = c.args in (omega arith, none_next z.a.now z.marks.now c.loop-c.invariant.1 (sym c.is_sought.ensures ∙ c.if-is_sought.false))
-
 pub returns : goal.returns
-returns c = let z = c.args in sym (none_last z.a.now z.marks.now c.loop-c.invariant.1 (omega arith))
+returns c =
+    let f = sought c.args.a.now c.args.marks.now in
+    let n = conditions_of c.args.a.now in
+    any_from_yields_List f _ _ _ c.any.ensures.ran (YieldsList-from_range 0 n n refl (omega arith)) (λ x b q k. search (rules, tests)) ∙ any_in_range f n

@@ -1,18 +1,19 @@
 -- `next_highs` clears the entries, takes in the lines and finishes.
 use mathlib.Core.Path.{refl}
-use Prim.Native.Nat.{◌*◌}
-use native.Mathlib.Omega.{arith}
-use Rattle.semantics.specs.Area.{conditions_of}
-use Rattle.page.proofs.Head.{head_of}
+use Prim.Native.Nat.{ℕ, ◌*◌}
+use borrow.Author.Rules.{rules}
+use Rattle.semantics.specs.Area.{page_of, conditions_of}
+use Rattle.semantics.specs.Body.{bodyless}
+use Rattle.unknowns.specs.NextHighs.{high_from}
 use Rattle.unknowns.proofs.Storing.{places_on}
 use Rattle.unknowns.proofs.Closing.{part_grades, next_highs}
 use Rattle.unknowns.proofs.next_highs.Goals as goal
 
-pub bounds-a-1 : goal.bounds-a-1
-bounds-a-1 c = omega (arith, head_of c.args.a.now c.requires.0.page_solvable)
-
 pub sweep-requires : goal.sweep-requires
-sweep-requires c = (places_on _ _ c.requires.0 c.clear.ensures.steady, part_grades _ _ c.requires.1 (2 * conditions_of c.args.a.now) refl)
+sweep-requires c = (places_on _ _ c.requires.0 (c.map_sought.ensures (λ d x. 0) (λ p q r z. search rules)).steady, part_grades _ _ c.requires.1 (2 * conditions_of c.args.a.now) refl)
 
 pub returns : goal.returns
-returns c = next_highs _ _ c.requires.1 (2 * conditions_of c.args.a.now) refl c.requires.0.page_solvable c.clear.ensures c.sweep.ensures c.finish.ensures
+returns c =
+    let high : ℕ → ℕ → ℕ = λ d x. high_from (bodyless (page_of c.args.a.now) d).high x in
+    next_highs _ _ c.requires.1 (2 * conditions_of c.args.a.now) refl c.requires.0.page_solvable (c.map_sought.ensures (λ d x. 0) (λ p q r z. search rules)) c.sweep.ensures
+    (c.map_sought-2.ensures high (λ p q r z. search rules))

@@ -1,35 +1,24 @@
 -- `worklist::cell_ok` meets its contract. Assumes nothing.
+use mathlib.Core.Path.{◌≡◌, ◌∙◌}
+use mathlib.Core.Bool.{false}
+use Prim.Native.Nat.{◌*◌}
+use lib.Dec.{eqb}
+use lib.ListN.{get_or}
+use borrow.Author.Tests.{ne_eqb}
 use native.Mathlib.Omega.{arith}
 use Rattle.semantics.specs.RunArea.{interval_at, mark_at}
-use Rattle.worklist.proofs.Soundness.{cell_crossed, cell_over, cell_marked, cell_reached, cell_low, cell_high}
+use Rattle.worklist.proofs.Soundness.{cell_marked, cell_reached, cell_low, cell_high}
+use Rattle.worklist.proofs.cell_ok.Goals.{in-0+then-low-eq0, in-0+else-low-eq0, in-1-to-2, in_default}
 use Rattle.worklist.proofs.cell_ok.Goals as goal
 
-pub returns-then-high-low : goal.returns-then-high-low
-returns-then-high-low c =
+pub returns-then-high-top : goal.returns-then-high-top
+returns-then-high-top c =
     let z = c.args in
-    cell_crossed z.top (interval_at z.run.now z.c) (mark_at z.run.now z.c) (omega arith)
-
-pub returns-then-top-high : goal.returns-then-top-high
-returns-then-top-high c =
-    let z = c.args in
-    cell_over z.top (interval_at z.run.now z.c) (mark_at z.run.now z.c) (omega arith) (omega arith)
-
-pub returns-then-low-ne0 : goal.returns-then-low-ne0
-returns-then-low-ne0 c =
-    let z = c.args in
-    cell_low z.top (interval_at z.run.now z.c) (mark_at z.run.now z.c) (omega arith) (omega arith) (omega arith) (omega arith) (omega arith)
-
-pub returns-else-low-ne0 : goal.returns-else-low-ne0
-returns-else-low-ne0 c =
-    let z = c.args in
-    cell_high z.top (interval_at z.run.now z.c) (mark_at z.run.now z.c) (omega arith) (omega arith) (omega arith) (omega arith) (omega arith)
-
-pub returns-in-1-to-2 : goal.returns-in-1-to-2
-returns-in-1-to-2 c =
-    let z = c.args in
-    cell_reached z.top (interval_at z.run.now z.c) (mark_at z.run.now z.c) (omega arith) (omega arith) (omega arith) (omega arith)
-
-pub returns-in_default : goal.returns-in_default
-returns-in_default c =
-    let z = c.args in
-    cell_marked z.top (interval_at z.run.now z.c) (mark_at z.run.now z.c) (omega arith) (omega arith) (omega arith)
+    let p = interval_at z.run.now z.c in
+    let m = mark_at z.run.now z.c in
+    elim c.match-mark.branch [
+      | in-0+then-low-eq0 w ↦ w.marked-is ∙ cell_high z.top p m (omega arith) (omega arith) (omega arith) (omega arith) (omega arith)
+      | in-0+else-low-eq0 w ↦ let b : eqb (get_or z.run.now (3 * z.c) 0) 0 ≡ false = ne_eqb _ _ w.if-low-eq0.false in w.marked-is ∙ b ∙ cell_low z.top p m (omega arith) (omega arith) (omega arith) (omega arith) w.if-low-eq0.false
+      | in-1-to-2 w ↦ w.marked-is ∙ cell_reached z.top p m (omega arith) (omega arith) (omega arith) (omega arith)
+      | in_default w ↦ w.marked-is ∙ cell_marked z.top p m (omega arith) (omega arith) (omega arith)
+    ]

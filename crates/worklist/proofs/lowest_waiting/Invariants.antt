@@ -1,11 +1,8 @@
 -- `worklist::lowest_waiting` meets its contract. The loop's invariant: no condition passed waits. Assumes nothing.
-use Prim.Native.Nat.{ℕ, ◌-◌, ◌≤◌, ◌<◌}
+use Prim.Native.Nat.{ℕ, ◌<◌}
 use mathlib.Core.Logic.{◌≢◌}
 use Rattle.semantics.specs.RunArea.{mark_at}
 use Rattle.worklist.proofs.lowest_waiting.Given as goal
 
 abbrev pub invariant-loop-k : goal.invariant-loop-k
-invariant-loop-k l = (l.k ≤ l.n) × ((j : ℕ) → j < l.k → mark_at l.run j ≢ 2)
-
-abbrev pub decreases-loop-k : goal.decreases-loop-k
-decreases-loop-k l = l.n - l.k
+invariant-loop-k l = (j : ℕ) → j < l.k → mark_at l.run j ≢ 2

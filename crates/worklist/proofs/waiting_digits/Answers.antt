@@ -1,4 +1,4 @@
--- `worklist::waiting_digits` meets its contract. The loop's invariant: the digits tell of the conditions from c on. Assumes nothing.
+-- `worklist::waiting_digits` meets its contract. Assumes nothing.
 use mathlib.Core.Path.{◌≡◌}
 use Prim.Native.Nat.{◌-◌}
 use native.Mathlib.Omega.{arith}
@@ -6,28 +6,16 @@ use Rattle.worklist.proofs.Digits.{digits_none, room_down, digits_down}
 use Rattle.worklist.proofs.waiting_digits.Goals as goal
 
 pub loop-c-init : goal.loop-c-init
-loop-c-init c = (omega arith, omega arith, digits_none _ _)
+loop-c-init c = (omega arith, digits_none _ _)
 
 pub overflow_mul-x : goal.overflow_mul-x
-overflow_mul-x c = omega (arith, room_down c.loop-c.invariant.2 (omega arith) (omega arith) (omega arith))
-
-pub overflow_mul-x-in-loop-c : goal.overflow_mul-x-in-loop-c
-overflow_mul-x-in-loop-c c = omega (arith, c.well_formed)
-
-pub overflow_add-x : goal.overflow_add-x
-overflow_add-x c = omega (arith, c.well_formed)
-
-pub offset_bounds-run-c : goal.offset_bounds-run-c
-offset_bounds-run-c c = omega (arith, c.well_formed)
-
-pub overflow_cast-x : goal.overflow_cast-x
-overflow_cast-x c = omega (arith, c.requires.3 (c.loop-c.c - 1) (omega arith))
+overflow_mul-x c = omega (arith, room_down c.loop-c.invariant.1 (omega arith) (omega arith) (omega arith))
 
 pub overflow_add-x-in-loop-c : goal.overflow_add-x-in-loop-c
-overflow_add-x-in-loop-c c = omega (arith, room_down c.loop-c.invariant.2 (omega arith) (omega arith) (omega arith), c.requires.3 (c.loop-c.c - 1) (omega arith))
+overflow_add-x-in-loop-c c = omega (arith, room_down c.loop-c.invariant.1 (omega arith) (omega arith) (omega arith), c.requires.3 (c.loop-c.c - 1) (omega arith))
 
 pub loop-c-preserved : goal.loop-c-preserved
-loop-c-preserved c = (omega arith, omega arith, digits_down c.loop-c.invariant.2 (omega arith) (omega arith) (c.requires.3 (c.loop-c.c - 1) (omega arith)))
+loop-c-preserved c = (omega arith, digits_down c.loop-c.invariant.1 (omega arith) (omega arith) (c.requires.3 (c.loop-c.c - 1) (omega arith)))
 
 pub returns : goal.returns
-returns c = let e : c.loop-c.c ≡ c.args.from = omega arith in rw e at c.loop-c.invariant.2
+returns c = let e : c.loop-c.c ≡ c.args.from = omega arith in rw e at c.loop-c.invariant.1

@@ -1,10 +1,7 @@
 -- `worklist::waiting_digits` meets its contract. The loop's invariant: the digits tell of the conditions from c on. Assumes nothing.
-use Prim.Native.Nat.{◌-◌, ◌≤◌}
+use Prim.Native.Nat.{◌≤◌}
 use Rattle.worklist.specs.Waiting.{Digits}
 use Rattle.worklist.proofs.waiting_digits.Given as goal
 
 abbrev pub invariant-loop-c : goal.invariant-loop-c
-invariant-loop-c l = (l.from ≤ l.c) × (l.c ≤ l.to) × Digits l.run l.c l.to l.x
-
-abbrev pub decreases-loop-c : goal.decreases-loop-c
-decreases-loop-c l = l.c - l.from
+invariant-loop-c l = (l.from ≤ l.c) × Digits l.run l.c l.to l.x

@@ -1,19 +1,16 @@
 -- `check_list` meets its contract, by the laws of `Parts`. Assumes nothing.
-use native.Mathlib.Omega.{arith}
-use Rattle.list.proofs.Parts.{front_part, part_ended, part_refused, part_good, part_unended, part_whole}
+use Rattle.std.proofs.lemmas.Result.{err_from_is_err_and}
+use Rattle.list.proofs.Parts.{front_part, part_refused, part_unended, part_whole}
 use Rattle.list.proofs.check.check_list.Goals as goal
 
-pub check_lines-answer-requires : goal.check_lines-answer-requires
-check_lines-answer-requires c = part_ended c.args.bytes.now c.args.top c.args.conditions c.ended_length-end.ensures (front_part c.args.bytes.now c.ended_length-end.result)
-
-pub overflow_add-result : goal.overflow_add-result
-overflow_add-result c = omega (arith, (part_good c.args.bytes.now c.args.top c.args.conditions c.ended_length-end.ensures (front_part c.args.bytes.now c.ended_length-end.result) c.check_lines-answer.ensures c.in-Read.is).few)
+pub returns-in_err-count : goal.returns-in_err-count
+returns-in_err-count c =
+    let a = c.args in
+    let p = err_from_is_err_and c.from_residual.result c.from_residual.ensures.1 in
+    rw (p.1, p.2) (part_refused a.bytes.now a.top a.conditions c.ended_length-end.ensures (front_part a.bytes.now c.ended_length-end.result) c.in_err-count.ensures)
 
 pub returns-then-end-bytes : goal.returns-then-end-bytes
-returns-then-end-bytes c = part_unended c.args.bytes.now c.args.top c.args.conditions c.ended_length-end.ensures (front_part c.args.bytes.now c.ended_length-end.result) c.check_lines-answer.ensures c.in-Read.is c.if-end-bytes.true
+returns-then-end-bytes c = let a = c.args in rw c.at.ensures (part_unended a.bytes.now a.top a.conditions c.ended_length-end.ensures (front_part a.bytes.now c.ended_length-end.result) c.in_ok-count.ensures c.if-end-bytes.true)
 
-pub returns-in-Refused : goal.returns-in-Refused
-returns-in-Refused c = part_refused c.args.bytes.now c.args.top c.args.conditions c.ended_length-end.ensures (front_part c.args.bytes.now c.ended_length-end.result) c.check_lines-answer.ensures c.in-Refused.is
-
-pub returns-else-end-bytes : goal.returns-else-end-bytes
-returns-else-end-bytes c = part_whole c.args.bytes.now c.args.top c.args.conditions c.ended_length-end.ensures (front_part c.args.bytes.now c.ended_length-end.result) c.check_lines-answer.ensures c.in-Read.is c.if-end-bytes.false
+pub returns : goal.returns
+returns c = let a = c.args in part_whole a.bytes.now a.top a.conditions c.ended_length-end.ensures (front_part a.bytes.now c.ended_length-end.result) c.in_ok-count.ensures c.if-end-bytes.false

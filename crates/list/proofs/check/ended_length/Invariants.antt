@@ -2,8 +2,5 @@
 use Rattle.list.proofs.Parts.{Seeking}
 use Rattle.list.proofs.check.ended_length.Given as goal
 
-abbrev pub invariant-loop-end : goal.invariant-loop-end
-invariant-loop-end l = Seeking l.bytes l.end
-
-abbrev pub decreases-loop-end : goal.decreases-loop-end
-decreases-loop-end l = l.end
+abbrev pub invariant-loop-at : goal.invariant-loop-at
+invariant-loop-at l = Seeking l.bytes l.at

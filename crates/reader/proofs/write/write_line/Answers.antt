@@ -5,14 +5,5 @@ use Rattle.fields.proofs.Places.{byte_here}
 use Rattle.reader.proofs.KnownForms.{must_default}
 use Rattle.reader.proofs.write.write_line.Goals as goal
 
-pub write_fact-requires : goal.write_fact-requires
-write_fact-requires c = let a = c.args in let b = sym (byte_here a.bytes.now a.at c.requires.formed.place.inside) in (c.requires, b ∙ c.in-70.is)
-
-pub write_rule-requires : goal.write_rule-requires
-write_rule-requires c = let a = c.args in let b = sym (byte_here a.bytes.now a.at c.requires.formed.place.inside) in (c.requires, b ∙ c.in-82.is)
-
-pub write_query-requires : goal.write_query-requires
-write_query-requires c = let a = c.args in let b = sym (byte_here a.bytes.now a.at c.requires.formed.place.inside) in (c.requires, b ∙ c.in-81.is)
-
 pub write_default-requires : goal.write_default-requires
 write_default-requires c = let a = c.args in let b = sym (byte_here a.bytes.now a.at c.requires.formed.place.inside) in (c.requires, must_default a.bytes.now a.at c.requires.formed (λ z. omega (arith, sym b ∙ z)) (λ z. omega (arith, sym b ∙ z)) (λ z. omega (arith, sym b ∙ z)))

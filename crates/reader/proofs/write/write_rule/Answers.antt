@@ -1,7 +1,6 @@
 -- `write_rule` meets its contract, by the laws of `KnownForms` and `LiteralCodes`. Assumes nothing.
-use mathlib.Core.Path.{◌∙◌, ap, subst}
-use mathlib.Core.List.{List, ◌∷◌, map}
-use mathlib.Core.Logic.{inr}
+use mathlib.Core.Path.{refl, sym, ◌∙◌, ap, subst}
+use mathlib.Core.List.{List}
 use Prim.Native.Nat.{ℕ, ◌+◌}
 use native.Mathlib.Omega.{arith}
 use lib.ListN.{length, drop}
@@ -9,13 +8,17 @@ use borrow.Author.Tests.{leb-true}
 use Rattle.fields.specs.Cursor.{fields_at}
 use Rattle.fields.proofs.Places.{byte_here}
 use Rattle.lines.specs.Lines.{kind_at}
-use Rattle.reader.specs.Entries.{Put, code_in}
-use Rattle.reader.proofs.KnownForms.{four_room, literals_room, literals_place, literals_known, rule_known, rule_codes, put_line}
+use Rattle.reader.specs.Entries.{Put}
+use Rattle.reader.proofs.KnownForms.{an_op, literals_room, literals_place, literals_known, rule_known, rule_codes, put_line}
 use Rattle.reader.proofs.LiteralCodes.{literals_count, rule_put}
 use Rattle.reader.proofs.write.write_rule.Goals as goal
 
-pub checked_pair-pair-requires : goal.checked_pair-pair-requires
-checked_pair-pair-requires c = (c.requires.0.formed, inr c.requires.1)
+pub unwrap-kind-requires : goal.unwrap-kind-requires
+unwrap-kind-requires c =
+    let a = c.args in
+    let p = c.requires in
+    let k = c.checked_pair-pair.ensures in
+    rw (c.op_kind.ensures ∙ ap kind_at (byte_here a.bytes.now c.checked_pair-pair.result.next k.place.inside) ∙ sym (an_op a.bytes.now a.at p.0.formed p.1 k).1) refl
 
 pub write_literals-place-requires : goal.write_literals-place-requires
 write_literals-place-requires c =
@@ -31,9 +34,6 @@ overflow_cast-count c =
     let hs = fields_at (drop (c.checked_pair-pair.result.next + 2) a.bytes.now) in
     omega (arith, literals_count a.end c.write_literals-place.ensures, leb-true (length hs) 8 (literals_known a.bytes.now a.at p.0.formed p.1 c.checked_pair-pair.ensures).0)
 
-pub put_four-requires : goal.put_four-requires
-put_four-requires c = let a = c.args in omega (arith, four_room a.bytes.now a.at c.requires.0, c.write_literals-place.auto)
-
 pub returns : goal.returns
 returns c =
     let a = c.args in
@@ -42,7 +42,7 @@ returns c =
     let pair = c.checked_pair-pair.result in
     let y = c.write_literals-place.ensures in
     let hs = fields_at (drop (pair.next + 2) a.bytes.now) in
-    let kind = c.op_kind-kind.ensures ∙ ap kind_at (byte_here a.bytes.now pair.next k.place.inside) in
-    let codes = ap (λ (z : ℕ). pair.first ∷ z ∷ pair.second ∷ length hs ∷ map code_in hs) kind ∙ rule_codes a.bytes.now a.at p.0.formed p.1 k in
+    let kind = sym c.unwrap-kind.ensures ∙ c.op_kind.ensures ∙ ap kind_at (byte_here a.bytes.now pair.next k.place.inside) in
+    let codes = rule_codes a.bytes.now a.at p.0.formed p.1 k kind in
     put_line (rule_known a.bytes.now a.at p.0.formed p.1 k y.ends)
-    (subst (λ (l : List ℕ). Put a.area.now a.end l c.put_four.new.area c.write_literals-place.result.end) codes (rule_put a.end y pair.first c.op_kind-kind.result pair.second c.put_four.ensures))
+    (subst (λ (l : List ℕ). Put a.area.now a.end l c.put_four.new.area c.write_literals-place.result.end) codes (rule_put a.end y pair.first c.unwrap-kind.result pair.second c.put_four.ensures))

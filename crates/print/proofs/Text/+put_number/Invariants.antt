@@ -1,0 +1,5 @@
+-- The cycle of calls {put_number}: the number falls. Assumes nothing.
+use Rattle.print.proofs.Text.+put_number.Given as goal
+
+abbrev pub decreases-put_number : goal.decreases-put_number
+decreases-put_number l = l.n

@@ -1,8 +1,0 @@
--- `by_fault` meets its contract. Assumes nothing.
-use Rattle.reader.proofs.check.by_fault.Goals as goal
-
-pub returns-in-None : goal.returns-in-None
-returns-in-None c = rw c.in-None.is
-
-pub returns-in-At : goal.returns-in-At
-returns-in-At c = rw c.in-At.is

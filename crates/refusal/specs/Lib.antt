@@ -1,0 +1,3 @@
+-- What the contracts of `refusal` cite.
+-- the numbers of the refusals
+pub mod Numbers

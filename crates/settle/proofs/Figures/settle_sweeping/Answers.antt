@@ -1,0 +1,6 @@
+-- `settle_sweeping` looks at all lines until nothing rises (`Settling`).
+use Rattle.settle.proofs.Settling.{settling_last, swept}
+use Rattle.settle.proofs.Figures.settle_sweeping.Goals as goal
+
+pub returns : goal.returns
+returns c = let w = swept _ _ _ (rw c.loop-changed-test.false at c.sweep.ensures) in rw w.0 (settling_last _ _ _ c.loop-changed.invariant w.1)

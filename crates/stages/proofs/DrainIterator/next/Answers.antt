@@ -1,0 +1,9 @@
+-- `Drain::next` leaves one less in the set.
+use borrow.Author.Rules.{rules}
+use Rattle.settle.proofs.Members.{fewer}
+use Rattle.stages.proofs.DrainIterator.next.Goals as goal
+
+pub returns-clause-goes : goal.returns-clause-goes
+returns-clause-goes c =
+    let f = fewer _ _ _ c.remove.ensures c.in_ok-c.ensures.within c.in_ok-c.ensures.found in
+    search rules
