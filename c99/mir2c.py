@@ -593,13 +593,13 @@ class Writer:
         return comment(self.comment) + wrapped(head) + ['{'] + self.declarations(mine) + unread + self.lines + ['}', '']
 
     def declarations(self, mine):
-        """One line for the locals of each type."""
+        """One line for the locals of each type; in C the first `*` of a pointer to a pointer is of its own name alone."""
         groups = {}
         for i in mine:
             text = self.declare(i)
             kind, name = text.rsplit(' ', 1)
-            groups.setdefault(kind, []).append(name)
-        return [line for kind, names in groups.items()
+            groups.setdefault((kind, i if '*' in kind else 0), []).append(name)
+        return [line for (kind, _), names in groups.items()
                 for line in wrapped(f'{kind} {", ".join(names)};', '    ')]
 
 
