@@ -16,7 +16,8 @@ use Rattle.std.specs.Int.{w64, bit_at, bit_not, trailing_zeros}
 use Rattle.std.proofs.lemmas.Nat.Bits.{bit_at-lt, bit_at-zero, bit_at_and, bit_at_or, bit_at_not, bit_at_set_same, bit_at_set_other, bit_at_clear_same, bit_at_clear_other, bit_at-trailing_zeros}
 use Rattle.bits.specs.Words.{has, Inserted, Removed, Absorbed}
 use Rattle.bits.specs.Sets.{Member, Nobody}
-use Rattle.bits.proofs.Bits.{highest_lt, highest_found, bit_masked, masked_fits}
+use borrow.Author.Count.{below_none, below_more}
+use Rattle.bits.proofs.Bits.{both_none, highest_lt, highest_found, bit_masked, masked_fits}
 
 or_as_cond : (b t : Bool) → cond t true b ≡ (b || t)
 or_as_cond true true = refl
@@ -222,3 +223,21 @@ zeros_none c = word_none (0 ∷ 0 ∷ 0 ∷ 0 ∷ 0 ∷ 0 ∷ 0 ∷ 0 ∷ []) c 
     zero_at zero i = refl
     zero_at (suc m) zero = refl
     zero_at (suc m) (suc i) = zero_at m i
+
+-- eight words together
+abbrev pub together : List ℕ → ℕ
+together words =
+    bit_or (bit_or (bit_or (bit_or (bit_or (bit_or (bit_or (get_or words 0 0) (get_or words 1 0)) (get_or words 2 0)) (get_or words 3 0)) (get_or words 4 0)) (get_or words 5 0)) (get_or words 6 0)) (get_or words 7 0)
+
+module _ (words : List ℕ) where
+  -- each is 0 if they are 0 together
+  pub each_none : together words ≡ 0 → (v : ℕ) → v < 8 → get_or words v 0 ≡ 0
+  each_none h =
+      let h6 = both_none _ (get_or words 7 0) h in
+      let h5 = both_none _ (get_or words 6 0) h6.0 in
+      let h4 = both_none _ (get_or words 5 0) h5.0 in
+      let h3 = both_none _ (get_or words 4 0) h4.0 in
+      let h2 = both_none _ (get_or words 3 0) h3.0 in
+      let h1 = both_none _ (get_or words 2 0) h2.0 in
+      let h0 = both_none (get_or words 0 0) (get_or words 1 0) h1.0 in
+      below_more _ 7 (below_more _ 6 (below_more _ 5 (below_more _ 4 (below_more _ 3 (below_more _ 2 (below_more _ 1 (below_more _ 0 (below_none _) h0.0) h0.1) h1.1) h2.1) h3.1) h4.1) h5.1) h6.1

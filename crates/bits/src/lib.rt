@@ -107,15 +107,12 @@ impl Set {
         ones
     }
 
-    // Whether nobody is in the set.
+    // Whether nobody is in the set. The eight words at once: a loop over them takes three times the instructions in C, and it is asked after each round.
     pub fn is_empty(&self) -> bool
         ensures { IsTrue result ↔ Nobody self.now.words }
     {
-        let mut all = 0;
-        for x in self.words {
-            all |= x;
-        }
-        all == 0
+        let w = &self.words;
+        (w[0] | w[1] | w[2] | w[3] | w[4] | w[5] | w[6] | w[7]) == 0
     }
 }
 
