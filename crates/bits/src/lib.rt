@@ -107,7 +107,7 @@ impl Set {
         ones
     }
 
-    // Whether nobody is in the set. The eight words at once: a loop over them takes three times the instructions in C, and it is asked after each round.
+    // Whether nobody is in the set. The eight words at once: a loop over them took a quarter of the instructions of a long closed reading in C.
     pub fn is_empty(&self) -> bool
         ensures { IsTrue result ↔ Nobody self.now.words }
     {
