@@ -68,8 +68,9 @@ ONCE = '''#ifdef __GNUC__
 # is a part of each loop over it, so that its numbers are locals there, and what the library has is a part of its callers: a statement or a few. Some
 # functions of the reader are parts for the same reason: what they answer is locals then.
 PARTS = {'page::defaults_ok', 'stages::support', 'stages::advance', 'stages::follow', 'stages::take_highs', 'settle::Figures::raise',
-         'rounds::round', 'page::Lines::of', 'page::Lines::checked', 'page::LinesIterator::next', 'fields::digits', 'fields::digits_from',
-         'lines::parse_pair', 'reader::write::checked_pair'}
+         'rounds::round', 'page::Page::of', 'page::Page::lines', 'page::Page::entry', 'page::entry_at', 'page::Lines::checked',
+         'page::LinesIterator::next', 'reach::follow', 'reach::pass', 'picks::judge', 'run::check_areas', 'stalls::part_at',
+         'stalls::check_shared', 'fields::digits', 'fields::digits_from', 'lines::parse_pair', 'reader::write::checked_pair'}
 BESIDE = {'page::page_sound', 'reach::mark_closure', 'settle::settle', 'settle::wake', 'rounds::all_waiting', 'stages::begin',
           'stages::lower_tops', 'stages::note_all', 'stages::note_waiting', 'stages::take_all', 'stages::look_again'}
 

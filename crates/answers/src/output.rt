@@ -5,10 +5,11 @@ ghost use Rattle.print.specs.Texts.{Room};
 ghost use Rattle.answers.specs.Printing.{PutPage, PutOutput};
 
 use crate::{Solved, put_end, put_refusal, put_top};
+use page::Page;
 use print::Text;
 
 // The output for a page that is read: "a K query opens a run of its own", and nothing stands before an answer.
-fn put_page(page: &[u16], text: &mut Text<'_>)
+fn put_page(page: &Page, text: &mut Text<'_>)
     requires { (sound page.now ≡ true) × Room text.old 14353 }
     ensures { PutPage (page_of page.now) text.old text.new }
 {
@@ -20,7 +21,7 @@ fn put_page(page: &[u16], text: &mut Text<'_>)
         plain: &plain,
         closed: &closed,
     };
-    put_top(text, page[0]);
+    put_top(text, page.top());
     let count = solved.put_lines(b"", text);
     put_end(text, count as u32);
 }
@@ -30,9 +31,9 @@ pub fn put_output(text: &[u8], output: &mut Text<'_>)
     requires { Room output.old 14353 }
     ensures { PutOutput text.now output.old output.new }
 {
-    let mut page = [0u16; 12804];
-    match reader::read_page(text, &mut page) {
-        Ok(_) => put_page(&page, output),
+    let mut area = [0u16; 12804];
+    match reader::read_page(text, &mut area) {
+        Ok(_) => put_page(&Page { numbers: &area }, output),
         Err(refusal) => put_refusal(output, refusal.cause.number(), refusal.line),
     }
 }

@@ -5,18 +5,15 @@ use mathlib.Core.Bool.{true}
 use mathlib.Core.List.{List, [], ◌∷◌}
 use Prim.Native.Nat.{ℕ, ◌+◌, ◌≤◌, ◌<◌, max}
 use native.Mathlib.Decide.{ℕ_discrete}
-use native.Mathlib.Numerals.{add-one}
 use native.Mathlib.Omega.{arith}
-use lib.ListN.{get_or, drop}
+use lib.ListN.{length, get_or, drop}
 use Rattle.fixpoint.specs.Interval.{Interval, Assign}
 use Rattle.fixpoint.proofs.KnowledgeOrder.{pair_eq}
-use Rattle.semantics.specs.Area.{page_of, top_of, conditions_of, count_of, used_of, line_at, first_line}
+use Rattle.semantics.specs.Area.{page_of, top_of, conditions_of, count_of, used_of, line_at}
 use Rattle.semantics.specs.Body.{line_body, bodyless, T}
 use Rattle.semantics.specs.Grade.{End, lower, upper}
 use Rattle.page.specs.Places.{place_of, LineIn, LineOf}
-use Rattle.page.specs.Lines.{step_at, EntryIn, Next}
-use Rattle.page.proofs.Scanning.{entry_here}
-use Rattle.page.proofs.LineNumbers.{scanning_at, shape, line_of, adds_one}
+use Rattle.page.proofs.LineNumbers.{scanning_at, entry_of, shape, line_of, adds_one}
 use Rattle.std.specs.Prelude.{Option, None, Some}
 use Rattle.value.specs.declared.Ends.{Ends}
 use Rattle.value.specs.Table.{end_of, EndTable}
@@ -24,15 +21,12 @@ use Rattle.value.specs.LineEnds.{LineEnd}
 use Rattle.value.proofs.BodyEnds.{body_some, body_has, body_none}
 use Rattle.value.proofs.Defaults.{bodyless_in}
 use Rattle.ends.specs.Mirror.{mirrored}
-use Rattle.index.specs.Groups.{LinesByHead}
+use Rattle.index.specs.Lookup.{LinesAre}
 use Rattle.body.specs.Body.{so_far, Taken, Largest, BestOf, Body}
 use Rattle.page.specs.Solvable.{solvable}
 use Rattle.page.proofs.Solvable.{solvable_used}
 
--- the entry of a line lies in the area, and where it is an F or R line of its head
-pub here_entry : (a : List ℕ) → solvable a ≡ true → {at : ℕ} → LineIn a at → EntryIn a at
-here_entry a ok h = subst (EntryIn a) (sym h.place) (entry_here a (scanning_at a ok h.number (omega (arith, h.in_count))) h.in_count)
-
+-- an F or R line is one of its head
 pub here_line : {a : List ℕ} {c at : ℕ} → LineIn a at → get_or a at 0 ≡ c → get_or a (at + 1) 0 ≤ 5 → LineOf a c at
 here_line h e b = record { number = h.number; in_count = h.in_count; place = h.place; head = e; body = b }
 
@@ -127,12 +121,12 @@ module _ (a values : List ℕ) (c : ℕ) where
   gathering_last None g s = λ p o. g.none refl p (s p o) o
   gathering_last (Some e) g s = record { low_end = seeing_last _ _ _ _ g.low_end s; high_end = seeing_last _ _ _ _ g.high_end s; some = g.some refl }
 
--- the places of the lines passed by a scan, and of those of a group passed
+-- the places of the lines passed by a scan, and the first k of a list
 abbrev pub Passed : List ℕ → ℕ → ℕ → Type 0
 Passed a k p = (j : ℕ) × (j < k) × (p ≡ place_of a j)
 
-abbrev pub Grouped : List ℕ → (from i p : ℕ) → Type 0
-Grouped places from i p = (j : ℕ) × (from ≤ j) × (j < i) × (get_or places j 0 ≡ p)
+abbrev pub Listed : List ℕ → (k p : ℕ) → Type 0
+Listed places k p = (j : ℕ) × (j < k) × (get_or places j 0 ≡ p)
 
 pub passed_more : (a : List ℕ) (k : ℕ) {at : ℕ} → at ≡ place_of a k → (p : ℕ) → Passed a (k + 1) p → Passed a k p ⊎ (p ≡ at)
 passed_more a k e p (j, l, q) =
@@ -144,15 +138,15 @@ passed_more a k e p (j, l, q) =
 pub passed_all : (a : List ℕ) (c k : ℕ) → count_of a ≤ k → (p : ℕ) → LineOf a c p → Passed a k p
 passed_all a c k l p o = (o.number, omega (arith, o.in_count), o.place)
 
-pub grouped_more : (places : List ℕ) (from i p : ℕ) → Grouped places from (i + 1) p → Grouped places from i p ⊎ (p ≡ get_or places i 0)
-grouped_more places from i p (j, b, l, q) =
-    elim (ℕ_discrete j i) [
-      | yes z ↦ inr (sym q ∙ ap (λ (k : ℕ). get_or places k 0) z)
-      | no z ↦ inl (j, b, omega arith, q)
+pub listed_more : (places : List ℕ) (k p : ℕ) → Listed places (k + 1) p → Listed places k p ⊎ (p ≡ get_or places k 0)
+listed_more places k p (j, l, q) =
+    elim (ℕ_discrete j k) [
+      | yes z ↦ inr (sym q ∙ ap (λ (i : ℕ). get_or places i 0) z)
+      | no z ↦ inl (j, omega arith, q)
     ]
 
-pub grouped_all : (a first places : List ℕ) (c i : ℕ) → LinesByHead a first places → c < conditions_of a → get_or first (c + 1) 0 ≤ i → (p : ℕ) → LineOf a c p → Grouped places (get_or first c 0) i p
-grouped_all a first places c i g l h p o = let w = g.every c p l o in (w.0, w.1, omega (arith, w.2), w.3)
+pub listed_all : {a places : List ℕ} {c : ℕ} (k : ℕ) → LinesAre a c places → length places ≤ k → (p : ℕ) → LineOf a c p → Listed places k p
+listed_all k g l p o = let w = g.every p o in (w.0, omega (arith, w.1), w.2)
 
 -- the body value, where a line is found and where none is
 module _ (a values : List ℕ) (c : ℕ) (ok : solvable a ≡ true) where
@@ -180,19 +174,3 @@ module _ (a values : List ℕ) (c : ℕ) (ok : solvable a ≡ true) where
         high_in = omega (arith, ap (λ (i : Interval). i.high) q, bodyless_in a c upper);
         is = λ I t u. q ∙ sym (body_none a ok I c (λ j l. ⊎_elim (λ z. z) (λ z. absurd (b (place_of a j) (line_of (top_of a) I c a j l z.1))) (shape (top_of a) I c (line_at (drop (place_of a j) a)))));
       }
-
--- the cursor stands where the line of its number begins
-pub place_first : (a : List ℕ) {at k : ℕ} → (at ≡ first_line a) × (k ≡ 0) → at ≡ place_of a k
-unfolding place_of
-place_first a q = rw q.1 q.0
-
-pub place_next : (a : List ℕ) {at k at' k' : ℕ} → at ≡ place_of a k → Next a at k at' k' → at' ≡ place_of a k'
-unfolding place_of
-place_next a {at} {k} {at'} {k'} e m = m.place ∙ ap (λ (z : ℕ). z + step_at a z) e ∙ sym (ap (place_of a) (m.count ∙ add-one k))
-
--- a place of a line is a number of 16 bits
-pub place_small : (a : List ℕ) → solvable a ≡ true → {c at : ℕ} → LineOf a c at → at ≤ 65535
-place_small a ok {c} {at} o =
-    let e = here_entry a ok (record { number = o.number; in_count = o.in_count; place = o.place }) in
-    let s = subst (λ (z : ℕ). z ≤ used_of a) (sym o.place) (scanning_at a ok o.number (omega (arith, o.in_count))).in_used in
-    omega (arith, solvable_used a ok)

@@ -23,7 +23,8 @@ use Rattle.value.specs.Table.{EndTable}
 use Rattle.value.specs.LineEnds.{LineEnd}
 use Rattle.body.specs.Body.{Taken}
 use Rattle.body.specs.FirstLine.{FirstLine}
-use Rattle.body.proofs.Gathering.{here_line, place_first, place_next}
+use Rattle.body.proofs.Gathering.{here_line}
+use Rattle.page.proofs.LineNumbers.{place_first, place_next}
 use Rattle.page.specs.Solvable.{solvable}
 
 module _ (a : List ℕ) (low : ℕ) where

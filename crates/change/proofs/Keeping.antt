@@ -4,7 +4,7 @@ use mathlib.Core.Logic.{⊎_elim}
 use mathlib.Core.Bool.{Bool, true, false, false≢true}
 use mathlib.Core.List.{List, [], ◌∷◌, ◌++◌, append_assoc, append-nil}
 use mathlib.Core.Option.{Option, none, some}
-use Prim.Native.Nat.{ℕ, ◌+◌, ◌-◌, ◌≤◌, ◌<◌}
+use Prim.Native.Nat.{ℕ, ◌+◌, ◌≤◌, ◌<◌}
 use native.Mathlib.Decide.{dec_le}
 use native.Mathlib.Omega.{arith}
 use lib.ListN.{length, get_or, take, drop, length-drop}
@@ -12,7 +12,7 @@ use lib.Seq.{length-take-le}
 use borrow.Author.Tests.{leb-true}
 use Rattle.fixpoint.specs.Interval.{Interval}
 use Rattle.semantics.specs.Page.{Line, fact, rule, query, default}
-use Rattle.semantics.specs.Area.{kind, line_as, line_at, line_tests, line_code, line_codes, sound, page_of, first_line, top_of, conditions_of, count_of, used_of}
+use Rattle.semantics.specs.Area.{kind, line_as, line_at, line_tests, line_code, line_codes, sound, page_of, first_line, conditions_of, count_of, used_of}
 use Rattle.semantics.specs.Trials.{TrialLine, tried, kept_if, kept_line, kept_lines}
 use Rattle.semantics.proofs.Soundness.{every_true, sound_parts}
 use Rattle.semantics.proofs.ExactAreas.{line_back}
@@ -79,7 +79,7 @@ module _ {top n left : ℕ} (a : List ℕ) (at : ℕ) (s : SoundEntry top n left
       rw (sym (span_at top n left a at))
       (line_back top n left (drop at a) (omega (arith, length-drop at a, s.fits)) (every_true (line_tests top n left (drop at a)) s.tests))
 
-  pub entry_whole : EntryIn a at
+  entry_whole : EntryIn a at
   entry_whole = entry_in top n left a at s.fits s.tests
 
   entry_size : length (line_code (line_at (drop at a))) ≡ step_at a at
@@ -136,9 +136,6 @@ module _ (a : List ℕ) (ts : List TrialLine) (t₀ : Entries) where
 
   module _ {at k : ℕ} {t : Entries} (s : Keeping at k t) where
     module _ (l : k < count_of a) where
-      pub entry_tested : SoundEntry (top_of a) (conditions_of a) (used_of a - at) a at
-      entry_tested = entry_sound a s.scanning l
-
       pub entry_room : t.end + step_at a at ≤ length t.area.now
       entry_room = omega (arith, s.short, s.size, s.long, (scanning_next a s.scanning l).in_used)
 
@@ -157,7 +154,7 @@ module _ (a : List ℕ) (ts : List TrialLine) (t₀ : Entries) where
             puts = puts_then s.puts p;
             size = lines_length_lem w ∙ s.size;
             long = s.long;
-            short = omega (arith, s.short, m.place, w.codes.behind, short.1, entry_size a at entry_tested);
+            short = omega (arith, s.short, m.place, w.codes.behind, short.1, entry_size a at (entry_sound a s.scanning l));
             few = omega (arith, s.few, m.count, w.counted, short.0);
           }
 

@@ -3,15 +3,15 @@
 // and each condition the lines of the trial are looked through: no table of conditions is kept.
 #![tactic(auto)]
 
-ghost use Rattle.std.specs.Prelude.{◌≡◌, true, ◌++◌, ◌+◌, ◌-◌, ◌≤◌, ◌<◌, length, drop};
-ghost use Rattle.semantics.specs.Area.{sound, line_at, top_of, conditions_of, used_of, first_line};
+ghost use Rattle.std.specs.Prelude.{◌≡◌, true, ◌++◌, ◌+◌, ◌≤◌, ◌<◌, length, drop};
+ghost use Rattle.semantics.specs.Area.{sound, line_at, used_of, first_line};
 ghost use Rattle.semantics.specs.Trials.{interval_for, tried, kept_line, fact_if};
 ghost use Rattle.page.specs.Lines.{step_at};
-ghost use Rattle.page.specs.Graded.{SoundEntry};
+ghost use Rattle.page.specs.Places.{LineIn};
 ghost use Rattle.change.specs.Trial.{trial_at, lines_in, changed_area, given_of, goes};
 ghost use Rattle.change.specs.Written.{PutsEntry, PutsLines, FactsFit, LinesKept, FactsWrote};
 
-use page::span_of;
+use page::{Page, span_of};
 use print::put_all;
 
 // The interval that a line of a trial gives a condition. Not the `Ends` of `value`: this crate stands on page and print alone.
@@ -46,12 +46,13 @@ fn trial_gives(lines: &[u16], c: u16) -> Option<Ends>
     given
 }
 
-// Whether the entry at `at` of a page is an F line of a condition that the trial's lines name.
-fn line_goes(a: &[u16], at: usize, lines: &[u16]) -> bool
-    requires { at + 4 ≤ length a.now }
-    ensures { result ≡ goes (lines_in lines.now) (line_at (drop at a.now)) }
+// Whether the line at `at` is an F line of a condition that the trial's lines name.
+fn line_goes(page: &Page, at: usize, lines: &[u16]) -> bool
+    requires { LineIn page.now at }
+    ensures { result ≡ goes (lines_in lines.now) (line_at (drop at page.now)) }
 {
-    a[at + 1] == 0 && trial_gives(lines, a[at]).is_some()
+    let line = page.entry(at);
+    line.kind == 0 && trial_gives(lines, line.condition).is_some()
 }
 
 // A lent area, the place up to which entries are written, and how many they are.
@@ -73,25 +74,27 @@ impl<'a> Entries<'a> {
     }
 }
 
-// The entry at `at` of the page, unless it goes.
-fn keep_line(a: &[u16], at: usize, lines: &[u16], entries: &mut Entries<'_>)
-    requires { SoundEntry (top_of a.now) (conditions_of a.now) (used_of a.now - at) a.now at × (entries.old.end + step_at a.now at ≤ length entries.old.area.now) × (entries.old.count < 65535) }
-    ensures { PutsLines entries.old (kept_line (lines_in lines.now) (line_at (drop at a.now))) entries.new }
+// The entry of the line at `at`, unless the line goes.
+fn keep_line(page: &Page, at: usize, lines: &[u16], entries: &mut Entries<'_>)
+    requires { LineIn page.now at × (entries.old.end + step_at page.now at ≤ length entries.old.area.now) × (entries.old.count < 65535) }
+    ensures { PutsLines entries.old (kept_line (lines_in lines.now) (line_at (drop at page.now))) entries.new }
 {
-    if line_goes(a, at, lines) {
+    if line_goes(page, at, lines) {
         return;
     }
-    let behind = at + span_of(a[at + 1], a[at + 3]);
+    let line = page.entry(at);
+    let a = page.numbers;
+    let behind = at + span_of(line.kind, line.y);
     entries.put(&a[at..behind]);
 }
 
 // The entries of the page's lines that stay, from where its lines begin.
-fn keep_lines(a: &[u16], lines: &[u16], entries: &mut Entries<'_>)
-    requires { (sound a.now ≡ true) × (used_of a.now ≤ length entries.old.area.now) × (entries.old.end ≡ first_line a.now) × (entries.old.count ≡ 0) }
-    ensures { LinesKept a.now (lines_in lines.now) entries.old entries.new }
+fn keep_lines(page: &Page, lines: &[u16], entries: &mut Entries<'_>)
+    requires { (sound page.now ≡ true) × (used_of page.now ≤ length entries.old.area.now) × (entries.old.end ≡ first_line page.now) × (entries.old.count ≡ 0) }
+    ensures { LinesKept page.now (lines_in lines.now) entries.old entries.new }
 {
-    for at in page::Lines::of(a) {
-        keep_line(a, at, lines, entries);
+    for at in page.lines() {
+        keep_line(page, at, lines, entries);
     }
 }
 
@@ -117,19 +120,19 @@ fn put_facts(lines: &[u16], n: u16, entries: &mut Entries<'_>)
 
 // The area of the page that the lines of a trial change: four numbers for each line, its trial, condition, low and high. The count of lines
 // and the used length are written last.
-pub fn change(a: &[u16], lines: &[u16], area: &mut [u16])
-    requires { (sound a.now ≡ true) × (14852 ≤ length area.old) }
-    ensures { area.new ≡ changed_area a.now lines.now ++ drop (used_of (changed_area a.now lines.now)) area.old }
+pub fn change(page: &Page, lines: &[u16], area: &mut [u16])
+    requires { (sound page.now ≡ true) × (14852 ≤ length area.old) }
+    ensures { area.new ≡ changed_area page.now lines.now ++ drop (used_of (changed_area page.now lines.now)) area.old }
 {
-    let n = a[1];
+    let n = page.conditions();
     let first = 4 + n as usize;
-    let end = put_all(area, 0, &a[..first]);
+    let end = put_all(area, 0, &page.numbers[..first]);
     let mut entries = Entries {
         area,
         end,
         count: 0,
     };
-    keep_lines(a, lines, &mut entries);
+    keep_lines(page, lines, &mut entries);
     put_facts(lines, n, &mut entries);
     let (end, count) = (entries.end, entries.count);
     area[2] = count;

@@ -1,16 +1,14 @@
 -- The operation as a whole: the start from the closure, the answers in list order, the cleared scratch, and the refusals. Assumes nothing.
 use mathlib.Core.Path.{◌≡◌, refl, sym, ◌∙◌, ap, ap₂}
 use mathlib.Core.Bool.{Bool, true, false, not, true≢false}
-use mathlib.Core.Logic.{◌≢◌, inr}
 use mathlib.Core.List.{List, [], ◌∷◌, ◌++◌, append_assoc}
 use mathlib.Core.Option.{none, some}
-use Prim.Native.Nat.{ℕ, suc, ◌+◌, ◌*◌, ◌-◌, ◌≤◌, ◌<◌}
+use Prim.Native.Nat.{ℕ, suc, ◌+◌, ◌*◌, ◌≤◌, ◌<◌}
 use native.Mathlib.Numerals.{add-one}
 use native.Mathlib.Omega.{arith}
 use lib.Dec.{leb}
-use lib.ListN.{length, get_or, set, take, drop, length-append, length-take, length-drop, length-set}
-use lib.Seq.{drop_at, length-take-le, drop-cons, take-suc, take-length, set_at, get_or-set_same, get_or-set_other, drop-set-lt}
-use borrow.Author.Rules.{part_to_end}
+use lib.ListN.{length, get_or, set, take, drop, length-append, length-take}
+use lib.Seq.{drop-cons, take-suc, take-length, set_at}
 use borrow.Author.Tests.{le-leb, lt-leb, leb-true, not-false}
 use Rattle.fixpoint.specs.ChaoticIteration.{DependencyClosed}
 use Rattle.fixpoint.specs.Interval.{Assign}
@@ -20,7 +18,7 @@ use Rattle.fixpoint.proofs.Tables.{turned_first}
 use Rattle.semantics.specs.Area.{sound, page_of, top_of, conditions_of}
 use Rattle.semantics.specs.Body.{unknown_by_default}
 use Rattle.semantics.specs.Call.{Cause, cause, first_of}
-use Rattle.semantics.specs.Operation.{ends, zeros, scratch_length, closed_causes, index_length, used_workspace, closed_workspace, refused_closing, closed_after, ClosedOf}
+use Rattle.semantics.specs.Operation.{ends, zeros, scratch_length, closed_causes, used_workspace, closed_workspace, refused_closing, closed_after, ClosedOf}
 use Rattle.semantics.specs.Page.{names}
 use Rattle.semantics.specs.Reading.{queried, closure}
 use Rattle.semantics.specs.Table.{listed, member}
@@ -30,19 +28,17 @@ use Rattle.semantics.proofs.Invariant.{no_cause_holds}
 use Rattle.semantics.proofs.Keeps.{length_ends, ends_listed}
 use Rattle.semantics.proofs.Readings.{names_inside, closed_is}
 use Rattle.page.proofs.Head.{head_of}
-use Rattle.index.specs.Parts.{lines_length, Index}
 use Rattle.reach.specs.Marks.{Marks}
 use Rattle.reach.specs.Queries.{list_causes}
-use Rattle.reach.proofs.Refusals.{first_10, first_before, first_after}
+use Rattle.reach.proofs.Refusals.{first_before, first_after}
 use Rattle.settle.specs.Scratch.{held}
 use Rattle.closed.specs.Answer.{FirstCause}
-use Rattle.settle.specs.Waiting.{MaybeIndex}
 use Rattle.rounds.specs.Round.{closed_at, RoundReady, Alternated}
 use Rattle.closed.specs.Solving.{Begun, SolveReady, Solved}
 use Rattle.stages.specs.Counted.{CountReady, Counted}
 use Rattle.semantics.proofs.RoundsReached.{count_over}
 use Rattle.settle.proofs.Raising.{S}
-use Rattle.rounds.proofs.Starting.{upto}
+use Rattle.page.specs.Solvable.{solvable}
 use Rattle.page.proofs.Solvable.{sound_solvable, solvable_proper}
 
 -- the loop that begins: the conditions before c have [0;top]
@@ -55,41 +51,8 @@ module _ (n top : ℕ) (s₀ : List ℕ) where
     pub highs : (d : ℕ) → d < c → get_or s (2 * n + 2 * d) 0 ≡ top
     pub beyond : drop (4 * n) s ≡ drop (4 * n) s₀
 
-  pub beginning_first : 4 * n ≤ length s₀ → Beginning s₀ 0
-  beginning_first h =
-      record { long = h; within = omega arith; same_length = refl; lows = λ d l. absurd (omega arith); highs = λ d l. absurd (omega arith); beyond = refl }
-
-  module _ {s : List ℕ} {c : ℕ} (v : Beginning s c) (l : c < n) where
-    abbrev s₁ : List ℕ
-    s₁ = set s (2 * c) 0
-
-    abbrev s₂ : List ℕ
-    s₂ = set s₁ (2 * n + 2 * c) top
-
-    size : length s₁ ≡ length s₀
-    size = length-set s (2 * c) 0 ∙ v.same_length
-
-    else' : (j : ℕ) → j ≢ 2 * c → j ≢ 2 * n + 2 * c → get_or s₂ j 0 ≡ get_or s j 0
-    else' j p q = get_or-set_other s₁ (2 * n + 2 * c) j top 0 q ∙ get_or-set_other s (2 * c) j 0 0 p
-
-    pub beginning_next : Beginning s₂ (c + 1)
-    beginning_next =
-        record {
-          long = v.long;
-          within = omega arith;
-          same_length = length-set s₁ (2 * n + 2 * c) top ∙ size;
-          lows = upto (λ d. get_or s₂ (2 * d) 0 ≡ 0) c (λ d m. else' (2 * d) (λ z. omega arith) (λ z. omega arith) ∙ v.lows d m)
-              (get_or-set_other s₁ (2 * n + 2 * c) (2 * c) top 0 (λ z. omega arith) ∙ get_or-set_same s (2 * c) 0 0 (omega (arith, v.same_length, v.long)));
-          highs = upto (λ d. get_or s₂ (2 * n + 2 * d) 0 ≡ top) c (λ d m. else' (2 * n + 2 * d) (λ z. omega arith) (λ z. omega arith) ∙ v.highs d m)
-              (get_or-set_same s₁ (2 * n + 2 * c) top 0 (omega (arith, size, v.long)));
-          beyond = drop-set-lt (4 * n) s₁ (2 * n + 2 * c) top (omega arith) ∙ drop-set-lt (4 * n) s (2 * c) 0 (omega arith) ∙ v.beyond;
-        }
-
-  pub beginning_last : {s : List ℕ} {c : ℕ} → Beginning s c → n ≤ c → Begun n top s₀ s
-  beginning_last v l = record { same_length = v.same_length; lows = λ d m. v.lows d (omega arith); highs = λ d m. v.highs d (omega arith); beyond = v.beyond }
-
 -- the start: the marks are those of the closure
-module _ (a qs s w : List ℕ) (r : SolveReady a qs s w) {marks : List Bool} (m : Marks (closure (page_of a) qs) marks) {s₁ : List ℕ} (b : Begun (conditions_of a) (top_of a) s s₁) where
+module _ (a qs s w : List ℕ) (ok : solvable a ≡ true) (r : SolveReady a qs s w) {marks : List Bool} (m : Marks (closure (page_of a) qs) marks) {s₁ : List ℕ} (b : Begun (conditions_of a) (top_of a) s s₁) where
   shut : DependencyClosed (page_of a).conditions (names (page_of a)) (member marks)
   shut c d l k p q = m.same d ∙ reached_closed (page_of a) qs c d l k (sym (m.same c) ∙ p) q
 
@@ -97,15 +60,14 @@ module _ (a qs s w : List ℕ) (r : SolveReady a qs s w) {marks : List Bool} (m 
   unfolding page_of
   rounds_begin =
       record {
-        page_solvable = r.page_solvable;
         long = omega (arith, r.long, b.same_length);
-        marked = omega (arith, m.size, (head_of a r.page_solvable).few);
+        marked = omega (arith, m.size, (head_of a ok).few);
         shut = shut;
         within = λ c l. omega (arith, b.lows c l);
         highs_in = λ c l e. omega (arith, b.highs c l);
         apart = λ c l q. b.lows c l;
         round = 0;
-        turned = turned_first (S a r.page_solvable) shut (unknown_by_default (page_of a))
+        turned = turned_first (S a ok) shut (unknown_by_default (page_of a))
             (λ c l q. pair_eq (b.lows c l) (by_bool (unknown_by_default (page_of a) c) (λ e. cond_true (get_or s₁ (2 * conditions_of a + 2 * c) 0) (top_of a) e ∙ b.highs c l)
             (λ e. cond_false (get_or s₁ (2 * conditions_of a + 2 * c) 0) (top_of a) e)));
       }
@@ -116,9 +78,6 @@ module _ (I : Assign) (qs answers₀ : List ℕ) where
     pub long : 2 * length qs ≤ length answers₀
     pub in_list : i ≤ length qs
     pub is : answers ≡ ends I (take i qs) ++ drop (2 * i) answers₀
-
-  pub answering_first : 2 * length qs ≤ length answers₀ → Answering answers₀ 0
-  answering_first h = record { long = h; in_list = omega arith; is = refl }
 
   ends_append : (xs ys : List ℕ) → ends I (xs ++ ys) ≡ ends I xs ++ ends I ys
   ends_append [] ys = refl
@@ -137,11 +96,6 @@ module _ (I : Assign) (qs answers₀ : List ℕ) where
       ∙ append_assoc p (x ∷ []) (y ∷ t) ∙ sym (append_assoc p (x ∷ y ∷ []) t) ∙ ap (λ (j : ℕ). (p ++ (x ∷ y ∷ [])) ++ drop j d) g
 
   module _ {answers : List ℕ} {i : ℕ} (s : Answering answers i) where
-    pub answering_length : length answers ≡ length answers₀
-    answering_length =
-        ap length s.is ∙ length-append (ends I (take i qs)) (drop (2 * i) answers₀)
-        ∙ omega (arith, length_ends I (take i qs), length-take i qs, length-drop (2 * i) answers₀, s.in_list, s.long)
-
     pub answering_next : i < length qs → {answers' : List ℕ} → answers' ≡ set (set answers (2 * i) (I (get_or qs i 0)).low) (2 * i + 1) (I (get_or qs i 0)).high → Answering answers' (i + 1)
     answering_next l w =
         let q : ℕ = get_or qs i 0 in
@@ -154,13 +108,8 @@ module _ (I : Assign) (qs answers₀ : List ℕ) where
               ∙ ap₂ {C = List ℕ} (λ x y. x ++ y) (sym (ap (ends I) (ap (λ (j : ℕ). take j qs) (add-one i) ∙ take-suc qs i 0 l) ∙ ends_append (take i qs) (q ∷ []))) (ap (λ (j : ℕ). drop j answers₀) e);
         }
 
-    pub answering_last : length qs ≤ i → answers ≡ ends I qs ++ drop (2 * length qs) answers₀
-    answering_last l =
-        let e : i ≡ length qs = omega (arith, s.in_list) in
-        s.is ∙ ap (λ (j : ℕ). ends I (take j qs) ++ drop (2 * j) answers₀) e ∙ ap (λ (t : List ℕ). ends I t ++ drop (2 * length qs) answers₀) (take-length qs)
-
 -- the answers are written over the closed reading, and then the rounds are counted
-module _ (a qs s w : List ℕ) (r : SolveReady a qs s w) {marks : List Bool} (m : Marks (closure (page_of a) qs) marks) {s₁ : List ℕ} (b : Begun (conditions_of a) (top_of a) s s₁)
+module _ (a qs s w : List ℕ) (ok : solvable a ≡ true) (r : SolveReady a qs s w) {marks : List Bool} (m : Marks (closure (page_of a) qs) marks) {s₁ : List ℕ} (b : Begun (conditions_of a) (top_of a) s s₁)
     {s₂ : List ℕ} (v : Alternated a marks s₁ s₂) where
   real : (c : ℕ) → listed c qs ≡ true → c < conditions_of a
   real c l = under_listed (conditions_of a) qs r.under c l
@@ -169,16 +118,15 @@ module _ (a qs s w : List ℕ) (r : SolveReady a qs s w) {marks : List Bool} (m 
   unfolding page_of
   answer c l =
       v.reads_closed c (real c l)
-      (m.same c ∙ reached_complete (page_of a) qs (names_inside (page_of a) (solvable_proper a r.page_solvable)) real (queried l))
+      (m.same c ∙ reached_complete (page_of a) qs (names_inside (page_of a) (solvable_proper a ok)) real (queried l))
 
   pub count_ready : CountReady a marks s₂
   unfolding page_of
   count_ready =
       record {
-        page_solvable = r.page_solvable;
         long = omega (arith, r.long, b.same_length, v.same_length);
-        marked = omega (arith, m.size, (head_of a r.page_solvable).few);
-        shut = shut a qs s w r m b;
+        marked = omega (arith, m.size, (head_of a ok).few);
+        shut = shut a qs s w ok r m b;
         reads_closed = v.reads_closed;
       }
 
@@ -203,16 +151,13 @@ module _ (a qs s w : List ℕ) (r : SolveReady a qs s w) {marks : List Bool} (m 
           beyond = h.beyond ∙ v.beyond ∙ b.beyond;
           written = written;
           rounds = λ e.
-              count_over (S a r.page_solvable) (shut a qs s w r m b) (reached_closed (page_of a) qs) (unknown_by_default (page_of a)) (λ c l. m.same c) h.is_count;
+              count_over (S a ok) (shut a qs s w ok r m b) (reached_closed (page_of a) qs) (unknown_by_default (page_of a)) (λ c l. m.same c) h.is_count;
         }
 
 -- the causes of a refusal, in the order of the code's tests
 module _ (a qs s w : List ℕ) where
   abbrev behind : List Cause
   behind = cause (not (leb (scratch_length (page_of a)) (length s))) 18 ∷ cause (not (leb (2 * length qs) (length w))) 19 ∷ []
-
-  pub causes_10 : sound a ≡ false → FirstCause (some 10) a qs s w
-  causes_10 e = record { is = sym (first_10 a qs behind e) }
 
   module _ (ok : sound a ≡ true) where
     -- past 10 the causes of the list come first
@@ -247,12 +192,14 @@ module _ (a qs s w : List ℕ) where
 
   -- none of the causes holds
   module _ (e : FirstCause none a qs s w) where
+    sound_page : solvable a ≡ true
+    sound_page = sound_solvable a (not-false _ (no_cause_holds (closed_causes a qs s w) (sym e.is)).0)
+
     pub solve_ready : SolveReady a qs s w
     unfolding page_of
     solve_ready =
         let h = no_cause_holds (closed_causes a qs s w) (sym e.is) in
         record {
-          page_solvable = sound_solvable a (not-false _ h.0);
           under = not-false _ h.1.1.0;
           long = leb-true (4 * conditions_of a) (length s) (not-false _ h.1.1.1.0);
           room = leb-true (2 * length qs) (length w) (not-false _ h.1.1.1.1.0);
@@ -266,7 +213,7 @@ module _ (a qs s w : List ℕ) where
         rw (← e.is) (
         record {
           reading = closed_at a;
-          is_closed = closed_is (page_of a) (solvable_proper a solve_ready.page_solvable);
+          is_closed = closed_is (page_of a) (solvable_proper a sound_page);
           rounds = k;
           is_rounds = v.rounds refl;
           told = refl;
@@ -284,18 +231,3 @@ module _ (a qs s w : List ℕ) where
   pub workspace_kept : {k : ℕ} {x : List ℕ} → FirstCause (some k) a qs s w → x ≡ closed_workspace a qs s w x
   unfolding closed_workspace
   workspace_kept {k} {x} e = rw (← e.is)
-
--- an index in the two parts that the code takes
-pub built_index : (a w : List ℕ) → Index a w → (k : ℕ) → k ≡ lines_length a → MaybeIndex a (take (k - 0) w) (take (length w - k) (drop k w))
-built_index a w i k h =
-    let z : k - 0 ≡ k = omega arith in
-    inr (rw (z, h) i.lines, rw (part_to_end w k, h) i.users)
-
--- the workspace, too short and long enough
-pub workspace_short : (a w : List ℕ) → length w < index_length a → w ≡ used_workspace a w
-workspace_short a w l = rw (lt-leb (index_length a) (length w) l)
-
-pub workspace_long : (a w x : List ℕ) (m : ℕ) → m ≡ index_length a → m ≤ length w → length x ≡ length (take m w) → zeros m ++ drop m (x ++ drop m w) ≡ used_workspace a w
-workspace_long a w x m h l q =
-    let z : length x ≡ m = q ∙ length-take-le m w l in
-    ap (λ (t : List ℕ). zeros m ++ t) (drop_at x (drop m w) m z) ∙ rw (h, le-leb (index_length a) (length w) (omega arith))

@@ -5,7 +5,6 @@ use Rattle.semantics.specs.Area.{page_of, conditions_of, all_under}
 use Rattle.semantics.specs.Operation.{ends}
 use Rattle.semantics.specs.Rounds.{IsRounds}
 use Rattle.rounds.specs.Round.{closed_at}
-use Rattle.page.specs.Solvable.{solvable}
 
 -- the interval that a table of ends holds: the low end of c stands at `step` × c, and the high end `gap` numbers behind it
 abbrev pub ends_at : (table : List ℕ) (step gap : ℕ) → Assign
@@ -20,7 +19,6 @@ pub record Begun (n top : ℕ) (s s' : List ℕ) : Type 0 where
 
 -- the closed reading can be solved, and there is room for its answers
 pub record SolveReady (a qs s w : List ℕ) : Type 0 where
-  pub page_solvable : solvable a ≡ true
   pub under : all_under (conditions_of a) qs ≡ true
   pub long : 4 * conditions_of a ≤ length s
   pub room : 2 * length qs ≤ length w

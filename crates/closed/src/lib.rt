@@ -1,13 +1,14 @@
 // The closed reading, by rounds of two halves: the least high ends over the floor held, then the least floor over the high ends held.
 #![tactic(auto)]
 
-ghost use Rattle.std.specs.Prelude.{◌≡◌, ◌++◌, ℕ, ◌≤◌, ◌+◌, ◌<◌, ◌*◌, length, get_or, drop};
-ghost use Rattle.semantics.specs.Operation.{ends, zeros, index_length, used_workspace, closed_workspace, ClosedOf};
-ghost use Rattle.settle.specs.Waiting.{MaybeIndex};
+ghost use Rattle.std.specs.Prelude.{◌≡◌, ◌++◌, ℕ, ◌≤◌, ◌+◌, ◌<◌, ◌*◌, length, get_or, drop, IfOk};
+ghost use Rattle.semantics.specs.Operation.{ends, zeros, used_workspace, closed_workspace, ClosedOf};
 ghost use Rattle.closed.specs.Solving.{ends_at, Begun, SolveReady, Solved};
 ghost use Rattle.reach.specs.Queries.{refused_with};
 ghost use Rattle.closed.specs.Answer.{closing_told, FirstCause};
 
+use index::Source;
+use page::Page;
 use refusal::Refusal;
 
 // Nothing is known: the low ends are 0 and the high ends top.
@@ -37,39 +38,44 @@ pub fn write_ends(table: &[u16], step: usize, gap: usize, queries: &[u16], answe
 // The closed reading of every condition reached from the queries, in the scratch; its answers; and the count of rounds if it is asked for, which
 // leaves other numbers in the scratch. `counting` stays a switch: a second function would repeat this one and its contract.
 fn solve(
-    a: &[u16],
+    source: &Source,
     queries: &[u16],
-    lines: &[u16],
-    users: &[u16],
     scratch: &mut [u16],
     answers: &mut [u16],
     counting: bool,
 ) -> u32
-    requires { SolveReady a.now queries.now scratch.old answers.old × MaybeIndex a.now lines.now users.now }
-    ensures { Solved a.now queries.now scratch.old answers.old scratch.new answers.new counting result }
+    requires { SolveReady source.now.area queries.now scratch.old answers.old }
+    ensures { Solved source.now.area queries.now scratch.old answers.old scratch.new answers.new counting result }
 {
-    let n = a[1];
+    let page = source.page;
+    let n = page.conditions();
     let mut marks = [false; 512];
-    reach::mark_closure(a, queries, &mut marks);
-    begin(scratch, n, a[0]);
-    let free = unknowns::any_free(a, &marks);
+    reach::mark_closure(page, queries, &mut marks);
+    begin(scratch, n, page.top());
+    let free = unknowns::any_free(page, &marks);
     let mut next = [0u8; 512];
-    rounds::alternate(a, lines, users, &marks, scratch, &mut next, free);
+    rounds::alternate(source, &marks, scratch, &mut next, free);
     write_ends(scratch, 2, 2 * n as usize, queries, answers);
     if !counting {
         return 0;
     }
-    stages::count_rounds(a, lines, users, &marks, scratch, &mut next, free)
+    stages::count_rounds(source, &marks, scratch, &mut next, free)
 }
 
-// The first cause of a refusal, if there is one.
-fn refusal(page: &[u16], queries: &[u16], scratch: &[u16], answers: &[u16]) -> Result<(), Refusal>
-    ensures { FirstCause (refused_with result) page.now queries.now scratch.now answers.now }
+// The page, or the first cause of a refusal.
+fn check_call<'a>(
+    page: &'a [u16],
+    queries: &[u16],
+    scratch: &[u16],
+    answers: &[u16],
+) -> Result<Page<'a>, Refusal>
+    ensures cause { FirstCause (refused_with result) page.now queries.now scratch.now answers.now }
+    ensures same { IfOk result (λ p. p ≡ page.now) }
 {
-    if !page::page_sound(page) {
+    let Some(page) = Page::of(page) else {
         return Err(Refusal::PageNotSound);
-    }
-    let n = page[1];
+    };
+    let n = page.conditions();
     reach::check_queries(queries, n)?;
     if scratch.len() < 4 * n as usize {
         return Err(Refusal::ScratchShort);
@@ -77,7 +83,7 @@ fn refusal(page: &[u16], queries: &[u16], scratch: &[u16], answers: &[u16]) -> R
     if answers.len() < 2 * queries.len() {
         return Err(Refusal::AnswersShort);
     }
-    Ok(())
+    Ok(page)
 }
 
 // The scratch ends as zeros.
@@ -97,50 +103,33 @@ pub fn closed_reading(
 ) -> Result<u32, Refusal>
     ensures { ClosedOf (closing_told result) page.now queries.now scratch.old answers.old scratch.new answers.new }
 {
-    refusal(page, queries, scratch, answers)?;
-    let none = &page[..0];
-    let rounds = solve(page, queries, none, none, scratch, answers, true);
-    clear(scratch, page[1]);
+    let page = check_call(page, queries, scratch, answers)?;
+    let source = Source::scanned(&page);
+    let rounds = solve(&source, queries, scratch, answers, true);
+    clear(scratch, page.conditions());
     Ok(rounds)
-}
-
-// The same as `solve`, with an index that is built in `w`.
-fn solve_indexed(
-    a: &[u16],
-    queries: &[u16],
-    scratch: &mut [u16],
-    answers: &mut [u16],
-    w: &mut [u16],
-    counting: bool,
-) -> u32
-    requires { SolveReady a.now queries.now scratch.old answers.old × (length w.old ≡ index_length a.now) }
-    ensures { Solved a.now queries.now scratch.old answers.old scratch.new answers.new counting result }
-{
-    index::build(a, w);
-    let k = index::lines_length(a);
-    let lines = &w[0..k];
-    let users = &w[k..];
-    solve(a, queries, lines, users, scratch, answers, counting)
 }
 
 // The same as `solve`, with an index if the workspace has room for it.
 pub fn solve_over(
-    a: &[u16],
+    page: &Page,
     queries: &[u16],
     scratch: &mut [u16],
     answers: &mut [u16],
     workspace: &mut [u16],
     counting: bool,
 ) -> u32
-    requires { SolveReady a.now queries.now scratch.old answers.old }
-    ensures { Solved a.now queries.now scratch.old answers.old scratch.new answers.new counting result × (workspace.new ≡ used_workspace a.now workspace.old) }
+    requires { SolveReady page.now queries.now scratch.old answers.old }
+    ensures { Solved page.now queries.now scratch.old answers.old scratch.new answers.new counting result × (workspace.new ≡ used_workspace page.now workspace.old) }
 {
-    let m = index::index_length(a);
+    let m = index::index_length(page);
     if workspace.len() < m {
-        let none = &a[..0];
-        return solve(a, queries, none, none, scratch, answers, counting);
+        let source = Source::scanned(page);
+        return solve(&source, queries, scratch, answers, counting);
     }
-    let rounds = solve_indexed(a, queries, scratch, answers, &mut workspace[..m], counting);
+    index::build(page, &mut workspace[..m]);
+    let source = Source::built(page, &workspace[..m]);
+    let rounds = solve(&source, queries, scratch, answers, counting);
     index::erase(workspace, m);
     rounds
 }
@@ -155,8 +144,8 @@ pub fn closed_indexed(
 ) -> Result<u32, Refusal>
     ensures { ClosedOf (closing_told result) page.now queries.now scratch.old answers.old scratch.new answers.new × (workspace.new ≡ closed_workspace page.now queries.now scratch.old answers.old workspace.old) }
 {
-    refusal(page, queries, scratch, answers)?;
-    let rounds = solve_over(page, queries, scratch, answers, workspace, true);
-    clear(scratch, page[1]);
+    let page = check_call(page, queries, scratch, answers)?;
+    let rounds = solve_over(&page, queries, scratch, answers, workspace, true);
+    clear(scratch, page.conditions());
     Ok(rounds)
 }

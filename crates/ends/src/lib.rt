@@ -11,8 +11,8 @@ ghost use Rattle.page.specs.Places.{LineOf};
 ghost use Rattle.value.specs.Table.{side, Grades, EndTable};
 ghost use Rattle.value.specs.LineEnds.{Folded, RuleEnd, LineEnd};
 ghost use Rattle.ends.specs.Mirror.{flip, mirrored, Mirrored, BothFoldable};
-ghost use Rattle.page.specs.Solvable.{solvable};
 
+use page::Page;
 use value::{End, Ends, bounded, divided, excess};
 
 // The low end of every literal at the intervals held.
@@ -78,10 +78,11 @@ fn fold_ends(codes: &[u16], k: u16, values: &[u8], top: u16, first: Ends) -> End
 
 // Both ends of the value of the rule at `at`: its op over its literals, then its weight.
 #[tactic(auto, using(crate::proofs::Rules::first_in, crate::proofs::Rules::first_grade, page::proofs::Head::head_of, page::proofs::Entries::small_product, value::proofs::Dividing::product_divides))]
-fn rule_ends(a: &[u16], at: usize, values: &[u8]) -> Ends
-    requires { (solvable a.now ≡ true) × Mirrored (top_of a.now) (conditions_of a.now) values.now × RuleAt (top_of a.now) (conditions_of a.now) a.now at × (1 ≤ get_or a.now (at + 1) 0) × (get_or a.now (at + 1) 0 ≤ 5) }
-    ensures { RuleEnd lower a.now values.now at result.low × RuleEnd upper a.now (mirrored (top_of a.now) values.now) at result.high }
+fn rule_ends(page: &Page, at: usize, values: &[u8]) -> Ends
+    requires { Mirrored (top_of page.now) (conditions_of page.now) values.now × RuleAt (top_of page.now) (conditions_of page.now) page.now at × (1 ≤ get_or page.now (at + 1) 0) × (get_or page.now (at + 1) 0 ≤ 5) }
+    ensures { RuleEnd lower page.now values.now at result.low × RuleEnd upper page.now (mirrored (top_of page.now) values.now) at result.high }
 {
+    let a = page.numbers;
     let top = a[0];
     let w = a[at + 2];
     let from = at + 5;
@@ -99,16 +100,16 @@ fn rule_ends(a: &[u16], at: usize, values: &[u8]) -> Ends
 }
 
 // Both ends of the value of the F or R line at `at`.
-pub fn line_ends(a: &[u16], at: usize, values: &[u8]) -> Ends
-    requires { (solvable a.now ≡ true) × Mirrored (top_of a.now) (conditions_of a.now) values.now × LineOf a.now (get_or a.now at 0) at }
-    ensures { LineEnd lower a.now values.now at result.low × LineEnd upper a.now (mirrored (top_of a.now) values.now) at result.high }
+pub fn line_ends(page: &Page, at: usize, values: &[u8]) -> Ends
+    requires { Mirrored (top_of page.now) (conditions_of page.now) values.now × LineOf page.now (get_or page.now at 0) at }
+    ensures { LineEnd lower page.now values.now at result.low × LineEnd upper page.now (mirrored (top_of page.now) values.now) at result.high }
 {
-    let k = a[at + 1];
-    match k {
+    let line = page.entry(at);
+    match line.kind {
         0 => Ends {
-            low: a[at + 2],
-            high: a[at + 3],
+            low: line.x,
+            high: line.y,
         },
-        _ => rule_ends(a, at, values),
+        _ => rule_ends(page, at, values),
     }
 }

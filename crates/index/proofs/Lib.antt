@@ -11,9 +11,11 @@ pub mod OneEntry
 pub mod Scans
 -- beginnings and items in one slice
 pub mod Lent
--- an index that may be missing
+-- a workspace that is erased
 pub mod Parts
 -- the groups in the items
 pub mod Grouped
 -- the heads whose rules have a literal
 pub mod Readers
+-- the group of a key
+pub mod Lookup

@@ -8,5 +8,7 @@ pub mod Items
 pub mod Work
 -- what is grouped: lines by head, or dependants by literal
 pub mod By
--- an index that may be missing, and how long it is
+-- the parts of an index, and how long it is
 pub mod Parts
+-- what a look-up gives
+pub mod Lookup

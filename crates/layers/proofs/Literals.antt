@@ -3,7 +3,7 @@ use mathlib.Core.Path.{◌≡◌, refl, sym, ◌∙◌, subst}
 use mathlib.Core.Logic.{⊎_elim}
 use mathlib.Core.Bool.{Bool, true, false, not, cond, ◌&&◌, ◌||◌, and-false, false≢true}
 use mathlib.Core.List.{List, ◌∷◌, map}
-use Prim.Native.Nat.{ℕ, zero, suc, ◌+◌, ◌-◌, ◌/◌, ◌%◌, ◌≤◌, ◌<◌}
+use Prim.Native.Nat.{ℕ, zero, suc, ◌+◌, ◌/◌, ◌%◌, ◌≤◌, ◌<◌}
 use native.Mathlib.Decide.{ℕ_discrete}
 use native.Mathlib.Numerals.{add-one}
 use native.Mathlib.Omega.{arith}
@@ -12,14 +12,12 @@ use lib.ListN.{length, get_or, take, drop}
 use Rattle.std.proofs.lemmas.List.{length-take, length-drop, get_or-take, get_or-drop}
 use lib.Seq.{drop-cons}
 use borrow.Author.Tests.{eq-eqb, ne_eqb, eqb-true}
-use Rattle.semantics.specs.Area.{Kind, fact_kind, rule_kind, query_kind, default_kind, no_kind, kind, literal_of, line_as, line_at, top_of, conditions_of, used_of}
+use Rattle.semantics.specs.Area.{Kind, fact_kind, rule_kind, query_kind, default_kind, no_kind, kind, literal_of, line_as, line_at}
 use Rattle.semantics.specs.Layers.{denies, lines_negate}
 use Rattle.semantics.specs.Page.{Literal, positive, negative, condition_of, mentions, Line}
 use Rattle.semantics.proofs.Layers.{or_right}
 use Rattle.semantics.proofs.Soundness.{both_true, subject_of}
 use Rattle.semantics.proofs.Table.{or_cases}
-use Rattle.page.specs.Graded.{RuleAt, SoundEntry}
-use Rattle.page.proofs.Entries.{rule_at}
 use Rattle.page.proofs.Scan.{rule_kind_lem, fact_kind_lem, over_five, line_at_lem}
 use Rattle.layers.specs.Raising.{line_negates}
 
@@ -101,10 +99,6 @@ module _ (a : List ℕ) (at : ℕ) (fits : at + 4 + get_or a (at + 3) 0 ≤ leng
 
   pub code_at : (i : ℕ) → i < get_or a (at + 3) 0 → get_or codes i 0 ≡ get_or a (at + 4 + i) 0
   code_at i l = rw e (get_or-take (get_or a (at + 3) 0) (drop (at + 4) a) i 0 l ∙ get_or-drop (at + 4) a i 0)
-
--- an R line at a place where an entry passes its tests is a rule
-pub rule_sound : (a : List ℕ) (at : ℕ) → SoundEntry (top_of a) (conditions_of a) (used_of a - at) a at → 1 ≤ get_or a (at + 1) 0 → get_or a (at + 1) 0 ≤ 5 → RuleAt (top_of a) (conditions_of a) a at
-rule_sound a at e l u = rule_at (top_of a) (conditions_of a) (used_of a - at) a at e.fits e.tests l u
 
 -- the line at a place negates c if it is a rule whose literals do
 module _ (a : List ℕ) (at c : ℕ) where

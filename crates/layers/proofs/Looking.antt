@@ -66,6 +66,10 @@ module _ (a : List ℕ) (at : ℕ) (levels : List ℕ) (level : ℕ) where
           denied = s.denied;
         }
 
+  -- all are passed
+  pub looking_last : {negated : Bool} {j : ℕ} → Looking negated j → y ≤ j → RuleInside a at levels level negated
+  looking_last s l = record { within = λ i m. s.passed i (omega arith); clear = λ e i m. s.clear e i (omega arith); denied = s.denied }
+
   -- a rule whose head is of the part
   module _ {top n : ℕ} (z : RuleAt top n a at) (k : 1 ≤ get_or a (at + 1) 0) (k' : get_or a (at + 1) 0 ≤ 5) (h : level_in levels (get_or a at 0) ≡ level) where
     line_inside : {negated : Bool} → RuleInside a at levels level negated → LineInside a at levels level negated

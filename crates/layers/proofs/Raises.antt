@@ -113,6 +113,7 @@ module _ (a : List ℕ) (layers₀ : List ℕ) where
   n = conditions_of a
 
   pub record Passing (layers : List ℕ) (at k : ℕ) (most : Option ℕ) : Type 0 where
+    pub ok : solvable a ≡ true
     pub scan : Scanning a at k
     pub size : length layers ≡ n
     pub grows : (c : ℕ) → layer_in layers₀ c ≤ layer_in layers c
@@ -127,6 +128,7 @@ module _ (a : List ℕ) (layers₀ : List ℕ) where
   pub passing_first : solvable a ≡ true → length layers₀ ≡ n → Low 511 layers₀ → {at k : ℕ} → (at ≡ first_line a) × (k ≡ 0) → Passing layers₀ at k None
   passing_first ok s l {at} {k} z =
       record {
+        ok = ok;
         scan = rw (z.0, z.1) (scanning_first a ok);
         size = s;
         grows = λ c. omega arith;
@@ -139,7 +141,7 @@ module _ (a : List ℕ) (layers₀ : List ℕ) where
         low = λ c. omega (arith, l c);
       }
 
-  module _ (ok : solvable a ≡ true) {layers : List ℕ} {at k : ℕ} {most : Option ℕ} (s : Passing layers at k most) (l : k < count_of a) {at' k' : ℕ} (e : Next a at k at' k')
+  module _ {layers : List ℕ} {at k : ℕ} {most : Option ℕ} (s : Passing layers at k most) (l : k < count_of a) {at' k' : ℕ} (e : Next a at k at' k')
       {layers' : List ℕ} {r : Option ℕ} (h : LineRaised a at layers layers' r) where
     abbrev head : ℕ
     head = get_or a at 0
@@ -174,10 +176,10 @@ module _ (a : List ℕ) (layers₀ : List ℕ) where
           ⊎_elim
           (λ q.
           let f = here_related by_names a s.scan s.named l e t.2.0 q.0 in
-          omega (arith, t.0, q.1, z t.2.0 (names_inside (page_of a) (solvable_proper a ok) head t.2.0 f), g.named head t.2.0 f))
+          omega (arith, t.0, q.1, z t.2.0 (names_inside (page_of a) (solvable_proper a s.ok) head t.2.0 f), g.named head t.2.0 f))
           (λ q.
           let f = here_related by_negates a s.scan s.negated l e t.2.0 q.0 in
-          omega (arith, t.0, q.1, z t.2.0 (names_inside (page_of a) (solvable_proper a ok) head t.2.0 (negates_names (page_of a) head t.2.0 f)), g.negated head t.2.0 f))
+          omega (arith, t.0, q.1, z t.2.0 (names_inside (page_of a) (solvable_proper a s.ok) head t.2.0 (negates_names (page_of a) head t.2.0 f)), g.negated head t.2.0 f))
           t.2.1
 
     step_low : (r : Option ℕ) → Told r → unwrap_or r 0 ≤ 512 + k
@@ -215,6 +217,7 @@ module _ (a : List ℕ) (layers₀ : List ℕ) where
     pub passing_next : Passing layers' at' k' (higher most r)
     passing_next =
         record {
+          ok = s.ok;
           scan = scanning_moved a s.scan l e;
           size = h.size ∙ s.size;
           grows = λ c. omega (arith, s.grows c, rises c);

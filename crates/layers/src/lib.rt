@@ -2,34 +2,34 @@
 // a search in depth finds the lowest condition from which a chain through a negation leads back.
 #![tactic(auto)]
 
-ghost use Rattle.std.specs.Prelude.{◌≡◌, true, ◌-◌, ◌≤◌, ◌<◌, ◌++◌, length, get_or, drop};
-ghost use Rattle.semantics.specs.Area.{page_of, top_of, conditions_of, used_of};
+ghost use Rattle.std.specs.Prelude.{◌≡◌, ◌+◌, ◌≤◌, ◌<◌, ◌++◌, length, get_or, drop};
+ghost use Rattle.semantics.specs.Area.{page_of, conditions_of};
 ghost use Rattle.semantics.specs.Layers.{LayersOf};
-ghost use Rattle.page.specs.Graded.{RuleAt, SoundEntry};
+ghost use Rattle.page.specs.Places.{LineIn};
 ghost use Rattle.layers.specs.Raising.{Low, Zero, Asked, Raised, LineRaised, PassRaised, Settled};
 ghost use Rattle.layers.specs.Levels.{lower, RuleLooked, LineLooked, PartLooked, Relabelled, LowestAt, Entered, Finished, Open, Explored, HeadOpened, Begun, LoopFound};
 ghost use Rattle.layers.specs.Verdict.{verdict_of, Worked};
-ghost use Rattle.page.specs.Solvable.{solvable};
 
+use page::Page;
 use refusal::Refusal;
 
 // The largest layer that the literals of the rule at `at` ask for: that of the condition, and one more for a negation.
-fn asked(a: &[u16], at: usize, layers: &[u16]) -> u16
-    requires { RuleAt (top_of a.now) (conditions_of a.now) a.now at × (length layers.now ≡ conditions_of a.now) × (conditions_of a.now ≤ 512) × Low 65534 layers.now }
-    ensures { Asked a.now at layers.now result }
+fn asked(page: &Page, at: usize, layers: &[u16]) -> u16
+    requires { LineIn page.now at × (1 ≤ get_or page.now (at + 1) 0) × (get_or page.now (at + 1) 0 ≤ 5) × (length layers.now ≡ conditions_of page.now) × Low 65534 layers.now }
+    ensures { Asked page.now at layers.now result }
 {
-    let codes = page::literals_at(a, at);
+    let codes = page.literals(at);
     let layer_of = |&code: &u16| layers[code as usize / 2] + code % 2;
     codes.iter().map(layer_of).max().unwrap_or(0)
 }
 
 // The head of the rule at `at` gets the layer that its literals ask for, if that is higher. Answers that layer, if so.
-fn raise_rule(a: &[u16], at: usize, layers: &mut [u16]) -> Option<u16>
-    requires { RuleAt (top_of a.now) (conditions_of a.now) a.now at × (get_or a.now at 0 < conditions_of a.now) × (length layers.old ≡ conditions_of a.now) × (conditions_of a.now ≤ 512) × Low 65534 layers.old }
-    ensures { Raised a.now at layers.old layers.new result }
+fn raise_rule(page: &Page, at: usize, layers: &mut [u16]) -> Option<u16>
+    requires { LineIn page.now at × (1 ≤ get_or page.now (at + 1) 0) × (get_or page.now (at + 1) 0 ≤ 5) × (length layers.old ≡ conditions_of page.now) × Low 65534 layers.old }
+    ensures { Raised page.now at layers.old layers.new result }
 {
-    let head = a[at] as usize;
-    let layer = asked(a, at, layers);
+    let head = page.entry(at).condition as usize;
+    let layer = asked(page, at, layers);
     if layer <= layers[head] {
         return None;
     }
@@ -38,37 +38,36 @@ fn raise_rule(a: &[u16], at: usize, layers: &mut [u16]) -> Option<u16>
 }
 
 // The same for the line at `at`, if it is an R line.
-fn raise_line(a: &[u16], at: usize, layers: &mut [u16]) -> Option<u16>
-    requires { SoundEntry (top_of a.now) (conditions_of a.now) (used_of a.now - at) a.now at × (length layers.old ≡ conditions_of a.now) × (conditions_of a.now ≤ 512) × Low 65534 layers.old }
-    ensures { LineRaised a.now at layers.old layers.new result }
+fn raise_line(page: &Page, at: usize, layers: &mut [u16]) -> Option<u16>
+    requires { LineIn page.now at × (length layers.old ≡ conditions_of page.now) × Low 65534 layers.old }
+    ensures { LineRaised page.now at layers.old layers.new result }
 {
-    let k = a[at + 1];
-    match k {
-        1..=5 => raise_rule(a, at, layers),
+    match page.entry(at).kind {
+        1..=5 => raise_rule(page, at, layers),
         _ => None,
     }
 }
 
 // One pass over the lines, in place: the highest layer that was raised to, if any was.
-fn raise_pass(a: &[u16], layers: &mut [u16]) -> Option<u16>
-    requires { (solvable a.now ≡ true) × (length layers.old ≡ conditions_of a.now) × Low 511 layers.old }
-    ensures { PassRaised (page_of a.now) layers.old layers.new result }
+fn raise_pass(page: &Page, layers: &mut [u16]) -> Option<u16>
+    requires { (length layers.old ≡ conditions_of page.now) × Low 511 layers.old }
+    ensures { PassRaised (page_of page.now) layers.old layers.new result }
 {
     let mut most = None;
-    for at in page::Lines::of(a) {
-        most = most.max(raise_line(a, at, layers));
+    for at in page.lines() {
+        most = most.max(raise_line(page, at, layers));
     }
     most
 }
 
 // Raises layers from 0, pass by pass: whether a pass changes nothing. At the latest pass C does, unless a chain through a negation leads back.
-fn settle(a: &[u16], layers: &mut [u16]) -> bool
-    requires { (solvable a.now ≡ true) × (length layers.old ≡ conditions_of a.now) × Zero layers.old }
-    ensures { Settled (page_of a.now) layers.new result }
+fn settle(page: &Page, layers: &mut [u16]) -> bool
+    requires { (length layers.old ≡ conditions_of page.now) × Zero layers.old }
+    ensures { Settled (page_of page.now) layers.new result }
 {
-    let n = a[1];
+    let n = page.conditions();
     for _ in 0..n {
-        match raise_pass(a, layers) {
+        match raise_pass(page, layers) {
             None => return true,
             Some(most) if n <= most => return false,
             Some(_) => {}
@@ -80,12 +79,12 @@ fn settle(a: &[u16], layers: &mut [u16]) -> bool
 // A level stays a number, since the levels stand in the table of numbers that the layers were in: 0 not met, 513 done, else a part, from 1 on.
 
 // Whether the rule at `at` negates a condition of the part at `level`; as an error the first condition that it names outside of the part.
-fn look_rule(a: &[u16], at: usize, levels: &[u16], level: u16) -> Result<bool, u16>
-    requires { RuleAt (top_of a.now) (conditions_of a.now) a.now at × (length levels.now ≡ conditions_of a.now) × (conditions_of a.now ≤ 512) }
-    ensures { RuleLooked a.now at levels.now level result }
+fn look_rule(page: &Page, at: usize, levels: &[u16], level: u16) -> Result<bool, u16>
+    requires { LineIn page.now at × (1 ≤ get_or page.now (at + 1) 0) × (get_or page.now (at + 1) 0 ≤ 5) × (length levels.now ≡ conditions_of page.now) }
+    ensures { RuleLooked page.now at levels.now level result }
 {
     let mut negated = false;
-    for &code in page::literals_at(a, at) {
+    for &code in page.literals(at) {
         let l = levels[code as usize / 2];
         if l == level {
             negated |= code % 2 == 1;
@@ -97,28 +96,28 @@ fn look_rule(a: &[u16], at: usize, levels: &[u16], level: u16) -> Result<bool, u
 }
 
 // The same for the line at `at`, if it is an R line whose head is of the part.
-fn look_line(a: &[u16], at: usize, levels: &[u16], level: u16) -> Result<bool, u16>
-    requires { SoundEntry (top_of a.now) (conditions_of a.now) (used_of a.now - at) a.now at × (length levels.now ≡ conditions_of a.now) × (conditions_of a.now ≤ 512) }
-    ensures { LineLooked a.now at levels.now level result }
+fn look_line(page: &Page, at: usize, levels: &[u16], level: u16) -> Result<bool, u16>
+    requires { LineIn page.now at × (length levels.now ≡ conditions_of page.now) }
+    ensures { LineLooked page.now at levels.now level result }
 {
-    if levels[a[at] as usize] != level {
+    let line = page.entry(at);
+    if levels[line.condition as usize] != level {
         return Ok(false);
     }
-    let k = a[at + 1];
-    match k {
-        1..=5 => look_rule(a, at, levels, level),
+    match line.kind {
+        1..=5 => look_rule(page, at, levels, level),
         _ => Ok(false),
     }
 }
 
 // The same for all lines: whether the part negates itself; as an error a condition that it names outside of it.
-fn look(a: &[u16], levels: &[u16], level: u16) -> Result<bool, u16>
-    requires { (solvable a.now ≡ true) × (length levels.now ≡ conditions_of a.now) }
-    ensures { PartLooked (page_of a.now) levels.now level result }
+fn look(page: &Page, levels: &[u16], level: u16) -> Result<bool, u16>
+    requires { length levels.now ≡ conditions_of page.now }
+    ensures { PartLooked (page_of page.now) levels.now level result }
 {
     let mut negated = false;
-    for at in page::Lines::of(a) {
-        negated |= look_line(a, at, levels, level)?;
+    for at in page.lines() {
+        negated |= look_line(page, at, levels, level)?;
     }
     Ok(negated)
 }
@@ -184,15 +183,16 @@ fn finish(levels: &mut [u16], level: u16, negated: bool, lowest: Option<u16>) ->
 
 // Every condition that a chain from `root` leads to is done: answers the lowest condition on a loop through a negation so far.
 // The path goes up and down, so the loop is no `for`.
-fn explore(a: &[u16], levels: &mut [u16], root: u16, lowest: Option<u16>) -> Option<u16>
-    requires { (solvable a.now ≡ true) × Open (page_of a.now) levels.old 0 lowest × (root < conditions_of a.now) × (get_or levels.old root 0 ≡ 0) }
-    ensures { Explored (page_of a.now) root levels.old levels.new result }
+fn explore(page: &Page, levels: &mut [u16], root: u16, lowest: Option<u16>) -> Option<u16>
+    requires { Open (page_of page.now) levels.old 0 lowest × (root < conditions_of page.now) × (get_or levels.old root 0 ≡ 0) }
+    ensures { Explored (page_of page.now) root levels.old levels.new result }
 {
+    page.recall();
     let mut least = lowest;
     let mut level: u16 = 1;
     levels[root as usize] = 1;
     while 0 < level {
-        match look(a, levels, level) {
+        match look(page, levels, level) {
             Err(c) => level = enter(levels, level, c),
             Ok(negated) => {
                 least = finish(levels, level, negated, least);
@@ -204,41 +204,42 @@ fn explore(a: &[u16], levels: &mut [u16], root: u16, lowest: Option<u16>) -> Opt
 }
 
 // The head of the line at `at` is not met, if it is an R line.
-fn open_head(a: &[u16], at: usize, levels: &mut [u16])
-    requires { SoundEntry (top_of a.now) (conditions_of a.now) (used_of a.now - at) a.now at × (length levels.old ≡ conditions_of a.now) }
-    ensures { HeadOpened a.now at levels.old levels.new }
+fn open_head(page: &Page, at: usize, levels: &mut [u16])
+    requires { LineIn page.now at × (length levels.old ≡ conditions_of page.now) }
+    ensures { HeadOpened page.now at levels.old levels.new }
 {
-    let k = a[at + 1];
-    match k {
-        1..=5 => levels[a[at] as usize] = 0,
+    let line = page.entry(at);
+    match line.kind {
+        1..=5 => levels[line.condition as usize] = 0,
         _ => {}
     }
 }
 
 // The heads of R lines are not met. All others are done: no chain goes on from them.
-fn begin(a: &[u16], levels: &mut [u16])
-    requires { (solvable a.now ≡ true) × (length levels.old ≡ conditions_of a.now) }
-    ensures { Begun (page_of a.now) levels.new }
+fn begin(page: &Page, levels: &mut [u16])
+    requires { length levels.old ≡ conditions_of page.now }
+    ensures { Begun (page_of page.now) levels.new }
 {
     levels.fill(513);
-    for at in page::Lines::of(a) {
-        open_head(a, at, levels);
+    for at in page.lines() {
+        open_head(page, at, levels);
     }
 }
 
 // The lowest condition on a loop through a negation. What the levels are before does not matter.
-fn lowest_loop(a: &[u16], levels: &mut [u16]) -> Option<u16>
-    requires { (solvable a.now ≡ true) × (length levels.old ≡ conditions_of a.now) }
-    ensures { LoopFound (page_of a.now) levels.new result }
+fn lowest_loop(page: &Page, levels: &mut [u16]) -> Option<u16>
+    requires { length levels.old ≡ conditions_of page.now }
+    ensures { LoopFound (page_of page.now) levels.new result }
 {
-    begin(a, levels);
+    begin(page, levels);
+    let n = page.conditions();
     let mut lowest = None;
-    for c in 0..a[1] {
+    for c in 0..n {
         if lowest.is_some_and(|d| d <= c) {
             break;
         }
         if levels[c as usize] == 0 {
-            lowest = explore(a, levels, c, lowest);
+            lowest = explore(page, levels, c, lowest);
         }
     }
     lowest
@@ -262,8 +263,8 @@ fn copy(from: &[u16], to: &mut [u16])
 }
 
 // The check of a page that is sound, with a slice that is long enough. The table is C zeros.
-fn work(page: &[u16], layers: &mut [u16], table: &mut [u16]) -> Result<(), LayersError>
-    requires { (solvable page.now ≡ true) × (conditions_of page.now ≤ length layers.old) × (length table.old ≡ conditions_of page.now) × Zero table.old }
+fn work(page: &Page, layers: &mut [u16], table: &mut [u16]) -> Result<(), LayersError>
+    requires { (conditions_of page.now ≤ length layers.old) × (length table.old ≡ conditions_of page.now) × Zero table.old }
     ensures { Worked (verdict_of result) (page_of page.now) layers.old layers.new }
 {
     if settle(page, table) {
@@ -277,13 +278,13 @@ fn work(page: &[u16], layers: &mut [u16], table: &mut [u16]) -> Result<(), Layer
 pub fn check_layers(page: &[u16], layers: &mut [u16]) -> Result<(), LayersError>
     ensures { LayersOf (verdict_of result) page.now layers.old layers.new }
 {
-    if !page::page_sound(page) {
+    let Some(page) = Page::of(page) else {
         return Err(LayersError::Refused(Refusal::PageNotSound));
-    }
-    let n = page[1] as usize;
+    };
+    let n = page.conditions() as usize;
     if layers.len() < n {
         return Err(LayersError::Refused(Refusal::LayersShort));
     }
     let mut table = [0u16; 512];
-    work(page, layers, &mut table[..n])
+    work(&page, layers, &mut table[..n])
 }

@@ -31,7 +31,7 @@ module _ (a : List ℕ) (used count top n : ℕ) where
       let z : count - k ≡ count = omega arith in
       record { in_count = omega arith; in_used = omega arith; in_area = l; few = h; is = rw (z, e.0) }
 
-  -- one turn: the entry fails, or the cursor moves on
+  -- one turn: the entry fails, or the scan moves on
   module _ {at k : ℕ} (s : Checking at k) (l : k < count) where
     abbrev passes : Bool
     passes = every (line_tests top n (used - at) (drop at a))

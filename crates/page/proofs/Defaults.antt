@@ -88,7 +88,7 @@ module _ (a : List ℕ) where
       })
 
   module _ {at k : ℕ} {seen : List ℕ} (s : Collecting at k seen) (l : k < count_of a) where
-    -- the entry here is collected, and the cursor moves on
+    -- the entry here is collected, and the scan moves on
     module _ {at' k' : ℕ} (m : Next a at k at' k') where
       abbrev left : List Line
       left = lines_left a at' k'

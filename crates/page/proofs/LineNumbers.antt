@@ -1,5 +1,5 @@
 -- The lines of a sound page area by number: where each stands, its entry, and what it adds to a body. Assumes nothing.
-use mathlib.Core.Path.{◌≡◌, refl, subst}
+use mathlib.Core.Path.{◌≡◌, refl, sym, ◌∙◌, ap, subst}
 use mathlib.Core.Logic.{◌⊎◌, inl, inr, ⊎_elim}
 use mathlib.Core.Bool.{Bool, true, false}
 use mathlib.Core.List.{List, [], ◌∷◌, map}
@@ -11,16 +11,29 @@ use lib.Dec.{eqb}
 use lib.ListN.{get_or, take, drop}
 use borrow.Author.Tests.{eqb-true, eq-eqb}
 use Rattle.fixpoint.specs.Interval.{Interval, Assign}
-use Rattle.semantics.specs.Area.{Kind, fact_kind, rule_kind, query_kind, default_kind, no_kind, kind, line_as, line_at, literal_of, top_of, conditions_of, count_of, used_of}
+use Rattle.semantics.specs.Area.{Kind, fact_kind, rule_kind, query_kind, default_kind, no_kind, kind, line_as, line_at, literal_of, top_of, conditions_of, count_of, used_of, first_line}
 use Rattle.semantics.specs.Body.{rule_value, only_if, line_body}
 use Rattle.semantics.specs.Page.{Line, fact, rule, query, default}
 use Rattle.page.specs.Graded.{RuleAt, SoundEntry}
-use Rattle.page.proofs.Scan.{line_at_lem, entry_four, fact_kind_lem, rule_kind_lem, over_five}
-use Rattle.page.proofs.Scanning.{lines_left, scanning_first, scanning_next, entry_ok, lines_on}
+use Rattle.page.proofs.Scan.{line_at_lem, entry_head, fact_kind_lem, rule_kind_lem, over_five}
+use Rattle.page.proofs.Scanning.{lines_left, scanning_first, scanning_next, entry_here, entry_sound, lines_on}
 use Rattle.page.proofs.Entries.{rule_at}
-use Rattle.page.specs.Lines.{Scanning}
-use Rattle.page.specs.Places.{place_of, LineOf}
+use Rattle.page.specs.Lines.{step_at, Next, Scanning, EntryIn}
+use Rattle.page.specs.Places.{place_of, LineIn, LineOf}
 use Rattle.page.specs.Solvable.{solvable}
+
+-- a scan stands where the next line begins
+pub place_first : (a : List ℕ) {at k : ℕ} → (at ≡ first_line a) × (k ≡ 0) → at ≡ place_of a k
+unfolding place_of
+place_first a q = rw q.1 q.0
+
+pub place_next : (a : List ℕ) {at k at' k' : ℕ} → at ≡ place_of a k → Next a at k at' k' → at' ≡ place_of a k'
+unfolding place_of
+place_next a {at} {k} {at'} {k'} e m = m.place ∙ ap (λ (z : ℕ). z + step_at a z) e ∙ sym (ap (place_of a) (m.count ∙ add-one k))
+
+-- an F or R line is a line
+pub line_in : {a : List ℕ} {c at : ℕ} → LineOf a c at → LineIn a at
+line_in s = record { number = s.number; in_count = s.in_count; place = s.place }
 
 module _ (a : List ℕ) (ok : solvable a ≡ true) where
   -- the scan behind k lines stands where line k begins
@@ -36,19 +49,26 @@ module _ (a : List ℕ) (ok : solvable a ≡ true) where
       subst (λ (j : ℕ). lines_left a (place_of a k) k ≡ line_at (drop (place_of a k) a) ∷ lines_left a (place_of a (suc k)) j) (add-one k)
       (lines_on a (scanning_at k (omega arith)) l)
 
-  -- the entry of an F or R line passes its tests
+  -- the entry of a line passes its tests
+  pub line_sound : {at : ℕ} → LineIn a at → SoundEntry (top_of a) (conditions_of a) (used_of a - at) a at
+  line_sound h = rw h.place (entry_sound a (scanning_at h.number (omega (arith, h.in_count))) h.in_count)
+
   pub entry_at : {c at : ℕ} → LineOf a c at → SoundEntry (top_of a) (conditions_of a) (used_of a - at) a at
-  entry_at {c} {at} s =
-      let h : Scanning a at s.number = rw s.place (scanning_at s.number (omega (arith, s.in_count))) in
-      let e = entry_ok a h s.in_count in
-      record {
-        fits = omega (arith, h.in_used, h.in_area);
-        four = entry_four (top_of a) (conditions_of a) (used_of a - at) a at e;
-        tests = e;
-      }
+  entry_at s = line_sound (line_in s)
 
   pub rule_of : {c at : ℕ} → LineOf a c at → 1 ≤ get_or a (at + 1) 0 → RuleAt (top_of a) (conditions_of a) a at
   rule_of {c} {at} s l = let e = entry_at s in rule_at (top_of a) (conditions_of a) (used_of a - at) a at e.fits e.tests l s.body
+
+  pub rule_in : {at : ℕ} → LineIn a at → 1 ≤ get_or a (at + 1) 0 → get_or a (at + 1) 0 ≤ 5 → RuleAt (top_of a) (conditions_of a) a at
+  rule_in h l u = rule_of (record { number = h.number; in_count = h.in_count; place = h.place; head = refl; body = u }) l
+
+  -- and lies in the area
+  pub entry_of : {at : ℕ} → LineIn a at → EntryIn a at
+  entry_of h = subst (EntryIn a) (sym h.place) (entry_here a (scanning_at h.number (omega (arith, h.in_count))) h.in_count)
+
+  -- the condition of a line is one of the page's
+  pub head_in : {at : ℕ} → LineIn a at → get_or a at 0 < conditions_of a
+  head_in {at} h = entry_head (top_of a) (conditions_of a) (used_of a - at) a at (line_sound h).tests
 
 -- a line adds nothing, or one interval, and then it is an F or R line of c
 module _ (top : ℕ) (I : Assign) (c : ℕ) where

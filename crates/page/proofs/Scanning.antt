@@ -47,7 +47,7 @@ module _ (a : List ℕ) where
     abbrev pub step : ℕ
     step = span_as (kind (get_or a (at + 1) 0)) (get_or a (at + 3) 0)
 
-    -- it lies in the area: what the cursor requires to move on
+    -- it lies in the area: what a scan requires to move on
     pub entry_here : EntryIn a at
     entry_here = entry_in (top_of a) (conditions_of a) (used_of a - at) a at (omega (arith, s.in_used, s.in_area)) entry_ok
 
@@ -78,7 +78,7 @@ module _ (a : List ℕ) where
           entries = sym (lines_behind (top_of a) (conditions_of a) (used_of a) (count_of a) k a at l s.in_used entry_ok) ∙ s.entries;
         }
 
-    -- the same where the cursor moved to
+    -- the same where the scan moved to
     module _ {at' k' : ℕ} (m : Next a at k at' k') where
       pub scanning_moved : Scanning a at' k'
       scanning_moved = rw (m.place, m.count) scanning_next

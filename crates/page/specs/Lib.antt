@@ -1,7 +1,7 @@
 -- What the contracts of `page` cite besides the definitions of `semantics`.
 -- the areas that the functions work on
 pub mod Solvable
--- the cursor over the lines
+-- a scan over the lines
 pub mod Lines
 -- where the lines stand
 pub mod Places

@@ -1,5 +1,5 @@
--- The cursor over the lines of a page area, and which condition a line names. Assumes nothing.
-use Rattle.std.specs.Prelude.{◌≡◌, Bool, true, false, List, ℕ, ◌+◌, ◌-◌, ◌≤◌, ◌<◌, length, get_or, drop, Option, MatchOption}
+-- A scan over the lines of a page area, and which condition a line names. Assumes nothing.
+use Rattle.std.specs.Prelude.{◌≡◌, Bool, true, false, List, ℕ, ◌+◌, ◌-◌, ◌≤◌, length, get_or, drop}
 use Rattle.semantics.specs.Area.{kind, span_as, lines_ok, first_line, top_of, conditions_of, count_of, used_of}
 use Rattle.semantics.specs.Page.{Line, fact, rule, query, default, mentions}
 
@@ -12,7 +12,7 @@ pub record EntryIn (a : List ℕ) (at : ℕ) : Type 0 where
   pub four : at + 4 ≤ length a
   pub whole : at + step_at a at ≤ length a
 
--- a cursor at (at, passed) moves to (at', passed'): behind the entry, with one line more passed
+-- a scan at (at, passed) moves to (at', passed'): behind the entry, with one line more passed
 pub record Next (a : List ℕ) (at passed at' passed' : ℕ) : Type 0 where
   pub place : at' ≡ at + step_at a at
   pub count : passed' ≡ passed + 1
@@ -29,11 +29,6 @@ pub record BeginsAt (a a' : List ℕ) (at passed : ℕ) : Type 0 where
   pub same : a' ≡ a
   pub place : at ≡ first_line a
   pub count : passed ≡ 0
-
--- a scan at (at, passed) gives the place of the next line and stands behind it, or there is no other line
-pub record Proceeds (a : List ℕ) (at passed : ℕ) (given : Option ℕ) (a' : List ℕ) (at' passed' : ℕ) : Type 0 where
-  pub same : a' ≡ a
-  pub gives : MatchOption given ((count_of a ≤ passed) × (at' ≡ at) × (passed' ≡ passed)) (λ place. (passed < count_of a) × (place ≡ at) × Next a at passed at' passed')
 
 -- a line is an R line that "names" c: c is among its literals, plain or negated
 abbrev pub line_names : Line → ℕ → Bool

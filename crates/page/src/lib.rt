@@ -1,4 +1,4 @@
-// Code on raw page areas (document 01, "Areas"): a cursor over the lines, soundness, and which condition an R line names.
+// Page areas (document 01, "Areas"): soundness of raw areas, and a page as a type, its head, its lines in order and the entry of each.
 #![tactic(auto)]
 
 ghost use Rattle.std.specs.Prelude.{◌≡◌, true, false, List, map, ℕ, ◌≤◌, ◌<◌, ◌+◌, ◌-◌, length, get_or, take, drop, MatchOption};
@@ -6,12 +6,14 @@ ghost use Rattle.std.specs.Iterator.{at_most};
 ghost use Rattle.semantics.specs.Page.{mentions};
 ghost use Rattle.semantics.specs.Body.{unknown_by_default};
 ghost use Rattle.semantics.specs.Table.{all_below};
-ghost use Rattle.semantics.specs.Area.{sound, page_of, top_of, conditions_of, count_of, defaults_ok, lines_ok, field_tests, every, kind, span_as, first_line, literal_of, line_at};
-ghost use Rattle.page.specs.Lines.{EntryIn, Next, Scanning, BeginsAt, Proceeds, line_names};
+ghost use Rattle.semantics.specs.Area.{sound, page_of, top_of, conditions_of, count_of, used_of, defaults_ok, lines_ok, field_tests, every, kind, span_as, first_line, literal_of, line_at};
+ghost use Rattle.page.specs.Lines.{EntryIn, Scanning, BeginsAt, line_names};
+ghost use Rattle.page.specs.Places.{place_of, LineIn, Proceeds, EntryIs};
 ghost use Rattle.page.specs.Checks.{rule_tests, head_ok, rule_ok, Lined, CollectedAt, number_tells};
 ghost use Rattle.page.specs.Solvable.{solvable};
 
 use bits::Set;
+use std::marker::Model;
 
 // How many numbers an entry of the kind k takes, with y as its fourth.
 #[tactic(auto, unfolding(semantics::specs::Area::kind))]
@@ -21,38 +23,6 @@ pub fn span_of(k: u16, y: u16) -> usize
     match k {
         1..=5 => 4 + y as usize,
         _ => 4,
-    }
-}
-
-// A place among the lines of an area: `passed` lines lie before it, and the entry of the next one begins at `at`.
-#[derive(Clone, Copy)]
-pub struct Cursor {
-    pub at: usize,
-    pub passed: u16,
-}
-
-impl Cursor {
-    // Before the first line.
-    pub fn first(a: &[u16]) -> Self
-        requires { 4 ≤ length a.now }
-        ensures { (result.at ≡ first_line a.now) × (result.passed ≡ 0) }
-    {
-        Cursor {
-            at: first_line(a),
-            passed: 0,
-        }
-    }
-
-    // Behind the entry that begins here, with one line more passed.
-    pub fn next(self, a: &[u16]) -> Self
-        requires { EntryIn a.now self.at × (self.passed < 65535) }
-        ensures { Next a.now self.at self.passed result.at result.passed }
-    {
-        let at = self.at;
-        Cursor {
-            at: at + span_of(a[at + 1], a[at + 3]),
-            passed: self.passed + 1,
-        }
     }
 }
 
@@ -73,17 +43,10 @@ pub struct Lines<'a> {
     pub passed: u16,
     ghost counted: { count ≡ count_of numbers.now },
     ghost scanning: { Scanning numbers.now at passed },
+    ghost placed: { at ≡ place_of numbers.now passed },
 }
 
 impl<'a> Lines<'a> {
-    // The lines of a page.
-    pub fn of(a: &'a [u16]) -> Self
-        requires { solvable a.now ≡ true }
-        ensures { BeginsAt a.now result.numbers.now result.at result.passed }
-    {
-        Lines::checked(a)
-    }
-
     // The lines of an area whose lines pass their tests.
     fn checked(a: &'a [u16]) -> Self
         requires { (4 ≤ length a.now) × Scanning a.now (first_line a.now) 0 }
@@ -256,20 +219,150 @@ pub fn page_sound(a: &[u16]) -> bool
         && defaults_ok(a)
 }
 
-// Whether c is unknown by default.
-pub fn unknown_by_default(a: &[u16], c: u16) -> bool
-    requires { (solvable a.now ≡ true) × (c < conditions_of a.now) }
-    ensures { result ≡ unknown_by_default (page_of a.now) c }
-{
-    a[4 + c as usize] == 1
-}
-
 // Whether c is among the m literals from `from` on, plain or negated.
 fn literals_name(a: &[u16], from: usize, m: u16, c: u16) -> bool
     requires { from + m ≤ length a.now }
     ensures { result ≡ mentions (map literal_of (take m (drop from a.now))) c }
 {
     a[from..from + m as usize].iter().any(|&code| code / 2 == c)
+}
+
+// A page area that passes its tests, but may have 1,536 lines. A clause sees the list of its numbers.
+#[derive(Drop)]
+pub struct Page<'a> {
+    pub numbers: &'a [u16],
+}
+
+impl<'a> Model for Page<'a> {
+    ghost Value = { List ℕ };
+
+    ghost view = { λ p. p.numbers.now };
+
+    ghost invariant = { λ p. solvable p.numbers.now ≡ true };
+}
+
+// The four numbers with which the entry of a line begins: its condition, its kind, and two that the kind gives a meaning.
+#[derive(Clone, Copy)]
+pub struct Entry {
+    pub condition: u16,
+    pub kind: u16,
+    pub x: u16,
+    pub y: u16,
+}
+
+// The entry at `at`.
+fn entry_at(a: &[u16], at: usize) -> Entry
+    requires { EntryIn a.now at }
+    ensures { EntryIs a.now at result.condition result.kind result.x result.y }
+{
+    Entry {
+        condition: a[at],
+        kind: a[at + 1],
+        x: a[at + 2],
+        y: a[at + 3],
+    }
+}
+
+impl<'a> Page<'a> {
+    // The page of a sound area.
+    pub fn of(a: &'a [u16]) -> Option<Self>
+        ensures { MatchOption result (sound a.now ≡ false) (λ page. (sound a.now ≡ true) × (page ≡ a.now)) }
+    {
+        if page_sound(a) {
+            return Some(Page { numbers: a });
+        }
+        None
+    }
+
+    // Does nothing: a proof learns here that the page passes its tests.
+    pub fn recall(&self)
+        ensures { solvable self.now ≡ true }
+    {
+        let _ = &self.numbers;
+    }
+
+    // The largest grade.
+    #[tactic(auto, using(crate::proofs::Head::head_of))]
+    pub fn top(&self) -> u16
+        ensures value { result ≡ top_of self.now }
+        ensures grade { (1 ≤ result) × (result ≤ 200) }
+        ensures sound { solvable self.now ≡ true }
+    {
+        self.numbers[0]
+    }
+
+    // How many conditions there are.
+    #[tactic(auto, using(crate::proofs::Head::head_of))]
+    pub fn conditions(&self) -> u16
+        ensures value { result ≡ conditions_of self.now }
+        ensures few { result ≤ 512 }
+        ensures sound { solvable self.now ≡ true }
+    {
+        self.numbers[1]
+    }
+
+    // How many lines there are.
+    #[tactic(auto, using(crate::proofs::Head::head_of))]
+    pub fn line_count(&self) -> u16
+        ensures value { result ≡ count_of self.now }
+        ensures few { result ≤ 1536 }
+        ensures sound { solvable self.now ≡ true }
+    {
+        self.numbers[2]
+    }
+
+    // How many of the numbers the page takes.
+    #[tactic(auto, using(crate::proofs::Head::head_of, crate::proofs::Solvable::solvable_used))]
+    pub fn used(&self) -> u16
+        ensures value { result ≡ used_of self.now }
+        ensures few { result ≤ 18948 }
+        ensures sound { solvable self.now ≡ true }
+    {
+        self.numbers[3]
+    }
+
+    // The lines.
+    pub fn lines(&self) -> Lines<'a>
+        ensures scan { BeginsAt self.now result.numbers.now result.at result.passed }
+        ensures sound { solvable self.now ≡ true }
+    {
+        Lines::checked(self.numbers)
+    }
+
+    // The entry at `at`.
+    pub fn entry(&self, at: usize) -> Entry
+        requires { LineIn self.now at }
+        ensures value { EntryIs self.now at result.condition result.kind result.x result.y }
+        ensures inside { (result.condition < conditions_of self.now) × (conditions_of self.now ≤ 512) }
+        ensures sound { solvable self.now ≡ true }
+    {
+        entry_at(self.numbers, at)
+    }
+
+    // Whether c is unknown by default.
+    pub fn unknown_by_default(&self, c: u16) -> bool
+        requires { c < conditions_of self.now }
+        ensures { result ≡ unknown_by_default (page_of self.now) c }
+    {
+        self.numbers[4 + c as usize] == 1
+    }
+
+    // Whether the line at `at` is an R line that names c: one with c among its literals, plain or negated.
+    pub fn line_names(&self, at: usize, c: u16) -> bool
+        requires { LineIn self.now at }
+        ensures { result ≡ line_names (line_at (drop at self.now)) c }
+    {
+        line_names(self.numbers, at, c)
+    }
+
+    // The literals of the rule at `at`.
+    pub fn literals(&self, at: usize) -> &'a [u16]
+        requires { LineIn self.now at × (1 ≤ get_or self.now (at + 1) 0) × (get_or self.now (at + 1) 0 ≤ 5) }
+        ensures value { result.now ≡ take (get_or self.now (at + 3) 0) (drop (at + 4) self.now) }
+        ensures sound { solvable self.now ≡ true }
+    {
+        literals_at(self.numbers, at)
+    }
 }
 
 // Whether the entry at `at` is an R line that names c: one with c among its literals, plain or negated.
@@ -286,7 +379,7 @@ pub fn line_names(a: &[u16], at: usize, c: u16) -> bool
 }
 
 // The literals of the rule at `at`.
-pub fn literals_at(a: &[u16], at: usize) -> &[u16]
+fn literals_at(a: &[u16], at: usize) -> &[u16]
     requires { at + 4 + get_or a.now (at + 3) 0 ≤ length a.now }
     ensures { result.now ≡ take (get_or a.now (at + 3) 0) (drop (at + 4) a.now) }
 {

@@ -25,7 +25,7 @@ use Rattle.semantics.proofs.Closure.{closure_length}
 use Rattle.semantics.proofs.Demand.{under_listed}
 use Rattle.semantics.proofs.Invariant.{no_cause_holds}
 use Rattle.semantics.proofs.Keeps.{ends_listed}
-use Rattle.semantics.proofs.Picks.{pick_is, book_next, waits_spent, none_rests, picks_sound, picks_proper, picks_inside, picks_in_time, plain_figures}
+use Rattle.semantics.proofs.Picks.{book_next, waits_spent, none_rests, picks_proper, picks_inside, picks_in_time, plain_figures}
 use Rattle.semantics.proofs.Soundness.{both_true}
 use Rattle.semantics.proofs.Table.{length_from, get_d_table}
 use Rattle.bits.specs.Words.{has}
@@ -36,16 +36,10 @@ use Rattle.reach.specs.Sets.{ClosureSet}
 use Rattle.reach.specs.Queries.{list_causes}
 use Rattle.reach.proofs.Bounds.{bound_few}
 use Rattle.reach.proofs.Passing.{some_has}
-use Rattle.page.specs.Solvable.{solvable}
-use Rattle.page.proofs.Solvable.{sound_solvable}
 use Rattle.picks.specs.Answer.{Judged}
-use Rattle.picks.specs.Book.{SetIs, Holds, HoldSome, Evaluates}
+use Rattle.picks.specs.Book.{SetIs, Holds, Evaluates}
 use Rattle.picks.specs.Figures.{table_at, Compared}
 use Rattle.picks.proofs.Evaluating.{holds_grades, holds_at}
-
--- the causes of the queries come first: where none holds, the page is sound
-pub picks_solvable : (a qs : List ℕ) → first_of (query_causes a qs) ≡ none → solvable a ≡ true
-picks_solvable a qs e = sound_solvable a (picks_sound a qs e)
 
 -- i picks are evaluated, each of them waited
 pub record Judging (a qs picks reached waiting values : List ℕ) (i : ℕ) : Type 0 where
@@ -103,9 +97,6 @@ module _ (a qs : List ℕ) (e : first_of (query_causes a qs) ≡ none) where
       abbrev b : Worklist
       b = book_after (page_of a) qs (take i picks)
 
-      pub judging_some : HoldSome a reached waiting values
-      judging_some = record { set = closure (page_of a) qs; book = b; holds = s.holds }
-
       -- the place of the next pick fits 32 bits
       pub judging_small : i ≤ 512 + 200 * (512 * 512)
       judging_small =
@@ -127,10 +118,6 @@ module _ (a qs : List ℕ) (e : first_of (query_causes a qs) ≡ none) where
 
         waits_now : t ≡ true → pick_waits (page_of a) qs picks i ≡ true
         waits_now q = sym pick_told_lem ∙ sym told ∙ q
-
-        pub pick_inside : t ≡ true → get_or picks i 0 < conditions_of a
-        unfolding page_of
-        pick_inside q = (pick_is (page_of a) qs picks i (waits_now q)).0
 
         pub judging_next : t ≡ true → {waiting' values' : List ℕ} → Evaluates a (get_or picks i 0) reached waiting values waiting' values' → Judging a qs picks reached waiting' values' (i + 1)
         judging_next q {waiting'} {values'} v =

@@ -10,39 +10,40 @@ ghost use Rattle.semantics.specs.Operation.{query_causes};
 ghost use Rattle.semantics.specs.Page.{names};
 ghost use Rattle.semantics.specs.Picks.{PicksOf};
 ghost use Rattle.bits.specs.Words.{has};
-ghost use Rattle.page.specs.Lines.{EntryIn, line_names};
+ghost use Rattle.page.specs.Lines.{line_names};
+ghost use Rattle.page.specs.Places.{LineIn};
 ghost use Rattle.reach.specs.Sets.{Joins};
 ghost use Rattle.value.specs.Table.{Grades};
 ghost use Rattle.picks.specs.Answer.{checked_of, Judged};
 ghost use Rattle.picks.specs.declared.PickError.TheVariants.{Refused};
 ghost use Rattle.picks.specs.Book.{HoldSome, Evaluates};
 ghost use Rattle.picks.specs.Figures.{table_at, Compared};
-ghost use Rattle.page.specs.Solvable.{solvable};
 
 use bits::Set;
+use index::Source;
+use page::Page;
 use refusal::Refusal;
 use value::Ends;
 
 // The head of the line at `at` waits if it is reached and the line is a rule that names c. The literals of a head that waits already are not
 // looked at. It and `wake` stand beside worklist's, which find the head in a run area and mark it there: one pair for both takes a trait with four
 // ghost members and their laws, and a struct of lent parts for each, to save eleven lines.
-fn wake_head(a: &[u16], at: usize, reached: &Set, waiting: &mut Set, c: u16)
-    requires { EntryIn a.now at × (get_or a.now at 0 < 512) }
-    ensures { Joins (λ h. has reached.now.words h && (eqb (get_or a.now at 0) h && line_names (line_at (drop at a.now)) c)) (has waiting.old.words) (has waiting.new.words) }
+fn wake_head(page: &Page, at: usize, reached: &Set, waiting: &mut Set, c: u16)
+    requires { LineIn page.now at }
+    ensures { Joins (λ h. has reached.now.words h && (eqb (get_or page.now at 0) h && line_names (line_at (drop at page.now)) c)) (has waiting.old.words) (has waiting.new.words) }
 {
-    let h = a[at];
-    if reached.contains(h) && !waiting.contains(h) && page::line_names(a, at, c) {
+    let h = page.entry(at).condition;
+    if reached.contains(h) && !waiting.contains(h) && page.line_names(at, c) {
         waiting.insert(h);
     }
 }
 
 // Every reached condition with a rule that names c waits.
-fn wake(a: &[u16], reached: &Set, waiting: &mut Set, c: u16)
-    requires { solvable a.now ≡ true }
-    ensures { Joins (λ h. has reached.now.words h && names (page_of a.now) h c) (has waiting.old.words) (has waiting.new.words) }
+fn wake(page: &Page, reached: &Set, waiting: &mut Set, c: u16)
+    ensures { Joins (λ h. has reached.now.words h && names (page_of page.now) h c) (has waiting.old.words) (has waiting.new.words) }
 {
-    for at in page::Lines::of(a) {
-        wake_head(a, at, reached, waiting, c);
+    for at in page.lines() {
+        wake_head(page, at, reached, waiting, c);
     }
 }
 
@@ -59,18 +60,18 @@ fn held(values: &[u8], c: u16, top: u16) -> Ends
 }
 
 // An evaluation of c: it waits no longer and holds T of what is held; if that changed it, its dependants wait.
-fn evaluate(a: &[u16], reached: &Set, waiting: &mut Set, values: &mut [u8], c: u16)
-    requires { (solvable a.now ≡ true) × (c < conditions_of a.now) × HoldSome a.now reached.now.words waiting.old.words values.old }
-    ensures { Evaluates a.now c reached.now.words waiting.old.words values.old waiting.new.words values.new }
+fn evaluate(page: &Page, reached: &Set, waiting: &mut Set, values: &mut [u8], c: u16)
+    requires { (c < conditions_of page.now) × HoldSome page.now reached.now.words waiting.old.words values.old }
+    ensures { Evaluates page.now c reached.now.words waiting.old.words values.old waiting.new.words values.new }
 {
-    let top = a[0];
-    let none = &a[0..0];
-    let new = body::body(a, none, values, c);
+    let top = page.top();
+    let source = Source::scanned(page);
+    let new = body::body(&source, values, c);
     let old = held(values, c, top);
     waiting.remove(c);
     if old != new {
         ends::store(values, c, new.low, top - new.high);
-        wake(a, reached, waiting, c);
+        wake(page, reached, waiting, c);
     }
 }
 
@@ -83,14 +84,14 @@ fn waits(waiting: &Set, n: u16, pick: u16) -> bool
 }
 
 // Whether the figures are low, high of each query, in list order.
-fn figures_held(a: &[u16], queries: &[u16], figures: &[u16], values: &[u8]) -> bool
-    requires { (solvable a.now ≡ true) × (all_under (conditions_of a.now) queries.now ≡ true) × (length queries.now ≤ 16) × Grades (top_of a.now) (conditions_of a.now) values.now }
-    ensures { Compared (top_of a.now) queries.now figures.now values.now result }
+fn figures_held(page: &Page, queries: &[u16], figures: &[u16], values: &[u8]) -> bool
+    requires { (all_under (conditions_of page.now) queries.now ≡ true) × (length queries.now ≤ 16) × Grades (top_of page.now) (conditions_of page.now) values.now }
+    ensures { Compared (top_of page.now) queries.now figures.now values.now result }
 {
     if figures.len() != 2 * queries.len() {
         return false;
     }
-    let top = a[0];
+    let top = page.top();
     for (&query, figure) in queries.iter().zip(figures.chunks_exact(2)) {
         let told = Ends {
             low: figure[0],
@@ -122,11 +123,11 @@ impl From<Refusal> for PickError {
 
 // The check past 10, 11 and 12: the picks are evaluated in turn, from the opening. At the opening every condition holds [0;top], whose two
 // literals have the low end 0, and exactly the reached conditions wait.
-fn judge(page: &[u16], queries: &[u16], picks: &[u16], figures: &[u16]) -> Result<(), PickError>
+fn judge(page: &Page, queries: &[u16], picks: &[u16], figures: &[u16]) -> Result<(), PickError>
     requires { first_of (query_causes page.now queries.now) ≡ none }
     ensures { Judged (checked_of result) (page_of page.now) queries.now picks.now figures.now }
 {
-    let n = page[1];
+    let n = page.conditions();
     let reached = reach::spread(page, queries);
     let mut waiting = reached;
     let mut values = [0u8; 1024];
@@ -155,9 +156,9 @@ pub fn check_picks(
 ) -> Result<(), PickError>
     ensures { PicksOf (checked_of result) page.now queries.now picks.now figures.now }
 {
-    if !page::page_sound(page) {
+    let Some(page) = Page::of(page) else {
         return Err(PickError::Refused(Refusal::PageNotSound));
-    }
-    reach::check_queries(queries, page[1])?;
-    judge(page, queries, picks, figures)
+    };
+    reach::check_queries(queries, page.conditions())?;
+    judge(&page, queries, picks, figures)
 }

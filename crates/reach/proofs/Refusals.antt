@@ -1,13 +1,13 @@
 -- The first cause that holds, in the order of the code's tests. Assumes nothing.
 use mathlib.Core.Path.{◌≡◌, refl, sym, ◌∙◌, ap}
-use mathlib.Core.Bool.{Bool, true, false, not, ◌&&◌}
+use mathlib.Core.Bool.{true, false, not}
 use mathlib.Core.List.{List, [], ◌∷◌, ◌++◌}
 use mathlib.Core.Option.{Option, none, some, none-ne-some}
 use Prim.Native.Nat.{ℕ, ◌*◌, ◌≤◌, ◌<◌}
 use lib.Dec.{leb}
 use lib.ListN.{length}
 use borrow.Author.Tests.{le-leb, lt-leb}
-use Rattle.semantics.specs.Area.{sound, page_of, conditions_of, all_under}
+use Rattle.semantics.specs.Area.{sound, page_of, conditions_of}
 use Rattle.semantics.specs.Call.{Cause, cause, first_of}
 use Rattle.semantics.specs.Operation.{Opened, refused_opening, query_causes, open_causes, open_as, open_of}
 use Rattle.semantics.specs.Reading.{closure, pass_count}
@@ -32,15 +32,6 @@ pub first_after : (xs ys : List Cause) → first_of xs ≡ none → first_of (xs
 first_after [] ys e = refl
 first_after (cause true k ∷ xs) ys e = absurd (none-ne-some _ (sym e))
 first_after (cause false k ∷ xs) ys e = first_after xs ys e
-
--- a list that is not refused
-pub list_fine : (n : ℕ) (qs : List ℕ) → first_of (list_causes n qs) ≡ none → ((leb 1 (length qs) && leb (length qs) 16) ≡ true) × (all_under n qs ≡ true)
-list_fine n qs = go (leb 1 (length qs) && leb (length qs) 16) (all_under n qs)
-  where
-    go : (s t : Bool) → first_of (cause (not s) 11 ∷ cause (not t) 12 ∷ []) ≡ none → (s ≡ true) × (t ≡ true)
-    go true true e = (refl, refl)
-    go true false e = absurd (none-ne-some _ (sym e))
-    go false t e = absurd (none-ne-some _ (sym e))
 
 -- an opening
 module _ (a qs r : List ℕ) where

@@ -1,23 +1,23 @@
 // What a page needs of queries, and how a run is opened: the closure of the queries, as a set or as marks.
 #![tactic(auto)]
 
-ghost use Rattle.std.specs.Prelude.{◌≡◌, Bool, ℕ, true, not, ◌&&◌, map, ◌≤◌, ◌+◌, ◌-◌, ◌<◌, ◌*◌, leb, length, drop, Ok};
-ghost use Rattle.semantics.specs.Area.{sound, line_at, all_under, literal_of, page_of, top_of, conditions_of, used_of};
+ghost use Rattle.std.specs.Prelude.{◌≡◌, Bool, ℕ, true, not, ◌&&◌, map, ◌≤◌, ◌+◌, ◌<◌, ◌*◌, leb, length, drop, Ok};
+ghost use Rattle.semantics.specs.Area.{sound, line_at, all_under, literal_of, page_of, top_of, conditions_of};
 ghost use Rattle.semantics.specs.Operation.{open_of};
 ghost use Rattle.semantics.specs.Page.{mentions, names};
 ghost use Rattle.semantics.specs.RunArea.{mark_of};
 ghost use Rattle.semantics.specs.Table.{member, listed};
 ghost use Rattle.bits.specs.Words.{has};
 ghost use Rattle.bits.specs.Sets.{Nobody};
-ghost use Rattle.page.specs.Graded.{SoundEntry};
 ghost use Rattle.page.specs.Lines.{line_names};
+ghost use Rattle.page.specs.Places.{LineIn};
 ghost use Rattle.reach.specs.Opening.{opening_of, accepted, Written};
 ghost use Rattle.reach.specs.Marks.{Unmarked, ClosureMarks};
 ghost use Rattle.reach.specs.Queries.{QueriesChecked};
 ghost use Rattle.reach.specs.Sets.{Takes, Joins, Inserts, Inside, Followed, Passed, ClosureSet, FoundIn, Counted, Swept, MarksBelow};
-ghost use Rattle.page.specs.Solvable.{solvable};
 
 use bits::Set;
+use page::Page;
 use refusal::Refusal;
 
 // A set of the conditions 0 to 511.
@@ -76,38 +76,37 @@ fn insert_literals<S: Conditions>(codes: &[u16], set: &mut S) -> u32
 }
 
 // Puts the conditions that the line at `at` names into the set, if it is an R line; answers how many are new.
-fn insert_line<S: Conditions>(a: &[u16], at: usize, set: &mut S) -> u32
-    requires { SoundEntry (top_of a.now) (conditions_of a.now) (used_of a.now - at) a.now at × (conditions_of a.now ≤ 512) }
-    ensures { Inserts (line_names (line_at (drop at a.now))) (S.holds set.old) (S.holds set.new) result }
+fn insert_line<S: Conditions>(page: &Page, at: usize, set: &mut S) -> u32
+    requires { LineIn page.now at }
+    ensures { Inserts (line_names (line_at (drop at page.now))) (S.holds set.old) (S.holds set.new) result }
 {
-    let k = a[at + 1];
-    match k {
-        1..=5 => insert_literals(page::literals_at(a, at), set),
+    let line = page.entry(at);
+    match line.kind {
+        1..=5 => insert_literals(page.literals(at), set),
         _ => 0,
     }
 }
 
 // Puts the conditions that the R lines of c name into the set, in one scan over the lines; answers how many are new.
-fn insert_named(a: &[u16], c: u16, set: &mut Set) -> u32
-    requires { solvable a.now ≡ true }
-    ensures { Inserts (names (page_of a.now) c) (has set.old.words) (has set.new.words) result }
+fn insert_named(page: &Page, c: u16, set: &mut Set) -> u32
+    ensures { Inserts (names (page_of page.now) c) (has set.old.words) (has set.new.words) result }
 {
     let mut new: u32 = 0;
-    for at in page::Lines::of(a) {
-        if a[at] == c {
-            new += insert_line(a, at, set);
+    for at in page.lines() {
+        if page.entry(at).condition == c {
+            new += insert_line(page, at, set);
         }
     }
     new
 }
 
 // Follows the condition c, in one scan. What its R lines name is found, and new if it was not found before; answers how many they name.
-fn follow(a: &[u16], c: u16, found: &mut Set, new: &mut Set) -> u32
-    requires { solvable a.now ≡ true }
-    ensures { Followed (page_of a.now) c found.old.words new.old.words found.new.words new.new.words result }
+fn follow(page: &Page, c: u16, found: &mut Set, new: &mut Set) -> u32
+    ensures { Followed (page_of page.now) c found.old.words new.old.words found.new.words new.new.words result }
 {
+    page.recall();
     let mut named = Set::empty();
-    let edges = insert_named(a, c, &mut named);
+    let edges = insert_named(page, c, &mut named);
     found.absorb(&named, new);
     edges
 }
@@ -121,16 +120,17 @@ struct Counts {
 
 // A pass: it follows the conditions of `fresh`, takes them from that set, and puts what it adds into the empty set `new`. A `while let`, since
 // the set is emptied on the way.
-fn pass(a: &[u16], fresh: &mut Set, found: &mut Set, new: &mut Set) -> Counts
-    requires { (solvable a.now ≡ true) × Inside (conditions_of a.now) fresh.old.words × Nobody new.old.words }
-    ensures passed { Passed (page_of a.now) fresh.old.words found.old.words found.new.words new.new.words }
-    ensures counted { Counted (page_of a.now) fresh.old.words result.reached result.edges }
+fn pass(page: &Page, fresh: &mut Set, found: &mut Set, new: &mut Set) -> Counts
+    requires { Inside (conditions_of page.now) fresh.old.words × Nobody new.old.words }
+    ensures passed { Passed (page_of page.now) fresh.old.words found.old.words found.new.words new.new.words }
+    ensures counted { Counted (page_of page.now) fresh.old.words result.reached result.edges }
 {
+    page.recall();
     let mut reached: u32 = 0;
     let mut edges: u32 = 0;
     while let Some(c) = fresh.lowest() {
         fresh.remove(c);
-        edges += follow(a, c, found, new);
+        edges += follow(page, c, found, new);
         reached += 1;
     }
     Counts { reached, edges }
@@ -146,11 +146,12 @@ struct Found {
 
 // The closure of the queries, in passes: the first that adds none is the last. How many there are only that one tells, and one is made for any
 // queries, so the test stands at the end of a `loop`.
-fn find(a: &[u16], queries: &[u16]) -> Found
-    requires { (solvable a.now ≡ true) × (all_under (conditions_of a.now) queries.now ≡ true) }
-    ensures found { FoundIn (page_of a.now) queries.now result.set.words result.passes }
-    ensures counted { Counted (page_of a.now) result.set.words result.counts.reached result.counts.edges }
+fn find(page: &Page, queries: &[u16]) -> Found
+    requires { all_under (conditions_of page.now) queries.now ≡ true }
+    ensures found { FoundIn (page_of page.now) queries.now result.set.words result.passes }
+    ensures counted { Counted (page_of page.now) result.set.words result.counts.reached result.counts.edges }
 {
+    page.recall();
     let mut set = Set::empty();
     insert_queries(queries, &mut set);
     let mut fresh = set;
@@ -159,7 +160,7 @@ fn find(a: &[u16], queries: &[u16]) -> Found
     let mut edges: u32 = 0;
     loop {
         let mut new = Set::empty();
-        let more = pass(a, &mut fresh, &mut set, &mut new);
+        let more = pass(page, &mut fresh, &mut set, &mut new);
         passes += 1;
         reached += more.reached;
         edges += more.edges;
@@ -187,35 +188,35 @@ fn mark_set(set: &Set, n: u16, marks: &mut [bool])
 
 // One pass over the lines: what a line of a marked condition names is marked; answers how many are new. It stands beside `insert_named`, since
 // its test reads the marks that it changes: with the test as a parameter no one fact says what both have done.
-fn sweep(a: &[u16], marks: &mut [bool; 512]) -> u32
-    requires { solvable a.now ≡ true }
-    ensures { Swept (page_of a.now) marks.old marks.new result }
+fn sweep(page: &Page, marks: &mut [bool; 512]) -> u32
+    ensures { Swept (page_of page.now) marks.old marks.new result }
 {
     let mut new: u32 = 0;
-    for at in page::Lines::of(a) {
-        if marks[a[at] as usize] {
-            new += insert_line(a, at, marks);
+    for at in page.lines() {
+        if marks[page.entry(at).condition as usize] {
+            new += insert_line(page, at, marks);
         }
     }
     new
 }
 
 // The closure of the queries as a set.
-pub fn spread(a: &[u16], queries: &[u16]) -> Set
-    requires { (solvable a.now ≡ true) × (all_under (conditions_of a.now) queries.now ≡ true) }
-    ensures { ClosureSet (page_of a.now) queries.now result.words }
+pub fn spread(page: &Page, queries: &[u16]) -> Set
+    requires { all_under (conditions_of page.now) queries.now ≡ true }
+    ensures { ClosureSet (page_of page.now) queries.now result.words }
 {
-    find(a, queries).set
+    find(page, queries).set
 }
 
 // Marks the closure of the queries, where nothing is marked yet, by passes over all lines until one adds nothing, which alone tells how many
 // there are: fewer scans, where E is not asked for.
-pub fn mark_closure(a: &[u16], queries: &[u16], marks: &mut [bool; 512])
-    requires { (solvable a.now ≡ true) × (all_under (conditions_of a.now) queries.now ≡ true) × Unmarked marks.old }
-    ensures { ClosureMarks (page_of a.now) queries.now marks.new }
+pub fn mark_closure(page: &Page, queries: &[u16], marks: &mut [bool; 512])
+    requires { (all_under (conditions_of page.now) queries.now ≡ true) × Unmarked marks.old }
+    ensures { ClosureMarks (page_of page.now) queries.now marks.new }
 {
+    page.recall();
     insert_queries(queries, marks);
-    while 0 < sweep(a, marks) {}
+    while 0 < sweep(page, marks) {}
 }
 
 // R + top × E.
@@ -281,14 +282,13 @@ pub struct Opened {
 }
 
 // The work of an opening that no cause refuses: "all 512 possible conditions begin as not reached", and the closure is then marked.
-#[tactic(auto, using(page::proofs::Head::head_of))]
-fn open_accepted(page: &[u16], queries: &[u16], run: &mut [u16]) -> Opened
-    requires { (solvable page.now ≡ true) × (all_under (conditions_of page.now) queries.now ≡ true) × (3 * conditions_of page.now ≤ length run.old) }
+fn open_accepted(page: &Page, queries: &[u16], run: &mut [u16]) -> Opened
+    requires { (all_under (conditions_of page.now) queries.now ≡ true) × (3 * conditions_of page.now ≤ length run.old) }
     ensures answer { opening_of (Ok result) ≡ (accepted page.now queries.now run.old).answer }
     ensures left { run.new ≡ (accepted page.now queries.now run.old).run }
 {
-    let top = page[0];
-    let n = page[1];
+    let top = page.top();
+    let n = page.conditions();
     let found = find(page, queries);
     let Counts { reached, edges } = found.counts;
     let mut marks = [false; 512];
@@ -303,13 +303,14 @@ fn open_accepted(page: &[u16], queries: &[u16], run: &mut [u16]) -> Opened
 }
 
 // Open a run on a page that is sound.
-pub fn open_sound(page: &[u16], queries: &[u16], run: &mut [u16]) -> Result<Opened, Refusal>
+pub fn open_sound(page: &Page, queries: &[u16], run: &mut [u16]) -> Result<Opened, Refusal>
     requires { sound page.now ≡ true }
     ensures answer { opening_of result ≡ (open_of page.now queries.now run.old).answer }
     ensures left { run.new ≡ (open_of page.now queries.now run.old).run }
 {
-    check_queries(queries, page[1])?;
-    if run.len() < 3 * page[1] as usize {
+    let n = page.conditions();
+    check_queries(queries, n)?;
+    if run.len() < 3 * n as usize {
         return Err(Refusal::RunShort);
     }
     Ok(open_accepted(page, queries, run))
@@ -320,8 +321,8 @@ pub fn open_run(page: &[u16], queries: &[u16], run: &mut [u16]) -> Result<Opened
     ensures answer { opening_of result ≡ (open_of page.now queries.now run.old).answer }
     ensures left { run.new ≡ (open_of page.now queries.now run.old).run }
 {
-    if !page::page_sound(page) {
+    let Some(page) = Page::of(page) else {
         return Err(Refusal::PageNotSound);
-    }
-    open_sound(page, queries, run)
+    };
+    open_sound(&page, queries, run)
 }

@@ -10,6 +10,7 @@ use native.Mathlib.Omega.{arith}
 use lib.ListN.{length, get_or, set, drop, length-set}
 use lib.Seq.{get_or-set_same, get_or-set_other, drop-set-lt}
 use Rattle.semantics.specs.Area.{page_of, top_of, conditions_of}
+use Rattle.page.specs.Solvable.{solvable}
 use Rattle.page.proofs.Head.{head_of}
 use Rattle.bits.specs.Words.{has}
 use Rattle.index.specs.Readers.{lines_read}
@@ -19,7 +20,7 @@ use Rattle.unknowns.specs.NextHighs.{sought}
 use Rattle.rounds.specs.Round.{Renegated, Fallible, Falls, Lowered}
 use Rattle.rounds.proofs.Starting.{upto}
 
-module _ (a : List ℕ) (m : List Bool) (users next s₀ words₀ : List ℕ) where
+module _ (a : List ℕ) (m : List Bool) (indexed : Bool) (next s₀ words₀ : List ℕ) where
   abbrev n : ℕ
   n = conditions_of a
 
@@ -35,7 +36,8 @@ module _ (a : List ℕ) (m : List Bool) (users next s₀ words₀ : List ℕ) wh
   WokenFor s words d = high s d ≢ high s₀ d → (h : ℕ) → lines_read (2 * d + 1) (page_of a).lines h ≡ true → has words h ≡ true
 
   pub record Falling (s words : List ℕ) (fell : Bool) (c : ℕ) : Type 0 where
-    pub ready : Fallible a m users next s₀ words₀
+    pub sound : solvable a ≡ true
+    pub ready : Fallible a m next s₀ words₀
     pub within : c ≤ n
     pub same_length : length s ≡ length s₀
     pub lows : (d : ℕ) → d < n → get_or s (2 * d) 0 ≡ get_or s₀ (2 * d) 0
@@ -45,7 +47,7 @@ module _ (a : List ℕ) (m : List Bool) (users next s₀ words₀ : List ℕ) wh
     pub negated : (d : ℕ) → d < n → get_or s (2 * d + 1) 0 ≡ top_of a - high s d
     pub beyond : drop (4 * n) s ≡ drop (4 * n) s₀
     pub set_in : WaitSet n words
-    pub woken : (length users ≡ 0) ⊎ ((d : ℕ) → d < c → WokenFor s words d)
+    pub woken : (indexed ≡ false) ⊎ ((d : ℕ) → d < c → WokenFor s words d)
     pub still : fell ≡ false → (d : ℕ) → d < n → high s d ≡ high s₀ d
     pub moves : fell ≡ true → (d : ℕ) × (d < c) × Falls a m next s₀ d × (high s d ≡ get_or next d 0)
 
@@ -56,13 +58,14 @@ module _ (a : List ℕ) (m : List Bool) (users next s₀ words₀ : List ℕ) wh
     pub falling_long : 4 * n ≤ length s
     falling_long = omega (arith, v.same_length, v.ready.long)
 
-    module _ {s' words' : List ℕ} {t : Bool} (r : Lowered a m users next c s s' words words' t) where
+    module _ {s' words' : List ℕ} {t : Bool} (r : Lowered a m indexed next c s s' words words' t) where
       -- it stays
       falling_still : t ≡ false → Falling s' words' fell (c + 1)
       falling_still z =
           let q = r.still z in
           let same : high s c ≡ high s₀ c = v.behind c (omega arith) in
           rw (q.0, q.1) (record {
+            sound = v.sound;
             ready = v.ready;
             within = omega arith;
             same_length = v.same_length;
@@ -89,7 +92,7 @@ module _ (a : List ℕ) (m : List Bool) (users next s₀ words₀ : List ℕ) wh
         s₁ : List ℕ
         s₁ = set s (2 * conditions_of a + 2 * c) (get_or next c 0)
 
-        renegated : Renegated a users c s₁ s' words words'
+        renegated : Renegated a indexed c s₁ s' words words'
         unfolding s₁
         renegated = (r.falls z).1
 
@@ -124,7 +127,7 @@ module _ (a : List ℕ) (m : List Bool) (users next s₀ words₀ : List ℕ) wh
         falls_here = ((r.falls z).0.0, omega (arith, (r.falls z).0.1, v.behind c (omega arith)))
 
         -- the number of the negation is another, so whoever negates c is woken
-        next_woken : (length users ≡ 0) ⊎ ((d : ℕ) → d < c + 1 → WokenFor s' words' d)
+        next_woken : (indexed ≡ false) ⊎ ((d : ℕ) → d < c + 1 → WokenFor s' words' d)
         unfolding s₁ x
         next_woken =
             elim v.woken [
@@ -132,7 +135,7 @@ module _ (a : List ℕ) (m : List Bool) (users next s₀ words₀ : List ℕ) wh
               | inr f ↦ elim renegated.woken [
                 | inl e ↦ inl e
                 | inr g ↦ inr (upto (WokenFor s' words') c
-                    (λ d k p h q. renegated.kept h (omega (arith, (head_of a v.ready.page_solvable).few, reads_below a v.ready.page_solvable (2 * d + 1) h q))
+                    (λ d k p h q. renegated.kept h (omega (arith, (head_of a v.sound).few, reads_below a v.sound (2 * d + 1) h q))
                     (f d k (λ e. p (high_else d (λ o. omega arith) ∙ e)) h q))
                     (λ p h q. g another h q))
               ]
@@ -145,6 +148,7 @@ module _ (a : List ℕ) (m : List Bool) (users next s₀ words₀ : List ℕ) wh
         unfolding x s₁
         falling_fell =
             record {
+              sound = v.sound;
               ready = v.ready;
               within = omega arith;
               same_length = ap length s_is ∙ length-set s₁ (2 * c + 1) y ∙ length-set s i (get_or next c 0) ∙ v.same_length;
@@ -163,7 +167,7 @@ module _ (a : List ℕ) (m : List Bool) (users next s₀ words₀ : List ℕ) wh
               moves = λ e. (c, omega arith, falls_here, high_here);
             }
 
-  pub falling_next : {s words : List ℕ} {fell : Bool} {c : ℕ} → Falling s words fell c → c < n → {s' words' : List ℕ} {t : Bool} → Lowered a m users next c s s' words words' t
+  pub falling_next : {s words : List ℕ} {fell : Bool} {c : ℕ} → Falling s words fell c → c < n → {s' words' : List ℕ} {t : Bool} → Lowered a m indexed next c s s' words words' t
       → Falling s' words' (fell || t) (c + 1)
   falling_next {fell = fell} v l {t = t} r =
       by_bool t (λ z. rw (z, or-true) (falling_fell v l r z)) (λ z. rw (z, or-false) (falling_still v l r z))

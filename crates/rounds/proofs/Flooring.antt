@@ -10,7 +10,7 @@ use lib.ListN.{length, get_or, drop}
 use Rattle.fixpoint.specs.Interval.{Interval, Within}
 use Rattle.fixpoint.specs.KnowledgeOrder.{Under, Alike}
 use Rattle.fixpoint.specs.AlternatingFixpoint.{mix}
-use Rattle.fixpoint.proofs.Cond.{cond_true, cond_false, cond_most, cond_least, cond_le}
+use Rattle.fixpoint.proofs.Cond.{by_bool, cond_true, cond_false, cond_most, cond_least, cond_le}
 use Rattle.fixpoint.proofs.KnowledgeOrder.{pair_eq}
 use Rattle.fixpoint.proofs.Merge.{floor_in}
 use Rattle.fixpoint.proofs.PlainReading.{operator}
@@ -21,10 +21,9 @@ use Rattle.semantics.specs.Body.{T, unknown_by_default}
 use Rattle.semantics.specs.Grade.{lower}
 use Rattle.semantics.specs.Table.{member}
 use Rattle.bits.specs.Words.{has}
-use Rattle.index.specs.Parts.{Users}
 use Rattle.settle.specs.Ends.{nobody, room}
 use Rattle.settle.specs.Scratch.{held, room_at, Half, RestsAt, Settled}
-use Rattle.settle.specs.Waiting.{WaitSet, MaybeIndex, MaybeIndexed}
+use Rattle.settle.specs.Waiting.{WaitSet, MaybeWaiting}
 use Rattle.settle.proofs.Halves.{settled_others}
 use Rattle.settle.proofs.Raising.{S, E, room_less}
 use Rattle.unknowns.specs.NextHighs.{NextHighs}
@@ -33,7 +32,16 @@ use Rattle.rounds.specs.Round.{Refreshed, Fell, free_highs, to_learn, next_floor
 use Rattle.rounds.proofs.Turns.{low_eq, high_eq, lows_under, highs_over, floor_done, lows_same}
 use Rattle.page.specs.Solvable.{solvable}
 
-module _ (a : List ℕ) (m : List Bool) where
+-- the loop: from a floor whose low ends are settled, steps until none falls
+pub record Flooring (a : List ℕ) (m : List Bool) (s₁ s words next₁ next : List ℕ) (moved₁ moved : Bool) : Type 0 where
+  pub kept : FloorKept a m s₁ s
+  pub half : FloorHalf a m s
+  pub rests : AllRest a m s
+  pub progress : ((moved ≡ moved₁) × SameIntervals a s₁ s) ⊎ ((moved ≡ true) × (to_learn a s < to_learn a s₁))
+  pub set_in : WaitSet (conditions_of a) words
+  pub room_for : length next ≡ length next₁
+
+module _ (a : List ℕ) (ok : solvable a ≡ true) (m : List Bool) where
   abbrev n : ℕ
   n = conditions_of a
 
@@ -56,7 +64,7 @@ module _ (a : List ℕ) (m : List Bool) where
 
   -- the goal stays while the other high ends do
   goal_same : {s s' : List ℕ} → FloorHalf a m s → FloorKept a m s s' → Alike n (member m) (next_floor_at a s') (next_floor_at a s)
-  goal_same {s} {s'} F k = lows_same (S a F.half.page_solvable) free F.half.shut (held n s') (held n s) (λ c l r f. k.others c l f)
+  goal_same {s} {s'} F k = lows_same (S a ok) free F.half.shut (held n s') (held n s) (λ c l r f. k.others c l f)
 
   -- the floor held tells no more than the goal
   goal_mix : {s : List ℕ} → FloorHalf a m s → (c : ℕ) → c < n → member m c ≡ true → Under (held n s c) (mix free (next_floor_at a s) (held n s) c)
@@ -67,7 +75,7 @@ module _ (a : List ℕ) (m : List Bool) where
       }
 
   -- the same intervals
-  module _ (s s' : List ℕ) (e : SameIntervals a s s') (ok : solvable a ≡ true) where
+  module _ (s s' : List ℕ) (e : SameIntervals a s s') where
     T_same : (c : ℕ) → c < n → T (page_of a) (held n s') c ≡ T (page_of a) (held n s) c
     unfolding page_of
     T_same c l = (S a ok).local (held n s') (held n s) c l (λ b i r. e b i)
@@ -116,7 +124,7 @@ module _ (a : List ℕ) (m : List Bool) where
             lows = omega (
               arith,
               w.ends c l r,
-              lows_under (S a F.half.page_solvable) free (held n s) F.half.shut (held n s) (goal_mix F) c l r,
+              lows_under (S a ok) free (held n s) F.half.shut (held n s) (goal_mix F) c l r,
               low_eq (goal_same F settled_kept c l r),
             );
             highs = omega (arith, (F.under c l r).highs, high_eq (goal_same F settled_kept c l r), ap (λ (x : ℕ). cond (free c) x (top_of a)) (w.steady.others c l));
@@ -132,13 +140,12 @@ module _ (a : List ℕ) (m : List Bool) where
     same₁ c l = pair_eq (h.under (2 * c) (omega arith)) (h.highs c l)
 
     pub kept₁ : FloorKept a m s s₁
-    kept₁ = kept_intervals s s₁ same₁ H.page_solvable h.same_length h.beyond
+    kept₁ = kept_intervals s s₁ same₁ h.same_length h.beyond
 
     pub half₁ : FloorHalf a m s₁
     half₁ =
         record {
           half = record {
-            page_solvable = H.page_solvable;
             long = omega (arith, H.long, h.same_length);
             marked = H.marked;
             shut = H.shut;
@@ -148,7 +155,7 @@ module _ (a : List ℕ) (m : List Bool) where
               arith,
               low_eq (same₁ c l),
               H.below c l,
-              settled_others (S a H.page_solvable) (E a H.page_solvable) free lower (held n s₁) (held n s) (λ b i. high_eq (same₁ b i)) (λ b i f. absurd (false≢true f)) c l,
+              settled_others (S a ok) (E a ok) free lower (held n s₁) (held n s) (λ b i. high_eq (same₁ b i)) (λ b i f. absurd (false≢true f)) c l,
             );
             capped = λ c l r f. absurd (false≢true f);
           };
@@ -159,10 +166,10 @@ module _ (a : List ℕ) (m : List Bool) where
         }
 
     pub rests₁ : AllRest a m s → AllRest a m s₁
-    rests₁ = rests_same s s₁ same₁ H.page_solvable
+    rests₁ = rests_same s s₁ same₁
 
   -- high ends of conditions that are unknown by default fall
-  module _ {users next₀ next words s s₂ : List ℕ} {fell : Bool} (F : FloorHalf a m s) (x : NextHighs a m s next₀ next) (g : Fell a m users next s s₂ words fell) where
+  module _ {indexed : Bool} {next₀ next words s s₂ : List ℕ} {fell : Bool} (F : FloorHalf a m s) (x : NextHighs a m s next₀ next) (g : Fell a m indexed next s s₂ words fell) where
     high_fall : (c : ℕ) → c < n → (held n s₂ c).high ≤ (held n s c).high
     high_fall c l = ⊎_elim (λ e. omega arith) (λ e. omega (arith, e.0.1, e.1)) (g.falls c l)
 
@@ -198,7 +205,7 @@ module _ (a : List ℕ) (m : List Bool) where
     over_goal : (c : ℕ) → c < n → member m c ≡ true → free c ≡ true → (next_floor_at a s c).high ≤ (held n s₂ c).high
     over_goal c l r f =
         ⊎_elim (λ e. omega (arith, e, (F.under c l r).highs, cond_true (held n s c).high (top_of a) f))
-        (λ e. omega (arith, e.1, x.each c l e.0.0, highs_over (S a F.half.page_solvable) free (held n s) F.half.shut (held n s) (goal_mix F) c l r f))
+        (λ e. omega (arith, e.1, x.each c l e.0.0, highs_over (S a ok) free (held n s) F.half.shut (held n s) (goal_mix F) c l r f))
         (g.falls c l)
 
     pub half₂ : FloorHalf a m s₂
@@ -206,13 +213,12 @@ module _ (a : List ℕ) (m : List Bool) where
         let H = F.half in
         record {
           half = record {
-            page_solvable = H.page_solvable;
             long = omega (arith, H.long, g.same_length);
             marked = H.marked;
             shut = H.shut;
             within = λ c l. record { low_in = omega (arith, g.lows c l, H.within c l); high_in = omega (arith, high_fall c l, H.within c l) };
             negated = λ c l. ap (λ (i : ℕ). get_or s₂ i 0) (omega arith) ∙ g.negated c l;
-            below = λ c l. omega (arith, g.lows c l, H.below c l, (lows_anti (operator (S a H.page_solvable)) nobody (held n s₂) (held n s) (λ b i e. high_fall b i) c l).lows);
+            below = λ c l. omega (arith, g.lows c l, H.below c l, (lows_anti (operator (S a ok)) nobody (held n s₂) (held n s) (λ b i e. high_fall b i) c l).lows);
             capped = λ c l r f. absurd (false≢true f);
           };
           under = λ c l r. record {
@@ -224,22 +230,22 @@ module _ (a : List ℕ) (m : List Bool) where
 
     -- whoever does not wait negates nobody whose high end fell
     module _ (q : AllRest a m s) where
-      rests₂ : Users a users → (c : ℕ) → c < n → member m c ≡ true → has words c ≡ false → RestsAt lower a s₂ c
+      rests₂ : indexed ≡ true → (c : ℕ) → c < n → member m c ≡ true → has words c ≡ false → RestsAt lower a s₂ c
       unfolding page_of
       rests₂ u c l r o =
           omega (
             arith,
             q c l r,
             g.lows c l,
-            (E a F.half.page_solvable).local_end lower (held n s₂) (held n s) c l (λ d i f. g.lows d i)
+            (E a ok).local_end lower (held n s₂) (held n s) c l (λ d i f. g.lows d i)
                 (λ d i f. elim (ℕ_discrete (held n s₂ d).high (held n s d).high) [
                   | yes y ↦ y
-                  | no y ↦ absurd (⊎_elim (λ z. omega (arith, u.long)) (λ p. true≢false (sym (p d i y c f) ∙ o)) g.woken)
+                  | no y ↦ absurd (⊎_elim (λ z. true≢false (sym u ∙ z)) (λ p. true≢false (sym (p d i y c f) ∙ o)) g.woken)
                 ]),
           )
 
-      pub indexed₂ : {lines : List ℕ} → MaybeIndex a lines users → MaybeIndexed lower a m lines users s₂ words
-      indexed₂ = ⊎_elim (λ z. inl z) (λ i. inr (record { lines_in = i.0; users_in = i.1; waiting = record { set = g.set_in; rests = rests₂ i.1 } }))
+      pub waiting₂ : MaybeWaiting lower a m indexed s₂ words
+      waiting₂ = by_bool indexed (λ u. inr (record { set = g.set_in; rests = rests₂ u })) (λ z. inl z)
 
       -- none fell
       pub step_still : fell ≡ false → {s₀ : List ℕ} → SameIntervals a s₀ s → FloorKept a m s₀ s → FloorStep a m s₀ s₂ false
@@ -248,9 +254,9 @@ module _ (a : List ℕ) (m : List Bool) where
           record {
             kept = kept_on k kept₂;
             half = half₂;
-            rests = rests_same s s₂ e F.half.page_solvable q;
+            rests = rests_same s s₂ e q;
             still = λ y c l. e c l ∙ same c l;
-            down = λ y c l r f. let o = sought_here a m c r f in omega (arith, g.down c l o, x.each c l o, high_eq (T_same s s₂ e F.half.page_solvable c l));
+            down = λ y c l r f. let o = sought_here a m c r f in omega (arith, g.down c l o, x.each c l o, high_eq (T_same s s₂ e c l));
             moves = λ y. absurd (false≢true y);
           }
 
@@ -266,20 +272,11 @@ module _ (a : List ℕ) (m : List Bool) where
           moves = λ y. omega (arith, less₂ z, k.less, (settled_kept half₂ w).less);
         }
 
-  -- the loop: from a floor whose low ends are settled, steps until none falls
-  pub record Flooring (s₁ s words next₁ next : List ℕ) (moved₁ moved : Bool) : Type 0 where
-    pub kept : FloorKept a m s₁ s
-    pub half : FloorHalf a m s
-    pub rests : AllRest a m s
-    pub progress : ((moved ≡ moved₁) × SameIntervals a s₁ s) ⊎ ((moved ≡ true) × (to_learn a s < to_learn a s₁))
-    pub set_in : WaitSet n words
-    pub room_for : length next ≡ length next₁
-
-  pub flooring_first : {s s₁ words next : List ℕ} {t : Bool} → FloorHalf a m s → Settled lower a m s s₁ t → WaitSet n words → Flooring s₁ s₁ words next next t t
+  pub flooring_first : {s s₁ words next : List ℕ} {t : Bool} → FloorHalf a m s → Settled lower a m s s₁ t → WaitSet n words → Flooring a m s₁ s₁ words next next t t
   flooring_first F w q =
       record { kept = kept_same; half = settled_half F w; rests = w.rests; progress = inl (refl, λ c l. refl); set_in = q; room_for = refl }
 
-  module _ {s₁ s s' words next₁ next : List ℕ} {moved₁ moved fell : Bool} (v : Flooring s₁ s words next₁ next moved₁ moved) (r : FloorStep a m s s' fell) where
+  module _ {s₁ s s' words next₁ next : List ℕ} {moved₁ moved fell : Bool} (v : Flooring a m s₁ s words next₁ next moved₁ moved) (r : FloorStep a m s s' fell) where
     pub flooring_last : {s₀ : List ℕ} → FloorHalf a m s₀ → Settled lower a m s₀ s₁ moved₁ → fell ≡ false → Floored a m s₀ s' moved
     flooring_last {s₀} F₀ w z =
         let F = r.half in
@@ -289,7 +286,7 @@ module _ (a : List ℕ) (m : List Bool) where
           half = F.half;
           rests = r.rests;
           ends = λ c l y.
-              floor_done (S a F.half.page_solvable) free (held n s') F.half.shut (held n s') (goal_mix F) (λ b i o f. refl) (λ b i o. floor_in (free b) (F.half.within b i)) r.rests (r.down z) c l y
+              floor_done (S a ok) free (held n s') F.half.shut (held n s') (goal_mix F) (λ b i o f. refl) (λ b i o. floor_in (free b) (F.half.within b i)) r.rests (r.down z) c l y
               ∙ goal_same F₀ k c l y;
           still = λ y c l. ⊎_elim (λ p. r.still z c l ∙ p.1 c l ∙ ap (λ (x : List ℕ). held n x c) (w.still (sym p.0 ∙ y))) (λ p. absurd (true≢false (sym p.0 ∙ y))) v.progress;
           moves = λ y. ⊎_elim (λ p. omega (arith, settled_less F₀ w (sym p.0 ∙ y), v.kept.less, r.kept.less)) (λ p. omega (arith, p.1, (settled_kept F₀ w).less, r.kept.less)) v.progress;
@@ -304,7 +301,7 @@ module _ (a : List ℕ) (m : List Bool) where
         half = w.half;
         rests = w.rests;
         ends = λ c l y.
-            floor_done (S a G.half.page_solvable) free (held n s') G.half.shut (held n s') (goal_mix G) (λ b i o f. refl) (λ b i o. floor_in (free b) (G.half.within b i)) w.rests
+            floor_done (S a ok) free (held n s') G.half.shut (held n s') (goal_mix G) (λ b i o f. refl) (λ b i o. floor_in (free b) (G.half.within b i)) w.rests
             (λ b i o f. absurd (true≢false (sym f ∙ none b i o))) c l y
             ∙ goal_same F (settled_kept F w) c l y;
         still = λ z c l. ap (λ (x : List ℕ). held n x c) (w.still z);

@@ -17,10 +17,10 @@ use Rattle.semantics.specs.Grade.{lower, upper}
 use Rattle.semantics.specs.Table.{member, any_below}
 use Rattle.page.proofs.Head.{head_of}
 use Rattle.bits.specs.Words.{has}
-use Rattle.index.specs.Parts.{Users}
+use Rattle.page.specs.Solvable.{solvable}
 use Rattle.settle.specs.Ends.{reads, room}
 use Rattle.settle.specs.Scratch.{held, Half, RestsAt, Settled}
-use Rattle.settle.specs.Waiting.{WaitSet, MaybeIndex, MaybeIndexed}
+use Rattle.settle.specs.Waiting.{WaitSet, MaybeWaiting}
 use Rattle.unknowns.specs.NextHighs.{sought}
 use Rattle.unknowns.proofs.Sought.{none_free}
 use Rattle.rounds.specs.Round.{MarkedWait, HighsBegun, LowsBegun, Woke, past, LowsWait, TurnedAt, ToppedAt, closed_at, Fresh, Searched, LinesHave, to_learn, FloorHalf, Floored, RoundReady, Rounded}
@@ -29,7 +29,7 @@ use Rattle.settle.proofs.Raising.{S, E}
 use Rattle.rounds.proofs.Turns.{low_eq, high_eq, turned_same, topped_same, topped_by, capped_by, turned_by, lows_same, floor_first, lows_known, rounds_end}
 use Rattle.rounds.proofs.Flooring.{floored_plain}
 
-module _ (a : List ℕ) (m : List Bool) (s : List ℕ) (b : RoundReady a m s) where
+module _ (a : List ℕ) (ok : solvable a ≡ true) (m : List Bool) (s : List ℕ) (b : RoundReady a m s) where
   abbrev n : ℕ
   n = conditions_of a
 
@@ -46,13 +46,12 @@ module _ (a : List ℕ) (m : List Bool) (s : List ℕ) (b : RoundReady a m s) wh
 
     turned₁ : TurnedAt a (member m) b.round (held n s₁)
     turned₁ =
-        turned_same (S a b.page_solvable) free b.shut
+        turned_same (S a ok) free b.shut
         (λ c l r. pair_eq (h.lows c l) (cond_eq (free c) (λ f. free₁ c l f) (λ f. refl))) b.turned
 
     pub highs_half : Half upper a m s₁
     highs_half =
         record {
-          page_solvable = b.page_solvable;
           long = omega (arith, b.long, h.same_length);
           marked = b.marked;
           shut = b.shut;
@@ -62,7 +61,7 @@ module _ (a : List ℕ) (m : List Bool) (s : List ℕ) (b : RoundReady a m s) wh
           };
           negated = λ c l. h.negated c l ∙ ap (λ (x : ℕ). top_of a - x) (sym (h.lows c l));
           below = λ c l. cond_least (free c) (λ f. omega arith) (λ f. omega (arith, none₁ c l f));
-          capped = λ c l r f. capped_by (S a b.page_solvable) free b.shut turned₁ c l r f;
+          capped = λ c l r f. capped_by (S a ok) free b.shut turned₁ c l r f;
         }
 
     -- the second
@@ -76,10 +75,10 @@ module _ (a : List ℕ) (m : List Bool) (s : List ℕ) (b : RoundReady a m s) wh
 
       turned₃ : TurnedAt a (member m) b.round (held n s₃)
       turned₃ =
-          turned_same (S a b.page_solvable) free b.shut (λ c l r. pair_eq (lows₃ c l) (cond_eq (free c) (λ f. free₃ c l f) (λ f. refl))) b.turned
+          turned_same (S a ok) free b.shut (λ c l r. pair_eq (lows₃ c l) (cond_eq (free c) (λ f. free₃ c l f) (λ f. refl))) b.turned
 
       topped₃ : ToppedAt a (member m) b.round (held n s₃)
-      topped₃ = topped_by (S a b.page_solvable) free b.shut {L = held n s₁} turned₁ (λ c l r. high_eq (g.intervals c l) ∙ v.ends c l r)
+      topped₃ = topped_by (S a ok) free b.shut {L = held n s₁} turned₁ (λ c l r. high_eq (g.intervals c l) ∙ v.ends c l r)
 
       within₃ : (c : ℕ) → c < n → Within (top_of a) (held n s₃ c)
       within₃ c l = subst (Within (top_of a)) (sym (g.intervals c l)) (v.half.within c l)
@@ -91,16 +90,15 @@ module _ (a : List ℕ) (m : List Bool) (s : List ℕ) (b : RoundReady a m s) wh
       lows_half =
           record {
             half = record {
-              page_solvable = b.page_solvable;
               long = omega (arith, v.half.long, g.same_length);
               marked = b.marked;
               shut = b.shut;
               within = within₃;
               negated = λ c l. ap (λ (i : ℕ). get_or s₃ i 0) (omega arith) ∙ g.negated c l ∙ ap (λ (x : ℕ). top_of a - x) (sym (high_eq (g.intervals c l)));
-              below = lows_known (S a b.page_solvable) free b.shut turned₃ topped₃ apart₃;
+              below = lows_known (S a ok) free b.shut turned₃ topped₃ apart₃;
               capped = λ c l r f. absurd (false≢true f);
             };
-            under = floor_first (S a b.page_solvable) free b.shut turned₃ topped₃;
+            under = floor_first (S a ok) free b.shut turned₃ topped₃;
           }
 
       learn₃ : to_learn a s₃ ≡ to_learn a s
@@ -113,46 +111,46 @@ module _ (a : List ℕ) (m : List Bool) (s : List ℕ) (b : RoundReady a m s) wh
           )
 
       -- whoever does not wait negates no condition whose number is another
-      module _ {users lows lows' : List ℕ} (k : LowsWait a m users s lows) (o : Woke a users s₂ s₃ lows lows') where
+      module _ {indexed : Bool} {lows lows' : List ℕ} (k : LowsWait a m indexed s lows) (o : Woke a indexed s₂ s₃ lows lows') where
         number_same : (b : ℕ) → b < n → get_or s₂ (2 * b + 1) 0 ≡ get_or s (2 * b + 1) 0
         number_same b k = ap (λ (i : ℕ). get_or s₂ i 0) (omega arith) ∙ v.steady.negations b k ∙ ap (λ (i : ℕ). get_or s₁ i 0) (omega arith) ∙ h.negations b k
 
         past_high : (b : ℕ) → b < n → get_or s₂ (2 * b + 1) 0 ≡ get_or s₃ (2 * b + 1) 0 → (held n s₃ b).high ≡ (past a s b).high
         past_high b k z = omega (arith, high_eq (g.intervals b k), g.negated b k, number_same b k, (v.half.within b k).high_in)
 
-        rests₃ : Users a users → (c : ℕ) → c < n → member m c ≡ true → has lows' c ≡ false → RestsAt lower a s₃ c
+        rests₃ : indexed ≡ true → (c : ℕ) → c < n → member m c ≡ true → has lows' c ≡ false → RestsAt lower a s₃ c
         unfolding page_of
         rests₃ u c l r q =
-            let few = (head_of a b.page_solvable).few in
+            let few = (head_of a ok).few in
             let out : has lows c ≡ false = by_bool (has lows c) (λ y. absurd (true≢false (sym (o.kept c (omega arith) y) ∙ q))) (λ y. y) in
             omega (
               arith,
-              k.rests (λ z. omega (arith, u.long)) c l r out,
+              k.rests u c l r out,
               lows₃ c l,
-              (E a b.page_solvable).local_end lower (held n s₃) (past a s) c l (λ d i f. lows₃ d i)
+              (E a ok).local_end lower (held n s₃) (past a s) c l (λ d i f. lows₃ d i)
                   (λ d i f. past_high d i (elim (ℕ_discrete (get_or s₂ (2 * d + 1) 0) (get_or s₃ (2 * d + 1) 0)) [
                     | yes y ↦ y
-                    | no y ↦ absurd (⊎_elim (λ z. omega (arith, u.long)) (λ p. true≢false (sym (p d i y c f) ∙ q)) o.woken)
+                    | no y ↦ absurd (⊎_elim (λ z. true≢false (sym u ∙ z)) (λ p. true≢false (sym (p d i y c f) ∙ q)) o.woken)
                   ])),
             )
 
-        pub lows_indexed : {lines : List ℕ} → MaybeIndex a lines users → MaybeIndexed lower a m lines users s₃ lows'
-        lows_indexed = ⊎_elim (λ z. inl z) (λ i. inr (record { lines_in = i.0; users_in = i.1; waiting = record { set = o.set_in; rests = rests₃ i.1 } }))
+        pub lows_waiting : MaybeWaiting lower a m indexed s₃ lows'
+        lows_waiting = by_bool indexed (λ u. inr (record { set = o.set_in; rests = rests₃ u })) (λ z. inl z)
 
       module _ {s₄ : List ℕ} {changed : Bool} (w : Floored a m s₃ s₄ changed) where
         turned₄ : TurnedAt a (member m) (suc b.round) (held n s₄)
-        turned₄ = turned_by (S a b.page_solvable) free b.shut topped₃ w.ends
+        turned₄ = turned_by (S a ok) free b.shut topped₃ w.ends
 
         -- everybody rests, over the high ends held
-        pub lows_wait : {users lows : List ℕ} → WaitSet n lows → LowsWait a m users s₄ lows
+        pub lows_wait : {indexed : Bool} {lows : List ℕ} → WaitSet n lows → LowsWait a m indexed s₄ lows
         unfolding page_of
-        lows_wait {users} {lows} q =
+        lows_wait q =
             record {
               set_in = q;
               rests = λ y c l r z. omega (
                 arith,
                 w.rests c l r,
-                (E a b.page_solvable).local_end lower (past a s₄) (held n s₄) c l (λ d k f. refl)
+                (E a ok).local_end lower (past a s₄) (held n s₄) c l (λ d k f. refl)
                     (λ d k f. omega (arith, ap (λ (i : ℕ). get_or s₄ i 0) {x = 2 * d + 1} {y = 0 + (2 * d + 1)} (omega arith), w.half.negated d k, (w.half.within d k).high_in)),
               );
             }
@@ -163,7 +161,6 @@ module _ (a : List ℕ) (m : List Bool) (s : List ℕ) (b : RoundReady a m s) wh
               same_length = w.kept.same_length ∙ g.same_length ∙ v.steady.same_length ∙ h.same_length;
               beyond = w.kept.beyond ∙ g.beyond ∙ v.steady.beyond ∙ h.beyond;
               next = record {
-                page_solvable = b.page_solvable;
                 long = w.half.long;
                 marked = b.marked;
                 shut = b.shut;
@@ -181,9 +178,9 @@ module _ (a : List ℕ) (m : List Bool) (s : List ℕ) (b : RoundReady a m s) wh
         ended : changed ≡ false → (c : ℕ) → c < n → member m c ≡ true → held n s₄ c ≡ closed_at a c
         ended z =
             let e = w.still z in
-            rounds_end (S a b.page_solvable) free b.shut
-            (turned_same (S a b.page_solvable) free b.shut (λ c l r. pair_eq (low_eq (e c l)) (ap (λ (p : Interval). cond (free c) p.high (top_of a)) (e c l))) turned₃)
-            (topped_same (S a b.page_solvable) free b.shut (λ c l r f. high_eq (e c l)) topped₃) turned₄
+            rounds_end (S a ok) free b.shut
+            (turned_same (S a ok) free b.shut (λ c l r. pair_eq (low_eq (e c l)) (ap (λ (p : Interval). cond (free c) p.high (top_of a)) (e c l))) turned₃)
+            (topped_same (S a ok) free b.shut (λ c l r f. high_eq (e c l)) topped₃) turned₄
 
         pub rounded_told : Rounded a m s s₄ changed
         rounded_told = rounded ended (λ y. y)
@@ -201,21 +198,21 @@ module _ (a : List ℕ) (m : List Bool) (s : List ℕ) (b : RoundReady a m s) wh
           topped₄ : ToppedAt a (member m) (suc b.round) (held n s₄)
           unfolding page_of
           topped₄ =
-              topped_by (S a b.page_solvable) free b.shut {L = held n s₄} turned₄
+              topped_by (S a ok) free b.shut {L = held n s₄} turned₄
               (λ c l r. w.kept.others c l (none c l r) ∙ high_eq (g.intervals c l) ∙ v.ends c l r
-              ∙ settled_alike (S a b.page_solvable) (E a b.page_solvable) free b.shut upper (held n s₁) (held n s₄) low_same (λ d i p f. absurd (true≢false (sym f ∙ none d i p))) c l r)
+              ∙ settled_alike (S a ok) (E a ok) free b.shut upper (held n s₁) (held n s₄) low_same (λ d i p f. absurd (true≢false (sym f ∙ none d i p))) c l r)
 
           -- and the floor is that over these high ends, so both are the closed reading
           fresh_ended : (c : ℕ) → c < n → member m c ≡ true → held n s₄ c ≡ closed_at a c
           fresh_ended =
-              rounds_end (S a b.page_solvable) free b.shut turned₄ topped₄
-              (turned_by (S a b.page_solvable) free b.shut topped₄
-              (λ c l r. w.ends c l r ∙ sym (lows_same (S a b.page_solvable) free b.shut (held n s₄) (held n s₃) (λ d i p f. w.kept.others d i f) c l r)))
+              rounds_end (S a ok) free b.shut turned₄ topped₄
+              (turned_by (S a ok) free b.shut topped₄
+              (λ c l r. w.ends c l r ∙ sym (lows_same (S a ok) free b.shut (held n s₄) (held n s₃) (λ d i p f. w.kept.others d i f) c l r)))
 
       -- no reached condition is unknown by default
       module _ {s₄ : List ℕ} {changed : Bool} (none : (c : ℕ) → c < n → member m c ≡ true → free c ≡ false) (w : Settled lower a m s₃ s₄ changed) where
         pub plain : Floored a m s₃ s₄ changed
-        plain = floored_plain a m none lows_half w
+        plain = floored_plain a ok m none lows_half w
 
         -- no low end rose
         pub rounded_still : changed ≡ false → Rounded a m s s₄ false
@@ -238,6 +235,6 @@ pub none_reached : (a : List ℕ) (m : List Bool) {t : Bool} → t ≡ any_below
 none_reached a m e z c l r = sym (ap (λ (b : Bool). b && unknown_by_default (page_of a) c) r) ∙ none_free a m (sym e ∙ z) c l
 
 -- at first everybody waits
-pub all_lows : (a : List ℕ) (m : List Bool) (users s words : List ℕ) → WaitSet (conditions_of a) words → (length users ≡ 0) ⊎ MarkedWait (conditions_of a) m words → LowsWait a m users s words
-all_lows a m users s words h w =
-    record { set_in = h; rests = λ y c l r z. ⊎_elim (λ e. absurd (y e)) (λ v. absurd (true≢false (sym (v.waits c l r) ∙ z))) w }
+pub all_lows : (a : List ℕ) (m : List Bool) (indexed : Bool) (s words : List ℕ) → WaitSet (conditions_of a) words → (indexed ≡ false) ⊎ MarkedWait (conditions_of a) m words → LowsWait a m indexed s words
+all_lows a m indexed s words h w =
+    record { set_in = h; rests = λ y c l r z. ⊎_elim (λ e. absurd (true≢false (sym y ∙ e))) (λ v. absurd (true≢false (sym (v.waits c l r) ∙ z))) w }

@@ -1,7 +1,7 @@
 -- The loops that start a half: the ends and the negations of the conditions before c stand in the scratch. Assumes nothing.
 use mathlib.Core.Path.{◌≡◌, sym, ◌∙◌, ap, subst}
 use mathlib.Core.Logic.{◌≢◌, ◌⊎◌, inl, inr}
-use mathlib.Core.Bool.{true, false, cond}
+use mathlib.Core.Bool.{Bool, true, false, cond}
 use mathlib.Core.List.{List}
 use Prim.Native.Nat.{ℕ, ◌+◌, ◌*◌, ◌-◌, ◌≤◌, ◌<◌}
 use native.Mathlib.Decide.{ℕ_discrete}
@@ -11,9 +11,9 @@ use lib.Seq.{get_or-set_same, get_or-set_other, drop-set-lt}
 use Rattle.fixpoint.proofs.Cond.{cond_true, cond_false}
 use Rattle.semantics.specs.Area.{page_of, top_of, conditions_of}
 use Rattle.semantics.specs.Body.{unknown_by_default}
+use Rattle.page.specs.Solvable.{solvable}
 use Rattle.page.proofs.Head.{head_of}
 use Rattle.bits.specs.Words.{has}
-use Rattle.index.specs.Parts.{MaybeUsers}
 use Rattle.index.specs.Readers.{lines_read}
 use Rattle.settle.specs.Waiting.{WaitSet}
 use Rattle.rounds.specs.Round.{HighsIn, Comparable, Renegated}
@@ -83,7 +83,7 @@ module _ (a s₀ : List ℕ) where
         }
 
 -- the negations of the conditions before c have their numbers over the high ends
-module _ (a users s₀ words₀ : List ℕ) where
+module _ (a : List ℕ) (indexed : Bool) (s₀ words₀ : List ℕ) where
   abbrev size : ℕ
   size = conditions_of a
 
@@ -96,8 +96,8 @@ module _ (a users s₀ words₀ : List ℕ) where
   WokenFor words d = get_or s₀ (2 * d + 1) 0 ≢ over_high d → (h : ℕ) → lines_read (2 * d + 1) (page_of a).lines h ≡ true → has words h ≡ true
 
   pub record StartingLows (s words : List ℕ) (c : ℕ) : Type 0 where
+    pub sound : solvable a ≡ true
     pub half : HighsIn a s₀
-    pub users_in : MaybeUsers a users
     pub within : c ≤ size
     pub same_length : length s ≡ length s₀
     pub plain : (d : ℕ) → get_or s (2 * d) 0 ≡ get_or s₀ (2 * d) 0
@@ -107,10 +107,10 @@ module _ (a users s₀ words₀ : List ℕ) where
     pub beyond : drop (4 * size) s ≡ drop (4 * size) s₀
     pub set_in : WaitSet size words
     pub kept : (d : ℕ) → d < 512 → has words₀ d ≡ true → has words d ≡ true
-    pub woken : (length users ≡ 0) ⊎ ((d : ℕ) → d < c → WokenFor words d)
+    pub woken : (indexed ≡ false) ⊎ ((d : ℕ) → d < c → WokenFor words d)
 
   module _ {s words : List ℕ} {c : ℕ} (v : StartingLows s words c) (l : c < size) where
-    module _ {s' words' : List ℕ} (r : Renegated a users c s s' words words') where
+    module _ {s' words' : List ℕ} (r : Renegated a indexed c s s' words words') where
       y : ℕ
       y = top_of a - get_or s (2 * size + 2 * c) 0
 
@@ -125,7 +125,7 @@ module _ (a users s₀ words₀ : List ℕ) where
       other_at : (j : ℕ) → j ≢ 2 * c + 1 → get_or s' j 0 ≡ get_or s j 0
       other_at j z = ap (λ (x : List ℕ). get_or x j 0) s_is ∙ get_or-set_other s (2 * c + 1) j y 0 z
 
-      next_woken : (length users ≡ 0) ⊎ ((d : ℕ) → d < c + 1 → WokenFor words' d)
+      next_woken : (indexed ≡ false) ⊎ ((d : ℕ) → d < c + 1 → WokenFor words' d)
       next_woken =
           elim v.woken [
             | inl z ↦ inl z
@@ -133,7 +133,7 @@ module _ (a users s₀ words₀ : List ℕ) where
               | inl z ↦ inl z
               | inr g ↦ inr (λ d m. elim (ℕ_discrete d c) [
                 | yes z ↦ subst (WokenFor words') (sym z) (λ q h k. g (λ e. q (sym (v.behind c (omega arith)) ∙ e ∙ ap (λ (x : ℕ). top_of a - x) (v.over (2 * size + 2 * c) (omega arith)))) h k)
-                | no z ↦ λ q h k. r.kept h (omega (arith, (head_of a v.half.0).few, reads_below a v.half.0 (2 * d + 1) h k)) (f d (omega arith) q h k)
+                | no z ↦ λ q h k. r.kept h (omega (arith, (head_of a v.sound).few, reads_below a v.sound (2 * d + 1) h k)) (f d (omega arith) q h k)
               ])
             ]
           ]
@@ -141,15 +141,15 @@ module _ (a users s₀ words₀ : List ℕ) where
       pub lows_next : StartingLows s' words' (c + 1)
       lows_next =
           record {
+            sound = v.sound;
             half = v.half;
-            users_in = v.users_in;
             within = omega arith;
             same_length = ap length s_is ∙ length-set s (2 * c + 1) y ∙ v.same_length;
             plain = λ d. other_at (2 * d) (λ z. omega arith) ∙ v.plain d;
             over = λ j m. other_at j (λ z. omega arith) ∙ v.over j m;
             behind = λ d m. other_at (2 * d + 1) (λ z. omega arith) ∙ v.behind d (omega arith);
             negated = upto (λ d. get_or s' (2 * d + 1) 0 ≡ over_high d) c (λ d m. other_at (2 * d + 1) (λ z. omega arith) ∙ v.negated d m)
-                (ap (λ (x : List ℕ). get_or x (2 * c + 1) 0) s_is ∙ get_or-set_same s (2 * c + 1) y 0 (omega (arith, v.same_length, v.half.1)) ∙ y_is);
+                (ap (λ (x : List ℕ). get_or x (2 * c + 1) 0) s_is ∙ get_or-set_same s (2 * c + 1) y 0 (omega (arith, v.same_length, v.half.0)) ∙ y_is);
             beyond = ap (drop (4 * size)) s_is ∙ drop-set-lt (4 * size) s (2 * c + 1) y (omega arith) ∙ v.beyond;
             set_in = r.set_in;
             kept = λ d m q. r.kept d m (v.kept d m q);

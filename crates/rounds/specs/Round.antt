@@ -13,12 +13,10 @@ use Rattle.semantics.specs.Grade.{lower}
 use Rattle.semantics.specs.Page.{Line, names}
 use Rattle.semantics.specs.Table.{member}
 use Rattle.bits.specs.Words.{has}
-use Rattle.index.specs.Parts.{MaybeUsers}
 use Rattle.index.specs.Readers.{lines_read}
 use Rattle.settle.specs.Scratch.{held, room_at, Half, RestsAt}
 use Rattle.settle.specs.Waiting.{WaitSet}
 use Rattle.unknowns.specs.NextHighs.{sought}
-use Rattle.page.specs.Solvable.{solvable}
 
 -- every reached condition waits
 pub record MarkedWait (n : ℕ) (m : List Bool) (words : List ℕ) : Type 0 where
@@ -36,26 +34,26 @@ pub record HighsBegun (a s s' : List ℕ) : Type 0 where
   pub beyond : drop (4 * conditions_of a) s' ≡ drop (4 * conditions_of a) s
 
 -- the negation of c has its number over the high ends, and if there is an index and the number is another, whoever negates c waits
-pub record Renegated (a users : List ℕ) (c : ℕ) (s s' words words' : List ℕ) : Type 0 where
+pub record Renegated (a : List ℕ) (indexed : Bool) (c : ℕ) (s s' words words' : List ℕ) : Type 0 where
   pub stored : s' ≡ set s (2 * c + 1) (top_of a - get_or s (2 * conditions_of a + 2 * c) 0)
   pub set_in : WaitSet (conditions_of a) words'
   pub kept : (d : ℕ) → d < 512 → has words d ≡ true → has words' d ≡ true
-  pub woken : (length users ≡ 0) ⊎ (get_or s (2 * c + 1) 0 ≢ top_of a - get_or s (2 * conditions_of a + 2 * c) 0 → (h : ℕ) → lines_read (2 * c + 1) (page_of a).lines h ≡ true → has words' h ≡ true)
+  pub woken : (indexed ≡ false) ⊎ (get_or s (2 * c + 1) 0 ≢ top_of a - get_or s (2 * conditions_of a + 2 * c) 0 → (h : ℕ) → lines_read (2 * c + 1) (page_of a).lines h ≡ true → has words' h ≡ true)
 
 -- all negations have
-pub record Woke (a users s s' words words' : List ℕ) : Type 0 where
+pub record Woke (a : List ℕ) (indexed : Bool) (s s' words words' : List ℕ) : Type 0 where
   pub set_in : WaitSet (conditions_of a) words'
   pub kept : (d : ℕ) → d < 512 → has words d ≡ true → has words' d ≡ true
-  pub woken : (length users ≡ 0) ⊎ ((c : ℕ) → c < conditions_of a → get_or s (2 * c + 1) 0 ≢ get_or s' (2 * c + 1) 0 → (h : ℕ) → lines_read (2 * c + 1) (page_of a).lines h ≡ true → has words' h ≡ true)
+  pub woken : (indexed ≡ false) ⊎ ((c : ℕ) → c < conditions_of a → get_or s (2 * c + 1) 0 ≢ get_or s' (2 * c + 1) 0 → (h : ℕ) → lines_read (2 * c + 1) (page_of a).lines h ≡ true → has words' h ≡ true)
 
 -- the intervals over which the low ends were settled last
 abbrev pub past : (a s : List ℕ) → Assign
 past a s c = record { low = get_or s (2 * c) 0; high = top_of a - get_or s (2 * c + 1) 0 }
 
 -- if there is an index, whoever is reached and does not wait holds what T made of it then
-pub record LowsWait (a : List ℕ) (m : List Bool) (users s words : List ℕ) : Type 0 where
+pub record LowsWait (a : List ℕ) (m : List Bool) (indexed : Bool) (s words : List ℕ) : Type 0 where
   pub set_in : WaitSet (conditions_of a) words
-  pub rests : (length users ≡ 0 → ⊥) → (c : ℕ) → c < conditions_of a → member m c ≡ true → has words c ≡ false → (T (page_of a) (past a s) c).low ≤ get_or s (2 * c) 0
+  pub rests : indexed ≡ true → (c : ℕ) → c < conditions_of a → member m c ≡ true → has words c ≡ false → (T (page_of a) (past a s) c).low ≤ get_or s (2 * c) 0
 
 -- every low end goes on over the high ends
 pub record LowsBegun (a s s' : List ℕ) : Type 0 where
@@ -67,11 +65,10 @@ pub record LowsBegun (a s s' : List ℕ) : Type 0 where
 
 -- the numbers that the negations of the high ends read
 abbrev pub HighsIn : (a s : List ℕ) → Type 0
-HighsIn a s = (solvable a ≡ true) × (4 * conditions_of a ≤ length s) × ((c : ℕ) → c < conditions_of a → get_or s (2 * conditions_of a + 2 * c) 0 ≤ top_of a)
+HighsIn a s = (4 * conditions_of a ≤ length s) × ((c : ℕ) → c < conditions_of a → get_or s (2 * conditions_of a + 2 * c) 0 ≤ top_of a)
 
 -- the numbers that a comparison of the negations reads
 pub record Comparable (a s : List ℕ) : Type 0 where
-  pub page_solvable : solvable a ≡ true
   pub long : 4 * conditions_of a ≤ length s
   pub within : (c : ℕ) → c < conditions_of a → get_or s (2 * c) 0 ≤ top_of a
 
@@ -107,9 +104,7 @@ abbrev pub closed_at : List ℕ → Assign
 closed_at a = closed (conditions_of a) (top_of a) (T (page_of a)) (unknown_by_default (page_of a))
 
 -- what a fall of high ends reads
-pub record Fallible (a : List ℕ) (m : List Bool) (users next s words : List ℕ) : Type 0 where
-  pub page_solvable : solvable a ≡ true
-  pub users_in : MaybeUsers a users
+pub record Fallible (a : List ℕ) (m : List Bool) (next s words : List ℕ) : Type 0 where
   pub long : 4 * conditions_of a ≤ length s
   pub marked : conditions_of a ≤ length m
   pub room_for : conditions_of a ≤ length next
@@ -122,12 +117,12 @@ abbrev pub Falls : (a : List ℕ) (m : List Bool) (next s : List ℕ) → ℕ �
 Falls a m next s c = (sought a m c ≡ true) × (get_or next c 0 < get_or s (2 * conditions_of a + 2 * c) 0)
 
 -- the high end of c falls to the next one, and whoever negates c waits; or nothing is done
-pub record Lowered (a : List ℕ) (m : List Bool) (users next : List ℕ) (c : ℕ) (s s' words words' : List ℕ) (fell : Bool) : Type 0 where
+pub record Lowered (a : List ℕ) (m : List Bool) (indexed : Bool) (next : List ℕ) (c : ℕ) (s s' words words' : List ℕ) (fell : Bool) : Type 0 where
   pub still : fell ≡ false → (s' ≡ s) × (words' ≡ words) × (sought a m c ≡ true → get_or s (2 * conditions_of a + 2 * c) 0 ≤ get_or next c 0)
-  pub falls : fell ≡ true → Falls a m next s c × Renegated a users c (set s (2 * conditions_of a + 2 * c) (get_or next c 0)) s' words words'
+  pub falls : fell ≡ true → Falls a m next s c × Renegated a indexed c (set s (2 * conditions_of a + 2 * c) (get_or next c 0)) s' words words'
 
 -- every high end that is above the next one falls
-pub record Fell (a : List ℕ) (m : List Bool) (users next s s' words' : List ℕ) (fell : Bool) : Type 0 where
+pub record Fell (a : List ℕ) (m : List Bool) (indexed : Bool) (next s s' words' : List ℕ) (fell : Bool) : Type 0 where
   pub same_length : length s' ≡ length s
   pub lows : (c : ℕ) → c < conditions_of a → get_or s' (2 * c) 0 ≡ get_or s (2 * c) 0
   pub falls : (c : ℕ) → c < conditions_of a
@@ -136,7 +131,7 @@ pub record Fell (a : List ℕ) (m : List Bool) (users next s s' words' : List �
   pub negated : (c : ℕ) → c < conditions_of a → get_or s' (2 * c + 1) 0 ≡ top_of a - get_or s' (2 * conditions_of a + 2 * c) 0
   pub beyond : drop (4 * conditions_of a) s' ≡ drop (4 * conditions_of a) s
   pub set_in : WaitSet (conditions_of a) words'
-  pub woken : (length users ≡ 0) ⊎ ((c : ℕ) → c < conditions_of a → get_or s' (2 * conditions_of a + 2 * c) 0 ≢ get_or s (2 * conditions_of a + 2 * c) 0
+  pub woken : (indexed ≡ false) ⊎ ((c : ℕ) → c < conditions_of a → get_or s' (2 * conditions_of a + 2 * c) 0 ≢ get_or s (2 * conditions_of a + 2 * c) 0
       → (h : ℕ) → lines_read (2 * c + 1) (page_of a).lines h ≡ true → has words' h ≡ true)
   pub still : fell ≡ false → (c : ℕ) → c < conditions_of a → get_or s' (2 * conditions_of a + 2 * c) 0 ≡ get_or s (2 * conditions_of a + 2 * c) 0
   pub moves : fell ≡ true → (c : ℕ) × (c < conditions_of a) × Falls a m next s c × (get_or s' (2 * conditions_of a + 2 * c) 0 ≡ get_or next c 0)
@@ -195,7 +190,6 @@ pub record Floored (a : List ℕ) (m : List Bool) (s s' : List ℕ) (moved : Boo
 
 -- before a round: the floor is that of round k, and a low end 0 wherever a condition is not reached
 pub record RoundReady (a : List ℕ) (m : List Bool) (s : List ℕ) : Type 0 where
-  pub page_solvable : solvable a ≡ true
   pub long : 4 * conditions_of a ≤ length s
   pub marked : conditions_of a ≤ length m
   pub shut : DependencyClosed (conditions_of a) (names (page_of a)) (member m)

@@ -19,7 +19,7 @@ use Rattle.semantics.specs.Worklist.{lowest, holder, Status, status}
 use Rattle.semantics.proofs.Areas.{held_at}
 use Rattle.semantics.proofs.Drives.{lowest_some_of, lowest_none_of}
 use Rattle.semantics.proofs.Operations.{page_unsound, run_unsound, evaluate_beyond, evaluate_idle, evaluate_done, value_beyond, value_unreached, value_done, line_beyond, line_unreached, line_done}
-use Rattle.std.specs.Prelude.{Option, None, Some, is_some, Result, Ok, Err}
+use Rattle.std.specs.Prelude.{Option, None, Some, is_some}
 use Rattle.worklist.specs.Cells.{LowestAt, Lowest}
 use Rattle.worklist.specs.Evaluation.{Evaluated}
 use Rattle.worklist.proofs.Evaluation.{graded_of}
@@ -31,10 +31,10 @@ use Rattle.body.specs.Body.{Body}
 use Rattle.body.specs.FirstLine.{FirstLine}
 use Rattle.page.proofs.Head.{conditions_is}
 use Rattle.refusal.specs.declared.Refusal.{Refusal}
-use Rattle.refusal.specs.declared.Refusal.TheVariants.{PageNotSound}
+use Rattle.refusal.specs.declared.Refusal.TheVariants.{PageNotSound, RunNotSound}
 use Rattle.semantics.proofs.Workspaces.{drive_kept_10, drive_kept_14}
 use Rattle.run.specs.Answers.{Answered, status_if}
-use Rattle.run.specs.Checks.{Refuses, RunChecked, AreasChecked}
+use Rattle.run.specs.Checks.{Refuses}
 use Rattle.page.specs.Solvable.{solvable}
 
 pub answered : {left : Left} {x : Answer} {r : List ℕ} → left ≡ record { answer = x; run = r } → Answered left x r
@@ -90,9 +90,8 @@ module _ (a r : List ℕ) where
 pub refuses_10 : (a r : List ℕ) → sound a ≡ false → Refuses a r PageNotSound
 refuses_10 a r e = record { answers = refused_10 a r e; workspace = λ w. drive_kept_10 a r w e }
 
-pub areas_checked : {U : Type 0} (a r : List ℕ) → sound a ≡ true → (x : Result U Refusal) → RunChecked a r x → AreasChecked a r x
-areas_checked a r ok (Ok u) e = (ok, e)
-areas_checked a r ok (Err e) f = rw f.0 (record { answers = refused_14 a r ok f.1; workspace = λ w. drive_kept_14 a r w ok f.1 })
+pub refuses_14 : (a r : List ℕ) → sound a ≡ true → run_sound (page_of a) r ≡ false → Refuses a r RunNotSound
+refuses_14 a r ok e = record { answers = refused_14 a r ok e; workspace = λ w. drive_kept_14 a r w ok e }
 
 -- the line that holds the low end of T of the intervals held
 module _ (a r values : List ℕ) (ok : solvable a ≡ true) (rs : run_sound (page_of a) r ≡ true) (long : 2 * conditions_of a ≤ length values) (t : EndTable lower (top_of a) (conditions_of a) (interval_at r) values) where

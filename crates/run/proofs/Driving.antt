@@ -140,7 +140,6 @@ module _ (a run₀ : List ℕ) (allowance : ℕ) where
     ready : {values : List ℕ} → Beside a run values → Ready a run values before
     ready b =
         record {
-          page_solvable = s.page_solvable;
           run_sound = s.run_sound;
           long = b.long;
           table = b.table;

@@ -10,8 +10,8 @@ use Rattle.semantics.specs.RunArea.{mark_at, run_sound}
 use Rattle.run.specs.Answers.{Answered}
 
 -- 10
-abbrev pub PageChecked : {U : Type 0} → List ℕ → Result U Refusal → Type 0
-PageChecked a (Ok u) = sound a ≡ true
+abbrev pub PageChecked : List ℕ → Result (List ℕ) Refusal → Type 0
+PageChecked a (Ok page) = (page ≡ a) × (sound a ≡ true)
 PageChecked a (Err e) = (e ≡ PageNotSound) × (sound a ≡ false)
 
 -- 14
@@ -25,8 +25,8 @@ pub record Refuses (a r : List ℕ) (e : Refusal) : Type 0 where
   pub workspace : (w : List ℕ) → w ≡ drive_workspace a r w
 
 -- 10 and 14
-abbrev pub AreasChecked : {U : Type 0} → List ℕ → List ℕ → Result U Refusal → Type 0
-AreasChecked a r (Ok u) = (sound a ≡ true) × (run_sound (page_of a) r ≡ true)
+abbrev pub AreasChecked : List ℕ → List ℕ → Result (List ℕ) Refusal → Type 0
+AreasChecked a r (Ok page) = (page ≡ a) × (sound a ≡ true) × (run_sound (page_of a) r ≡ true)
 AreasChecked a r (Err e) = Refuses a r e
 
 -- 15
@@ -41,7 +41,7 @@ pub record Readable (a r : List ℕ) (c : ℕ) : Type 0 where
   pub inside : c < conditions_of a
   pub reached : 0 < mark_at r c
 
--- 10, 14, 15 and 17, which refuse value and line held alike
+-- 15 and 17, which refuse value and line held alike
 abbrev pub Reading : List ℕ → List ℕ → ℕ → Result ℕ Refusal → Type 0
 Reading a r n (Ok c) = (c ≡ n) × Readable a r n
 Reading a r n (Err e) = (refused (number_of e) ≡ value_of a r n) × (refused (number_of e) ≡ line_held_of a r n)

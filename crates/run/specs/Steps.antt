@@ -10,7 +10,6 @@ use Rattle.value.specs.Table.{EndTable}
 use Rattle.step.specs.Before.{ToldBefore}
 use Rattle.step.specs.declared.Before.{Before}
 use Rattle.run.specs.Answers.{Answered, Drives, status_if}
-use Rattle.page.specs.Solvable.{solvable}
 
 -- what a drive that nothing refuses answers and leaves
 unfoldable pub drive_left : (a run : List ℕ) → (allowance : ℕ) → Left
@@ -29,7 +28,6 @@ LastInGrades a (Some b) = InGrades a b
 
 -- after the evaluations the table holds the run area; `before` is what was held before the last of them, if there is one
 pub record Ready (a run values : List ℕ) (before : Option Before) : Type 0 where
-  pub page_solvable : solvable a ≡ true
   pub run_sound : run_sound (page_of a) run ≡ true
   pub long : 2 * conditions_of a ≤ length values
   pub table : EndTable lower (top_of a) (conditions_of a) (interval_at run) values

@@ -6,16 +6,16 @@ ghost use Rattle.semantics.specs.Area.{sound, page_of, conditions_of};
 ghost use Rattle.semantics.specs.Operation.{evaluate_of, drive_of, value_of, line_held_of, drive_workspace, index_length};
 ghost use Rattle.semantics.specs.RunArea.{mark_at, worklist_of, run_sound};
 ghost use Rattle.semantics.specs.Worklist.{holder};
-ghost use Rattle.index.specs.Parts.{MaybeLines, MaybeUsers};
 ghost use Rattle.worklist.specs.Evaluation.{Evaluated};
 ghost use Rattle.worklist.specs.Waiting.{WordsMatch};
 ghost use Rattle.run.specs.Answers.{Answered, Drives, evaluate_answer_of, value_answer_of, line_answer_of, drove_of, drive_answer_of};
 ghost use Rattle.run.specs.Checks.{PageChecked, RunChecked, AreasChecked, InPage, Reading};
 ghost use Rattle.run.specs.Steps.{drive_left, Ready, LastLine, Stopped};
 ghost use Rattle.step.specs.Beside.{Beside};
-ghost use Rattle.page.specs.Solvable.{solvable};
 
 use bits::Set;
+use index::Source;
+use page::Page;
 use refusal::Refusal;
 use step::Before;
 
@@ -27,17 +27,14 @@ pub struct Told {
 }
 
 // 10 page area not sound.
-fn check_page(page: &[u16]) -> Result<(), Refusal>
+fn check_page(page: &[u16]) -> Result<Page, Refusal>
     ensures { PageChecked page.now result }
 {
-    if page::page_sound(page) {
-        return Ok(());
-    }
-    Err(Refusal::PageNotSound)
+    Page::of(page).ok_or(Refusal::PageNotSound)
 }
 
 // 14 run area too short or not sound.
-fn check_run(page: &[u16], run: &[u16]) -> Result<(), Refusal>
+fn check_run(page: &Page, run: &[u16]) -> Result<(), Refusal>
     requires { sound page.now ≡ true }
     ensures { RunChecked page.now run.now result }
 {
@@ -48,41 +45,42 @@ fn check_run(page: &[u16], run: &[u16]) -> Result<(), Refusal>
 }
 
 // 10, then 14.
-fn check_areas(page: &[u16], run: &[u16]) -> Result<(), Refusal>
+fn check_areas<'a>(page: &'a [u16], run: &[u16]) -> Result<Page<'a>, Refusal>
     ensures { AreasChecked page.now run.now result }
 {
-    check_page(page)?;
-    check_run(page, run)
+    let page = check_page(page)?;
+    check_run(&page, run)?;
+    Ok(page)
 }
 
 // The condition of that number: 15 it is C or more.
-fn condition_in(page: &[u16], condition: u32) -> Result<u16, Refusal>
+fn condition_in(page: &Page, condition: u32) -> Result<u16, Refusal>
     requires { sound page.now ≡ true }
     ensures { InPage page.now condition result }
 {
-    if page[1] as u32 <= condition {
+    if page.conditions() as u32 <= condition {
         return Err(Refusal::ConditionOutOfRange);
     }
     Ok(condition as u16)
 }
 
 // An evaluation that nothing refuses. The set of those that wait is not asked for, so it is left empty.
-fn evaluate_waiting(page: &[u16], run: &mut [u16], c: u16) -> Told
-    requires { (solvable page.now ≡ true) × (run_sound (page_of page.now) run.old ≡ true) × (c < conditions_of page.now) × (mark_at run.old c ≡ 2) }
+fn evaluate_waiting(page: &Page, run: &mut [u16], c: u16) -> Told
+    requires { (run_sound (page_of page.now) run.old ≡ true) × (c < conditions_of page.now) × (mark_at run.old c ≡ 2) }
     ensures { Evaluated (page_of page.now) c run.old run.new result.changed × (result.line ≡ holder (page_of page.now) (worklist_of (page_of page.now) run.old) c) }
 {
     let mut waiting = Set::empty();
     let mut values = [0u8; 1024];
-    ends::fill(run, page[1], page[0], &mut values);
-    let none = &page[0..0];
+    ends::fill(run, page.conditions(), page.top(), &mut values);
+    let source = Source::scanned(page);
     let before = step::held(run, c);
-    let changed = step::step(page, none, none, run, &mut waiting, &mut values, c);
+    let changed = step::step(&source, run, &mut waiting, &mut values, c);
     let line = step::line_told(page, run, &mut values, before);
     Told { changed, line }
 }
 
 // Evaluate on a page that is sound: 14, then 15, then 16 the condition is not waiting.
-pub fn evaluate_sound(page: &[u16], run: &mut [u16], condition: u32) -> Result<Told, Refusal>
+pub fn evaluate_sound(page: &Page, run: &mut [u16], condition: u32) -> Result<Told, Refusal>
     requires { sound page.now ≡ true }
     ensures { Answered (evaluate_of page.now run.old condition) (evaluate_answer_of result) run.new }
 {
@@ -99,15 +97,15 @@ pub fn evaluate_sound(page: &[u16], run: &mut [u16], condition: u32) -> Result<T
 pub fn evaluate(page: &[u16], run: &mut [u16], condition: u32) -> Result<Told, Refusal>
     ensures { Answered (evaluate_of page.now run.old condition) (evaluate_answer_of result) run.new }
 {
-    check_page(page)?;
-    evaluate_sound(page, run, condition)
+    let page = check_page(page)?;
+    evaluate_sound(&page, run, condition)
 }
 
-// The condition that is read: 10, 14, 15, then 17 it is not reached.
-fn reached(page: &[u16], run: &[u16], condition: u32) -> Result<u16, Refusal>
+// The condition that is read: 15, then 17 it is not reached.
+fn reached(page: &Page, run: &[u16], condition: u32) -> Result<u16, Refusal>
+    requires { (sound page.now ≡ true) × (run_sound (page_of page.now) run.now ≡ true) }
     ensures { Reading page.now run.now condition result }
 {
-    check_areas(page, run)?;
     let c = condition_in(page, condition)?;
     let marked = 1 <= run[3 * c as usize + 2];
     if !marked {
@@ -128,24 +126,25 @@ pub struct Held {
 pub fn value(page: &[u16], run: &[u16], condition: u32) -> Result<Held, Refusal>
     ensures { value_answer_of result ≡ value_of page.now run.now condition }
 {
-    let c = reached(page, run, condition)?;
+    let page = check_areas(page, run)?;
+    let c = reached(&page, run, condition)?;
     let at = 3 * c as usize;
     Ok(Held {
         low: run[at],
         high: run[at + 1],
-        rest: worklist::lowest_waiting(run, page[1]).is_none(),
+        rest: worklist::lowest_waiting(run, page.conditions()).is_none(),
     })
 }
 
 // The line that holds the low end of T of the intervals held, where nothing refuses.
-fn line_now(page: &[u16], run: &[u16], c: u16) -> u16
-    requires { (solvable page.now ≡ true) × (run_sound (page_of page.now) run.now ≡ true) × (c < conditions_of page.now) }
+fn line_now(page: &Page, run: &[u16], c: u16) -> u16
+    requires { (run_sound (page_of page.now) run.now ≡ true) × (c < conditions_of page.now) }
     ensures { result ≡ holder (page_of page.now) (worklist_of (page_of page.now) run.now) c }
 {
     let mut values = [0u8; 1024];
-    ends::fill(run, page[1], page[0], &mut values);
-    let none = &page[0..0];
-    let body = body::body(page, none, &values, c);
+    ends::fill(run, page.conditions(), page.top(), &mut values);
+    let source = Source::scanned(page);
+    let body = body::body(&source, &values, c);
     body::first_line(page, &values, c, body.low)
 }
 
@@ -153,8 +152,9 @@ fn line_now(page: &[u16], run: &[u16], c: u16) -> u16
 pub fn line_held(page: &[u16], run: &[u16], condition: u32) -> Result<u16, Refusal>
     ensures { line_answer_of result ≡ line_held_of page.now run.now condition }
 {
-    let c = reached(page, run, condition)?;
-    Ok(line_now(page, run, c))
+    let page = check_areas(page, run)?;
+    let c = reached(&page, run, condition)?;
+    Ok(line_now(&page, run, c))
 }
 
 // What a drive takes, the line that its last evaluation told, 0 if it took none, and whether the run is then at rest.
@@ -175,17 +175,16 @@ struct Steps {
 
 // The evaluations, lowest waiting condition first.
 fn drive_steps(
-    a: &[u16],
-    lines: &[u16],
-    users: &[u16],
+    source: &Source,
     run: &mut [u16],
     waiting: &mut Set,
     values: &mut [u8],
     allowance: u32,
 ) -> Steps
-    requires { (solvable a.now ≡ true) × (run_sound (page_of a.now) run.old ≡ true) × MaybeLines a.now lines.now × MaybeUsers a.now users.now × Beside a.now run.old values.old × WordsMatch (conditions_of a.now) run.old waiting.old.words }
-    ensures { Stopped a.now run.old allowance run.new values.new result.taken result.rest result.before }
+    requires { (run_sound (page_of source.now.area) run.old ≡ true) × Beside source.now.area run.old values.old × WordsMatch (conditions_of source.now.area) run.old waiting.old.words }
+    ensures { Stopped source.now.area run.old allowance run.new values.new result.taken result.rest result.before }
 {
+    source.recall();
     let mut taken: u32 = 0;
     let mut before = None;
     // a `while let`: an evaluation takes its condition out of the set and may put others in
@@ -199,7 +198,7 @@ fn drive_steps(
             };
         }
         before = Some(step::held(run, c));
-        step::step(a, lines, users, run, waiting, values, c);
+        step::step(source, run, waiting, values, c);
         taken += 1;
     }
     Steps {
@@ -210,43 +209,38 @@ fn drive_steps(
 }
 
 // The line that the last evaluation told, 0 if none was taken, as C is told it.
-fn last_line(a: &[u16], run: &[u16], values: &mut [u8], before: Option<Before>) -> u16
-    requires { Ready a.now run.now values.old before }
-    ensures { LastLine a.now run.now before result }
+fn last_line(page: &Page, run: &[u16], values: &mut [u8], before: Option<Before>) -> u16
+    requires { Ready page.now run.now values.old before }
+    ensures { LastLine page.now run.now before result }
 {
     match before {
         None => 0,
-        Some(last) => step::line_told(a, run, values, last),
+        Some(last) => step::line_told(page, run, values, last),
     }
 }
 
 // The table and the set are made of the run area, then the evaluations are taken.
-fn drive_filled(
-    a: &[u16],
-    lines: &[u16],
-    users: &[u16],
-    run: &mut [u16],
-    values: &mut [u8],
-    allowance: u32,
-) -> Steps
-    requires { (solvable a.now ≡ true) × (run_sound (page_of a.now) run.old ≡ true) × MaybeLines a.now lines.now × MaybeUsers a.now users.now × (2 * conditions_of a.now ≤ length values.old) }
-    ensures { Stopped a.now run.old allowance run.new values.new result.taken result.rest result.before }
+fn drive_filled(source: &Source, run: &mut [u16], values: &mut [u8], allowance: u32) -> Steps
+    requires { (run_sound (page_of source.now.area) run.old ≡ true) × (2 * conditions_of source.now.area ≤ length values.old) }
+    ensures { Stopped source.now.area run.old allowance run.new values.new result.taken result.rest result.before }
 {
-    ends::fill(run, a[1], a[0], values);
-    let mut waiting = worklist::waiting_set(run, a[1]);
-    drive_steps(a, lines, users, run, &mut waiting, values, allowance)
+    let n = source.page.conditions();
+    ends::fill(run, n, source.page.top(), values);
+    let mut waiting = worklist::waiting_set(run, n);
+    drive_steps(source, run, &mut waiting, values, allowance)
 }
 
 // A drive that nothing refuses.
-fn drive_over(a: &[u16], lines: &[u16], users: &[u16], run: &mut [u16], allowance: u32) -> Drove
-    requires { (solvable a.now ≡ true) × (run_sound (page_of a.now) run.old ≡ true) × MaybeLines a.now lines.now × MaybeUsers a.now users.now }
-    ensures { Answered (drive_left a.now run.old allowance) (drove_of result) run.new }
+fn drive_over(source: &Source, run: &mut [u16], allowance: u32) -> Drove
+    requires { run_sound (page_of source.now.area) run.old ≡ true }
+    ensures { Answered (drive_left source.now.area run.old allowance) (drove_of result) run.new }
 {
+    source.recall();
     let mut values = [0u8; 1024];
-    let steps = drive_filled(a, lines, users, run, &mut values, allowance);
+    let steps = drive_filled(source, run, &mut values, allowance);
     let taken = steps.taken;
     let rest = steps.rest;
-    let line = last_line(a, run, &mut values, steps.before);
+    let line = last_line(source.page, run, &mut values, steps.before);
     Drove { taken, line, rest }
 }
 
@@ -258,13 +252,14 @@ pub struct Counted {
 }
 
 // A drive that nothing refuses and that tells no line.
-pub fn drive_counted(page: &[u16], run: &mut [u16], allowance: u32) -> Counted
+pub fn drive_counted(page: &Page, run: &mut [u16], allowance: u32) -> Counted
     requires { (sound page.now ≡ true) × (run_sound (page_of page.now) run.old ≡ true) }
     ensures { Drives (drive_of page.now run.old allowance) result.taken result.rest run.new }
 {
+    page.recall();
     let mut values = [0u8; 1024];
-    let none = &page[0..0];
-    let steps = drive_filled(page, none, none, run, &mut values, allowance);
+    let source = Source::scanned(page);
+    let steps = drive_filled(&source, run, &mut values, allowance);
     Counted {
         taken: steps.taken,
         rest: steps.rest,
@@ -272,24 +267,21 @@ pub fn drive_counted(page: &[u16], run: &mut [u16], allowance: u32) -> Counted
 }
 
 // The same with a line and with an index, which is built in the workspace.
-pub fn drive_built(page: &[u16], run: &mut [u16], workspace: &mut [u16], allowance: u32) -> Drove
-    requires { (solvable page.now ≡ true) × (run_sound (page_of page.now) run.old ≡ true) × (length workspace.old ≡ index_length page.now) }
+pub fn drive_built(page: &Page, run: &mut [u16], workspace: &mut [u16], allowance: u32) -> Drove
+    requires { (run_sound (page_of page.now) run.old ≡ true) × (length workspace.old ≡ index_length page.now) }
     ensures { Answered (drive_left page.now run.old allowance) (drove_of result) run.new }
 {
     index::build(page, workspace);
-    let k = index::lines_length(page);
-    let lines = &workspace[0..k];
-    let users = &workspace[k..];
-    drive_over(page, lines, users, run, allowance)
+    let source = Source::built(page, workspace);
+    drive_over(&source, run, allowance)
 }
 
 // Drive: 10 or 14. The areas are tested once; an evaluation keeps the run area sound. Without a workspace and with one are two calls, since C has both.
 pub fn drive(page: &[u16], run: &mut [u16], allowance: u32) -> Result<Drove, Refusal>
     ensures { Answered (drive_of page.now run.old allowance) (drive_answer_of result) run.new }
 {
-    check_areas(page, run)?;
-    let none = &page[0..0];
-    Ok(drive_over(page, none, none, run, allowance))
+    let page = check_areas(page, run)?;
+    Ok(drive_over(&Source::scanned(&page), run, allowance))
 }
 
 // Drive, with an index in a workspace that the caller lends. A workspace that is too short is not touched, and the page is scanned.
@@ -302,13 +294,12 @@ pub fn drive_indexed(
     ensures answer { Answered (drive_of page.now run.old allowance) (drive_answer_of result) run.new }
     ensures workspace { workspace.new ≡ drive_workspace page.now run.old workspace.old }
 {
-    check_areas(page, run)?;
-    let m = index::index_length(page);
+    let page = check_areas(page, run)?;
+    let m = index::index_length(&page);
     if workspace.len() < m {
-        let none = &page[0..0];
-        return Ok(drive_over(page, none, none, run, allowance));
+        return Ok(drive_over(&Source::scanned(&page), run, allowance));
     }
-    let drove = drive_built(page, run, &mut workspace[..m], allowance);
+    let drove = drive_built(&page, run, &mut workspace[..m], allowance);
     index::erase(workspace, m);
     Ok(drove)
 }

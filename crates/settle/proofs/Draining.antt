@@ -1,6 +1,6 @@
 -- An end settled over an index: whoever is reached and does not wait rests, until nobody waits. Assumes nothing.
 use mathlib.Core.Path.{◌≡◌, refl, sym, ◌∙◌, ap, subst}
-use mathlib.Core.Logic.{◌≢◌}
+use mathlib.Core.Logic.{◌≢◌, ⊎_elim}
 use mathlib.Core.Bool.{Bool, true, false, ◌&&◌, ◌||◌, or-true, true≢false}
 use mathlib.Core.List.{List, [], ◌∷◌}
 use Prim.Native.Nat.{ℕ, zero, suc, ◌+◌, ◌*◌, ◌≤◌, ◌<◌}
@@ -16,14 +16,13 @@ use Rattle.semantics.specs.Table.{member}
 use Rattle.page.specs.Places.{place_of, LineIn}
 use Rattle.page.proofs.Head.{head_of}
 use Rattle.page.proofs.Scanning.{lines_left, lines_first}
-use Rattle.page.proofs.LineNumbers.{lines_from, line_of}
+use Rattle.page.proofs.LineNumbers.{line_in, lines_from, line_of}
 use Rattle.bits.specs.Words.{has, Removed}
-use Rattle.index.specs.Groups.{LinesByHead}
 use Rattle.index.specs.Readers.{among, lines_read}
+use Rattle.index.specs.Lookup.{LinesAre}
 use Rattle.value.specs.Table.{end_of}
 use Rattle.settle.specs.Scratch.{held, room_at, Lookable, Looked, RestsAt, Settled}
 use Rattle.settle.specs.Waiting.{WaitSet, Woken, Waiting}
-use Rattle.settle.proofs.Groups.{slice, group_only, group_every}
 use Rattle.settle.proofs.Members.{waiters, few_wait, else_same, rest_in, fewer}
 use Rattle.settle.proofs.Raising.{E, rests_by}
 use Rattle.settle.proofs.Settling.{Settling, settling_next, settling_last}
@@ -59,30 +58,28 @@ module _ (a : List ℕ) (ok : solvable a ≡ true) (code c : ℕ) where
       (read_from x.number 0 (omega (arith, x.in_count))
       (subst (λ (j : ℕ). lines_read code (line_at (drop (place_of a j) a) ∷ []) c ≡ true) {x = x.number} {y = 0 + x.number} (omega arith) (subst (λ (j : ℕ). lines_read code (line_at (drop j a) ∷ []) c ≡ true) x.place r)))
 
--- the group of a condition
-module _ (a first places : List ℕ) (ok : solvable a ≡ true) (g : LinesByHead a first places) (c : ℕ) (real : c < conditions_of a) where
-  abbrev pub group : List ℕ
-  group = slice places (get_or first c 0) (get_or first (c + 1) 0)
+-- the lines of a condition
+module _ (a places : List ℕ) {c : ℕ} (g : LinesAre a c places) where
+  pub group_lookable : Lookable a places
+  group_lookable i u = line_in (g.only i u)
 
-  pub group_lookable : Lookable a group
-  group_lookable i u = let w = group_only g c real i u in record { number = w.number; in_count = w.in_count; place = w.place }
-
-  module _ {e : End} {m : List Bool} {s s' : List ℕ} {t : Bool} (r : Looked e a m (λ i. get_or group i 0) (length group) s s' t) where
+  module _ {e : End} {m : List Bool} {s s' : List ℕ} {t : Bool} (r : Looked e a m (λ i. get_or places i 0) (length places) s s' t) where
     -- no other condition rose
     pub group_alone : (b : ℕ) → b < conditions_of a → b ≢ c → end_of e (held (conditions_of a) s' b) ≡ end_of e (held (conditions_of a) s b)
-    group_alone b k d = r.only b k (λ i u q. d (sym q ∙ (group_only g c real i u).head))
+    group_alone b k d = r.only b k (λ i u q. d (sym q ∙ (g.only i u).head))
 
     -- and if c does not read itself, or did not rise, it rests
-    pub group_rests : (lines_read (2 * c) (page_of a).lines c ≡ true → end_of e (held (conditions_of a) s' c) ≡ end_of e (held (conditions_of a) s c)) → member m c ≡ true → RestsAt e a s' c
-    group_rests h q =
-        rests_by r.half c real q
+    pub group_rests : solvable a ≡ true → c < conditions_of a
+        → (lines_read (2 * c) (page_of a).lines c ≡ true → end_of e (held (conditions_of a) s' c) ≡ end_of e (held (conditions_of a) s c)) → member m c ≡ true → RestsAt e a s' c
+    group_rests ok real h q =
+        rests_by ok r.half c real q
         (λ j u p d.
-        let y = group_every g c real (place_of a j) (line_of (top_of a) (held (conditions_of a) s') c a j u d) in
-        let z : get_or group y.0 0 ≡ place_of a j = y.2 in
+        let y = g.every (place_of a j) (line_of (top_of a) (held (conditions_of a) s') c a j u d) in
+        let z : get_or places y.0 0 ≡ place_of a j = y.2 in
         r.covered y.0 y.1 c real q
         (λ b o f. elim (ℕ_discrete b c) [
           | yes k ↦ subst (λ (x : ℕ). end_of e (held (conditions_of a) s' x) ≡ end_of e (held (conditions_of a) s x)) (sym k)
-              (h (read_in a ok (2 * c) c (get_or group y.0 0) (group_lookable y.0 y.1) (subst (λ (x : ℕ). lines_read (2 * x) (line_at (drop (get_or group y.0 0) a) ∷ []) c ≡ true) k f)))
+              (h (read_in a ok (2 * c) c (get_or places y.0 0) (group_lookable y.0 y.1) (subst (λ (x : ℕ). lines_read (2 * x) (line_at (drop (get_or places y.0 0) a) ∷ []) c ≡ true) k f)))
           | no k ↦ group_alone b o k
         ])
         p (rw z d))
@@ -91,18 +88,15 @@ module _ (a first places : List ℕ) (ok : solvable a ≡ true) (g : LinesByHead
 abbrev pub left : End → (a s words : List ℕ) → ℕ
 left e a s words = room_at e a s * 513 + waiters words
 
-module _ (e : End) (a : List ℕ) (m : List Bool) (first places s₀ : List ℕ) where
-  abbrev part : ℕ → List ℕ
-  part c = slice places (get_or first c 0) (get_or first (c + 1) 0)
-
+module _ (e : End) (a : List ℕ) (m : List Bool) (s₀ : List ℕ) where
   pub record Draining (s words : List ℕ) (changed : Bool) : Type 0 where
-    pub groups : LinesByHead a first places
+    pub sound : solvable a ≡ true
     pub settling : Settling e a m s₀ s changed
     pub waiting : Waiting e a m s words
 
   pub draining_last : {s words : List ℕ} {changed : Bool} → Draining s words changed → ((c : ℕ) → c < 512 → has words c ≡ false) → Settled e a m s₀ s changed
   draining_last v q =
-      settling_last e a m v.settling (λ c l r. v.waiting.rests c l r (q c (omega (arith, (head_of a v.settling.half.page_solvable).few))))
+      settling_last e a m v.sound v.settling (λ c l r. v.waiting.rests c l r (q c (omega (arith, (head_of a v.sound).few))))
 
   -- c is taken out and its group looked at
   module _ {s words : List ℕ} {changed : Bool} (v : Draining s words changed) (c : ℕ) (small : c < 512) (waits : has words c ≡ true) (words₁ : List ℕ) (x : Removed c words words₁) where
@@ -116,15 +110,12 @@ module _ (e : End) (a : List ℕ) (m : List Bool) (first places s₀ : List ℕ)
     pub set₁ : WaitSet (conditions_of a) words₁
     set₁ = rest_in words words₁ c x v.waiting.set
 
-    module _ {s' : List ℕ} {t : Bool} (r : Looked e a m (λ i. get_or (part c) i 0) (length (part c)) s s' t) where
+    module _ {places : List ℕ} (g : LinesAre a c places) {s' : List ℕ} {t : Bool} (r : Looked e a m (λ i. get_or places i 0) (length places) s s' t) where
       abbrev n : ℕ
       n = conditions_of a
 
-      ok : solvable a ≡ true
-      ok = v.settling.half.page_solvable
-
       few : n ≤ 512
-      few = (head_of a ok).few
+      few = (head_of a v.sound).few
 
       -- nothing rose
       pub draining_still : t ≡ false → (s' ≡ s) × Draining s words₁ changed × (left e a s words₁ < left e a s words)
@@ -132,13 +123,13 @@ module _ (e : End) (a : List ℕ) (m : List Bool) (first places s₀ : List ℕ)
           let q : s' ≡ s = r.still z in (
             q,
             record {
-              groups = v.groups;
+              sound = v.sound;
               settling = v.settling;
               waiting = record {
                 set = set₁;
                 rests = λ d l i o. elim (ℕ_discrete d c) [
                   | yes k ↦ subst (λ (b : ℕ). RestsAt e a s b) (sym k)
-                      (subst (λ (y : List ℕ). RestsAt e a y c) q (group_rests a first places ok v.groups c c_real r (λ f. ap (λ (y : List ℕ). end_of e (held n y c)) q)
+                      (subst (λ (y : List ℕ). RestsAt e a y c) q (group_rests a places g r v.sound c_real (λ f. ap (λ (y : List ℕ). end_of e (held n y c)) q)
                       (sym (ap (member m) k) ∙ i)))
                   | no k ↦ v.waiting.rests d l i (out_before d (omega (arith, few)) k o)
                 ];
@@ -148,10 +139,10 @@ module _ (e : End) (a : List ℕ) (m : List Bool) (first places s₀ : List ℕ)
           )
 
       -- c rose, and whoever names it plainly waits
-      module _ {words₂ : List ℕ} (w : Woken a (2 * c) words₁ words₂) where
+      module _ {indexed : Bool} (there : indexed ≡ true) {words₂ : List ℕ} (w : Woken a indexed (2 * c) words₁ words₂) where
         -- whoever does not wait does not read c
         reads_not : (d : ℕ) → has words₂ d ≡ false → lines_read (2 * c) (page_of a).lines d ≡ true → ⊥
-        reads_not d o f = true≢false (sym (w.woken d f) ∙ o)
+        reads_not d o f = ⊎_elim (λ z. true≢false (sym there ∙ z)) (λ k. true≢false (sym (k d f) ∙ o)) w.woken
 
         out₁ : (d : ℕ) → d < 512 → has words₂ d ≡ false → has words₁ d ≡ false
         out₁ d l o = by_bool (has words₁ d) (λ y. absurd (true≢false (sym (w.kept d l y) ∙ o))) (λ y. y)
@@ -161,10 +152,10 @@ module _ (e : End) (a : List ℕ) (m : List Bool) (first places s₀ : List ℕ)
         other_rests d l k z o =
             omega (
               arith,
-              (E a ok).local_end e (held n s') (held n s) d l
+              (E a v.sound).local_end e (held n s') (held n s) d l
                   (λ b i f. elim (ℕ_discrete b c) [
                     | yes y ↦ absurd (reads_not d o (subst (λ (j : ℕ). lines_read (2 * j) (page_of a).lines d ≡ true) y f))
-                    | no y ↦ group_alone a first places ok v.groups c c_real r b i y
+                    | no y ↦ group_alone a places g r b i y
                   ])
                   (λ b i f. r.steady.others b i),
               v.waiting.rests d l z (out_before d (omega (arith, few)) k (out₁ d (omega (arith, few)) o)),
@@ -174,13 +165,13 @@ module _ (e : End) (a : List ℕ) (m : List Bool) (first places s₀ : List ℕ)
         pub draining_rose : t ≡ true → Draining s' words₂ true × (left e a s' words₂ < left e a s words)
         draining_rose z = (
           record {
-            groups = v.groups;
-            settling = settling_next e a m v.settling (subst (Looked e a m (λ i. get_or (part c) i 0) (length (part c)) s s') z r);
+            sound = v.sound;
+            settling = settling_next e a m v.settling (subst (Looked e a m (λ i. get_or places i 0) (length places) s s') z r);
             waiting = record {
               set = w.set;
               rests = λ d l i o. elim (ℕ_discrete d c) [
                 | yes k ↦ subst (λ (b : ℕ). RestsAt e a s' b) (sym k)
-                    (group_rests a first places ok v.groups c c_real r (λ f. absurd (reads_not c (sym (ap (has words₂) k) ∙ o) f)) (sym (ap (member m) k) ∙ i))
+                    (group_rests a places g r v.sound c_real (λ f. absurd (reads_not c (sym (ap (has words₂) k) ∙ o) f)) (sym (ap (member m) k) ∙ i))
                 | no k ↦ other_rests d l k i o
               ];
             };

@@ -11,6 +11,5 @@ pub mod Looking
 pub mod Settling
 -- those that wait, and an end settled over an index
 pub mod Members
-pub mod Groups
 pub mod Waking
 pub mod Draining

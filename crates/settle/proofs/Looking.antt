@@ -1,6 +1,6 @@
 -- Lines in a row, one after the other: what is left when they were looked at. Assumes nothing.
 use mathlib.Core.Path.{◌≡◌, refl, sym, ◌∙◌, ap, subst}
-use mathlib.Core.Bool.{Bool, false, ◌||◌, false≢true}
+use mathlib.Core.Bool.{Bool, true, false, ◌||◌, false≢true}
 use mathlib.Core.List.{List}
 use Prim.Native.Nat.{ℕ, ◌+◌, ◌≤◌, ◌<◌}
 use native.Mathlib.Numerals.{add-one}
@@ -13,6 +13,7 @@ use Rattle.semantics.specs.Grade.{End}
 use Rattle.fixpoint.proofs.Evaluation.{or_false}
 use Rattle.page.specs.Lines.{Next}
 use Rattle.page.specs.Places.{place_of, LineIn}
+use Rattle.page.specs.Solvable.{solvable}
 use Rattle.value.specs.Table.{end_of}
 use Rattle.settle.specs.Scratch.{held, Half, Covered, Raised, Looked}
 use Rattle.settle.proofs.EndReads.{line_level}
@@ -30,7 +31,7 @@ module _ (e : End) (a : List ℕ) (m : List Bool) (place : ℕ → ℕ) where
         only = λ c l g. refl;
       }
 
-  module _ {i : ℕ} (lines : (j : ℕ) → j < i → LineIn a (place j)) {s₀ s s' : List ℕ} {rose t : Bool}
+  module _ (ok : solvable a ≡ true) {i : ℕ} (lines : (j : ℕ) → j < i → LineIn a (place j)) {s₀ s s' : List ℕ} {rose t : Bool}
       (v : Looked e a m place i s₀ s rose) (r : Raised e a m (place i) s s' t) where
     abbrev n : ℕ
     n = conditions_of a
@@ -45,7 +46,7 @@ module _ (e : End) (a : List ℕ) (m : List Bool) (place : ℕ → ℕ) where
     -- a line looked at before
     earlier : (j : ℕ) → j < i → Covered e a m s₀ s' (place j)
     earlier j u c o q g p d =
-        let y = line_level n (top_of a) e (held n s') (held n s) (line_at (drop (place j) a)) (line_ranged a v.half.page_solvable (lines j u)) c
+        let y = line_level n (top_of a) e (held n s') (held n s) (line_at (drop (place j) a)) (line_ranged a ok (lines j u)) c
         (λ b k f. between b k (g b k f)) r.steady.others d in
         omega (arith, y.2, v.covered j u c o q (λ b k f. before b k (g b k f)) y.0 y.1, r.steady.rises c o)
 
@@ -66,23 +67,25 @@ module _ (e : End) (a : List ℕ) (m : List Bool) (place : ℕ → ℕ) where
 
 -- the loop over the page: `passed` lines were looked at, and the next stands at `at`
 pub record Sweeping (e : End) (a : List ℕ) (m : List Bool) (s₀ s : List ℕ) (at passed : ℕ) (rose : Bool) : Type 0 where
+  pub sound : solvable a ≡ true
   pub in_count : passed ≤ count_of a
   pub place : at ≡ place_of a passed
   pub looked : Looked e a m (place_of a) passed s₀ s rose
 
-pub sweeping_first : {e : End} {a : List ℕ} {m : List Bool} {at k : ℕ} {s : List ℕ} → Half e a m s → at ≡ first_line a → k ≡ 0 → Sweeping e a m s s at k false
+pub sweeping_first : {e : End} {a : List ℕ} {m : List Bool} {at k : ℕ} {s : List ℕ} → solvable a ≡ true → Half e a m s → at ≡ first_line a → k ≡ 0 → Sweeping e a m s s at k false
 unfolding place_of
-sweeping_first {e} {a} {m} {s = s} h f z =
-    record { in_count = omega (arith, z); place = rw (z, f); looked = rw z (looked_first e a m (place_of a) h) }
+sweeping_first {e} {a} {m} {s = s} ok h f z =
+    record { sound = ok; in_count = omega (arith, z); place = rw (z, f); looked = rw z (looked_first e a m (place_of a) h) }
 
 module _ {e : End} {a : List ℕ} {m : List Bool} {s₀ s : List ℕ} {at passed : ℕ} {rose : Bool} (v : Sweeping e a m s₀ s at passed rose) where
   pub sweeping_next : {s' : List ℕ} {t : Bool} {at' passed' : ℕ} → passed < count_of a → Next a at passed at' passed' → Raised e a m at s s' t → Sweeping e a m s₀ s' at' passed' (rose || t)
   unfolding place_of
   sweeping_next {s'} {t} l x r =
       record {
+        sound = v.sound;
         in_count = omega (arith, l, x.count);
         place = rw (x.place, x.count, add-one passed, v.place);
         looked = rw x.count
-            (looked_next e a m (place_of a) (λ j u. record { number = j; in_count = omega (arith, l); place = refl }) v.looked
+            (looked_next e a m (place_of a) v.sound (λ j u. record { number = j; in_count = omega (arith, l); place = refl }) v.looked
             (subst (λ (y : ℕ). Raised e a m y s s' t) v.place r));
       }

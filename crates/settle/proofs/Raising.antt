@@ -19,10 +19,8 @@ use Rattle.semantics.specs.Table.{member}
 use Rattle.semantics.proofs.Proper.{InRange, AllInRange}
 use Rattle.semantics.proofs.Readings.{page_system}
 use Rattle.page.specs.Places.{place_of, LineIn, LineOf}
-use Rattle.page.specs.Lines.{EntryIn}
-use Rattle.page.proofs.Head.{head_of}
 use Rattle.page.proofs.Scan.{entry_head}
-use Rattle.page.proofs.Scanning.{lines_left, lines_first, entry_ok, entry_here}
+use Rattle.page.proofs.Scanning.{lines_left, lines_first, entry_ok}
 use Rattle.page.proofs.LineNumbers.{scanning_at, lines_from, line_of}
 use Rattle.value.specs.Table.{end_of, other, Grades}
 use Rattle.value.specs.LineEnds.{LineEnd}
@@ -54,10 +52,7 @@ module _ (a : List ℕ) (ok : solvable a ≡ true) where
   pub line_ranged : {at : ℕ} → LineIn a at → InRange (top_of a) (conditions_of a) (line_at (drop at a))
   line_ranged {at} s = rw s.place (rw (lines_from a ok s.number s.in_count) at (ranged_from s.number (omega (arith, s.in_count)))).0
 
-  -- its entry lies in the area, and its head is a condition
-  pub line_entry : {at : ℕ} → LineIn a at → EntryIn a at
-  line_entry {at} s = subst (EntryIn a) (sym s.place) (entry_here a (scanning_at a ok s.number (omega (arith, s.in_count))) s.in_count)
-
+  -- its head is a condition
   pub line_head : {at : ℕ} → LineIn a at → get_or a at 0 < conditions_of a
   line_head {at} s =
       subst (λ (i : ℕ). get_or a i 0 < conditions_of a) (sym s.place)
@@ -90,11 +85,11 @@ bodyless_end lower a c f = bodyless_low a c
 bodyless_end upper a c f = ap (λ (p : Interval). p.high) (bodyless_kept a c f)
 
 -- whoever has an end that stays rests, and so does whoever no line gives more than it holds
-module _ {e : End} {a : List ℕ} {m : List Bool} {s : List ℕ} (H : Half e a m s) (c : ℕ) (l : c < conditions_of a) (r : member m c ≡ true) where
+module _ {e : End} {a : List ℕ} {m : List Bool} {s : List ℕ} (ok : solvable a ≡ true) (H : Half e a m s) (c : ℕ) (l : c < conditions_of a) (r : member m c ≡ true) where
   pub T_below : end_of e (T (page_of a) (held (conditions_of a) s) c) ≤ settled_at e a s c
   unfolding page_of
   T_below =
-      below_T (S a H.page_solvable) (E a H.page_solvable) (unknown_by_default (page_of a)) e (held (conditions_of a) s) H.within (held (conditions_of a) s) (λ b i. refl) H.below c l
+      below_T (S a ok) (E a ok) (unknown_by_default (page_of a)) e (held (conditions_of a) s) H.within (held (conditions_of a) s) (λ b i. refl) H.below c l
       (H.capped c l r)
 
   pub rests_by : ((j : ℕ) → j < count_of a → (p : Interval) → line_body (top_of a) (held (conditions_of a) s) c (line_at (drop (place_of a j) a)) ≡ p ∷ [] → end_of e p ≤ end_of e (held (conditions_of a) s c))
@@ -103,10 +98,10 @@ module _ {e : End} {a : List ℕ} {m : List Bool} {s : List ℕ} (H : Half e a m
   rests_by b =
       by_bool (stays_at e a c)
       (λ f. omega (arith, T_below, settled_stays (conditions_of a) (top_of a) (T (page_of a)) (unknown_by_default (page_of a)) e (held (conditions_of a) s) c f))
-      (λ f. body_most e a H.page_solvable (held (conditions_of a) s) c (end_of e (held (conditions_of a) s c)) b (λ z. omega (arith, bodyless_end e a c f)))
+      (λ f. body_most e a ok (held (conditions_of a) s) c (end_of e (held (conditions_of a) s c)) b (λ z. omega (arith, bodyless_end e a c f)))
 
 -- the line at a place, whose head is h
-module _ (e : End) (a : List ℕ) (m : List Bool) (s : List ℕ) (at : ℕ) (H : Half e a m s) (x : LineIn a at) where
+module _ (e : End) (a : List ℕ) (m : List Bool) (s : List ℕ) (at : ℕ) (ok : solvable a ≡ true) (H : Half e a m s) (x : LineIn a at) where
   abbrev h : ℕ
   h = get_or a at 0
 
@@ -166,8 +161,8 @@ module _ (e : End) (a : List ℕ) (m : List Bool) (s : List ℕ) (at : ℕ) (H :
           omega (
             arith,
             q.2,
-            body_has e a H.page_solvable (held n s) h x.number x.in_count q.0 (moved_to (held n s) h q.0 q.1),
-            T_below H h real reached,
+            body_has e a ok (held n s) h x.number x.in_count q.0 (moved_to (held n s) h q.0 q.1),
+            T_below ok H h real reached,
           )
 
       -- so its end is none that stays
@@ -195,7 +190,7 @@ module _ (e : End) (a : List ℕ) (m : List Bool) (s : List ℕ) (at : ℕ) (H :
       stayed' c l f = else' c (λ z. goes (subst (λ (b : ℕ). stays_at e a b ≡ true) z f))
 
       settled_same : (c : ℕ) → c < n → settled_at e a s' c ≡ settled_at e a s c
-      settled_same c l = settled_others (S a H.page_solvable) (E a H.page_solvable) (unknown_by_default (page_of a)) e (held n s') (held n s) to_others stayed' c l
+      settled_same c l = settled_others (S a ok) (E a ok) (unknown_by_default (page_of a)) e (held n s') (held n s) to_others stayed' c l
 
       rises' : (c : ℕ) → c < n → end_of e (held n s c) ≤ end_of e (held n s' c)
       rises' = by_head (λ c. end_of e (held n s c) ≤ end_of e (held n s' c)) (omega (arith, here)) (λ c l z. omega (arith, else' c z))
@@ -203,7 +198,6 @@ module _ (e : End) (a : List ℕ) (m : List Bool) (s : List ℕ) (at : ℕ) (H :
       half' : Half e a m s'
       half' =
           record {
-            page_solvable = H.page_solvable;
             long = rw length-set H.long;
             marked = H.marked;
             shut = H.shut;
@@ -214,7 +208,7 @@ module _ (e : End) (a : List ℕ) (m : List Bool) (s : List ℕ) (at : ℕ) (H :
             below = λ c l. by_head (λ c. end_of e (held n s' c) ≤ settled_at e a s' c) (omega (arith, here, v_below, settled_same h real)) (λ c l z. omega (arith, else' c z, settled_same c l, H.below c l)) c l;
             capped = λ c l r f. omega (
               arith,
-              ap (end_of e) (settled_T (S a H.page_solvable) (E a H.page_solvable) (unknown_by_default (page_of a)) e (held n s') (held n s) to_others stayed' c l),
+              ap (end_of e) (settled_T (S a ok) (E a ok) (unknown_by_default (page_of a)) e (held n s') (held n s) to_others stayed' c l),
               H.capped c l r f,
               stayed' c l f,
             );
@@ -242,7 +236,7 @@ module _ (e : End) (a : List ℕ) (m : List Bool) (s : List ℕ) (at : ℕ) (H :
 
       covered' : Covered e a m s s' at
       covered' c l r g p d =
-          let q = line_level n (top_of a) e (held n s') (held n s) (line_at (drop at a)) (line_ranged a H.page_solvable x) c g to_others d in
+          let q = line_level n (top_of a) e (held n s') (held n s) (line_at (drop at a)) (line_ranged a ok x) c g to_others d in
           let y = adds_v c q.0 q.1 in
           rw y.0 (omega (arith, q.2, y.1, here))
 
@@ -259,17 +253,12 @@ module _ (e : End) (a : List ℕ) (m : List Bool) (s : List ℕ) (at : ℕ) (H :
 
   -- in the code's own terms
   pub record Facts : Type 0 where
-    pub four : at + 4 ≤ length a
-    pub head : 4 ≤ length a
     pub real : get_or a at 0 < conditions_of a
-    pub few : conditions_of a ≤ 512
     pub long : 4 * conditions_of a ≤ length s
     pub marked : conditions_of a ≤ length m
 
   pub facts : Facts
-  facts =
-      let k = head_of a H.page_solvable in
-      record { four = (line_entry a H.page_solvable x).four; head = k.four; real = line_head a H.page_solvable x; few = k.few; long = H.long; marked = H.marked }
+  facts = record { real = line_head a ok x; long = H.long; marked = H.marked }
 
   pub line_here : get_or a (at + 1) 0 ≤ 5 → LineOf a h at
   line_here l = record { number = x.number; in_count = x.in_count; place = x.place; head = refl; body = l }
@@ -303,4 +292,4 @@ module _ (e : End) (a : List ℕ) (m : List Bool) (s : List ℕ) (at : ℕ) (H :
         pub raised_here : member m h ≡ true → get_or s (base + 2 * h) 0 < v → Raised e a m at s (set s (base + 2 * h) v) true
         raised_here r l =
             subst (λ (b : ℕ). Raised e a m at s (set s (b + 2 * h) v) true) (sym q)
-            (raised_up on_table (line_head a H.page_solvable x) r (rw (end_at n s e h, ← q) l))
+            (raised_up on_table (line_head a ok x) r (rw (end_at n s e h, ← q) l))

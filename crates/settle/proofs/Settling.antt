@@ -9,6 +9,7 @@ use Rattle.semantics.specs.Body.{unknown_by_default}
 use Rattle.semantics.specs.Grade.{End}
 use Rattle.semantics.specs.Table.{member}
 use Rattle.page.specs.Places.{place_of}
+use Rattle.page.specs.Solvable.{solvable}
 use Rattle.value.specs.Table.{end_of}
 use Rattle.settle.specs.Scratch.{held, room_at, Half, Steady, Looked, RestsAt, Settled}
 use Rattle.settle.proofs.Halves.{settled_at, settled_others}
@@ -37,8 +38,8 @@ module _ (e : End) (a : List ℕ) (m : List Bool) where
         }
 
   -- where T makes no more of any reached condition than it holds, the ends are settled
-  pub settling_last : {s₀ s : List ℕ} {changed : Bool} → Settling s₀ s changed → ((c : ℕ) → c < n → member m c ≡ true → RestsAt e a s c) → Settled e a m s₀ s changed
-  settling_last {s₀} {s} v q =
+  pub settling_last : solvable a ≡ true → {s₀ s : List ℕ} {changed : Bool} → Settling s₀ s changed → ((c : ℕ) → c < n → member m c ≡ true → RestsAt e a s c) → Settled e a m s₀ s changed
+  settling_last ok {s₀} {s} v q =
       let h = v.half in
       record {
         half = h;
@@ -47,16 +48,16 @@ module _ (e : End) (a : List ℕ) (m : List Bool) where
         moves = v.moves;
         rests = q;
         ends = λ c l r.
-            settled_at (S a h.page_solvable) (E a h.page_solvable) (unknown_by_default (page_of a)) e (held n s) h.within h.shut (held n s) (λ b i. refl) (λ b i f. refl) h.below q c l r
-            ∙ settled_others (S a h.page_solvable) (E a h.page_solvable) (unknown_by_default (page_of a)) e (held n s) (held n s₀) v.steady.others v.steady.stayed c l;
+            settled_at (S a ok) (E a ok) (unknown_by_default (page_of a)) e (held n s) h.within h.shut (held n s) (λ b i. refl) (λ b i f. refl) h.below q c l r
+            ∙ settled_others (S a ok) (E a ok) (unknown_by_default (page_of a)) e (held n s) (held n s₀) v.steady.others v.steady.stayed c l;
       }
 
   -- if a sweep raised nothing, T makes no more of any
-  pub swept : {s s' : List ℕ} → Looked e a m (place_of a) (count_of a) s s' false → (s' ≡ s) × ((c : ℕ) → c < n → member m c ≡ true → RestsAt e a s c)
-  swept {s} {s'} r =
+  pub swept : solvable a ≡ true → {s s' : List ℕ} → Looked e a m (place_of a) (count_of a) s s' false → (s' ≡ s) × ((c : ℕ) → c < n → member m c ≡ true → RestsAt e a s c)
+  swept ok {s} {s'} r =
       let z : s' ≡ s = r.still refl in (
         z,
         λ c l q. subst (λ (t : List ℕ). RestsAt e a t c) z
-            (rests_by r.half c l q
+            (rests_by ok r.half c l q
             (λ j u p d. r.covered j u c l q (λ b i f. ap (λ (t : List ℕ). end_of e (held n t b)) z) p d)),
       )

@@ -1,25 +1,22 @@
--- The set of those that wait: heads that join it, and the groups of an index. Assumes nothing.
+-- The set of those that wait: heads that join it. Assumes nothing.
 use mathlib.Core.Path.{◌≡◌, refl, sym, ◌∙◌, subst}
 use mathlib.Core.Logic.{◌⊎◌, inl, inr, ⊎_elim}
 use mathlib.Core.Bool.{Bool, true, false, or-true, true≢false}
 use mathlib.Core.List.{List}
-use Prim.Native.Nat.{ℕ, ◌+◌, ◌*◌, ◌-◌, ◌≤◌, ◌<◌}
+use Prim.Native.Nat.{ℕ, ◌+◌, ◌<◌}
 use native.Mathlib.Decide.{ℕ_discrete}
 use native.Mathlib.Omega.{arith}
+use lib.ListN.{length, get_or}
 use lib.Dec.{eqb}
-use lib.ListN.{length, get_or, take, drop}
-use borrow.Author.Rules.{part_to_end}
 use borrow.Author.Tests.{eq-eqb, eqb-true}
 use Rattle.semantics.specs.Area.{conditions_of}
 use Rattle.semantics.proofs.Table.{or_cases}
+use Rattle.page.specs.Solvable.{solvable}
 use Rattle.page.proofs.Head.{head_of}
 use Rattle.bits.specs.Words.{has, Inserted}
-use Rattle.index.specs.Groups.{HeadsByLiteral}
-use Rattle.index.specs.Parts.{Users}
+use Rattle.index.specs.Lookup.{HeadsAre}
 use Rattle.index.proofs.Readers.{reads_below}
-use Rattle.settle.proofs.Groups.{slice, group_inside, group_only, group_every}
 use Rattle.settle.specs.Waiting.{WaitSet, Woken}
-use Rattle.page.specs.Solvable.{solvable}
 
 -- the heads of a group join the set one after the other, those below a number
 pub record Joined (heads : List ℕ) (i : ℕ) (words₀ words : List ℕ) : Type 0 where
@@ -45,41 +42,24 @@ joined_next {heads} {words₀} {words} {words'} {i} small v w =
     old : (j : ℕ) → j < i → has words' (get_or heads j 0) ≡ true
     old j u = w.1 (get_or heads j 0) (small j (omega arith)) ∙ rw (v.woken j u)
 
--- the parts of an index as the code takes them
-module _ (a : List ℕ) (ok : solvable a ≡ true) where
-  abbrev n : ℕ
-  n = conditions_of a
+-- the heads of a literal
+module _ (a : List ℕ) (ok : solvable a ≡ true) (code : ℕ) {heads : List ℕ} (g : HeadsAre a code heads) where
+  head_real : (j : ℕ) → j < length heads → get_or heads j 0 < conditions_of a
+  head_real j l = reads_below a ok code (get_or heads j 0) (g.only j l)
 
-  module _ (users : List ℕ) (u : Users a users) where
-    abbrev pub starts : List ℕ
-    starts = take (2 * n + 1) users
+  pub heads_small : (j : ℕ) → j < length heads → get_or heads j 0 < 512
+  heads_small j l = omega (arith, head_real j l, (head_of a ok).few)
 
-    abbrev pub heads : List ℕ
-    heads = take (length users - (2 * n + 1)) (drop (2 * n + 1) users)
+  pub woken_by : {indexed : Bool} {words words' : List ℕ} {i : ℕ} → indexed ≡ true → i ≡ length heads → WaitSet (conditions_of a) words → Joined heads i words words'
+      → Woken a indexed code words words'
+  woken_by {words' = words'} y e s w =
+      record {
+        set = record { inside = λ c m r. ⊎_elim (λ q. s.inside c m q) (λ q. rw (← q.2) (head_real q.0 (rw (← e) q.1))) (w.only c m r) };
+        kept = w.kept;
+        woken = inr (λ h r. let q = g.every h r in subst (λ (x : ℕ). has words' x ≡ true) q.2 (w.woken q.0 (rw e q.1)));
+        same = λ z. absurd (true≢false (sym y ∙ z));
+      }
 
-    pub user_groups : HeadsByLiteral a starts heads
-    user_groups = rw (part_to_end users (2 * n + 1)) u.groups
-
-    module _ (code : ℕ) (l : code < 2 * n) where
-      abbrev pub user_group : List ℕ
-      user_group = slice heads (get_or starts code 0) (get_or starts (code + 1) 0)
-
-      pub heads_inside : (get_or starts code 0 ≤ get_or starts (code + 1) 0) × (get_or starts (code + 1) 0 ≤ length heads)
-      heads_inside = group_inside user_groups code l
-
-      head_real : (j : ℕ) → j < length user_group → get_or user_group j 0 < n
-      head_real j h = reads_below a ok code (get_or user_group j 0) (group_only user_groups code l j h)
-
-      pub heads_small : (j : ℕ) → j < length user_group → get_or user_group j 0 < 512
-      heads_small j h = omega (arith, head_real j h, (head_of a ok).few)
-
-      pub woken_by : {words words' : List ℕ} {i : ℕ} → i ≡ length user_group → WaitSet n words → Joined user_group i words words' → Woken a code words words'
-      woken_by {words} {words'} e s w =
-          record {
-            set = record { inside = λ c m r. ⊎_elim (λ q. s.inside c m q) (λ q. rw (← q.2) (head_real q.0 (rw (← e) q.1))) (w.only c m r) };
-            kept = w.kept;
-            woken = λ h r. let q = group_every user_groups code l h r in subst (λ (x : ℕ). has words' x ≡ true) q.2 (w.woken q.0 (rw e q.1));
-          }
-
-pub users_some : (users : List ℕ) {b : Bool} → b ≡ eqb (length users) 0 → b ≡ false → length users ≡ 0 → ⊥
-users_some users e z y = true≢false (sym (eq-eqb (length users) 0 y) ∙ sym e ∙ z)
+-- without an index nothing is done
+pub woken_none : {a : List ℕ} {indexed : Bool} {code : ℕ} {words : List ℕ} → indexed ≡ false → WaitSet (conditions_of a) words → Woken a indexed code words words
+woken_none z s = record { set = s; kept = λ c l r. r; woken = inl z; same = λ y. refl }

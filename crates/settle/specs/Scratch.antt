@@ -15,7 +15,6 @@ use Rattle.index.specs.Readers.{lines_read}
 use Rattle.page.specs.Places.{LineIn}
 use Rattle.value.specs.Table.{end_of, other}
 use Rattle.settle.specs.Ends.{stays, settled_all, settled_end, room}
-use Rattle.page.specs.Solvable.{solvable}
 
 -- where the table of an end begins, and the table
 abbrev pub base_of : ℕ → End → ℕ
@@ -47,7 +46,6 @@ CappedAt e a s c =
 
 -- a half under way: grades, the negations of the other ends, no end above what it comes to, and no line that would raise an end that stays
 pub record Half (e : End) (a : List ℕ) (m : List Bool) (s : List ℕ) : Type 0 where
-  pub page_solvable : solvable a ≡ true
   pub long : 4 * conditions_of a ≤ length s
   pub marked : conditions_of a ≤ length m
   pub shut : DependencyClosed (conditions_of a) (names (page_of a)) (member m)

@@ -1,31 +1,29 @@
 // One end of every reached condition, settled while the other ends stay.
 #![tactic(auto)]
 
-ghost use Rattle.std.specs.Prelude.{◌≡◌, true, ℕ, ◌*◌, ◌<◌, length, get_or};
+ghost use Rattle.std.specs.Prelude.{◌≡◌, true, ◌*◌, ◌<◌, length, get_or};
 ghost use Rattle.semantics.specs.Area.{conditions_of, count_of};
 ghost use Rattle.page.specs.Places.{place_of, LineIn};
-ghost use Rattle.index.specs.Parts.{Lines, Users};
+ghost use Rattle.page.specs.Solvable.{solvable};
 ghost use Rattle.value.specs.Table.{side};
 ghost use Rattle.settle.specs.Figures.{FiguresOf};
 ghost use Rattle.settle.specs.Scratch.{Half, Raised, Lookable, Looked, Settled};
-ghost use Rattle.settle.specs.Waiting.{WaitSet, Woken, Waiting, MaybeIndexed};
-ghost use Rattle.page.specs.Solvable.{solvable};
+ghost use Rattle.settle.specs.Waiting.{WaitSet, Woken, Waiting, MaybeWaiting};
 
 use bits::Set;
+use index::Source;
+use page::Page;
 use value::End;
 
-// The heads of the rules that have the literal `code` wait. The first numbers of the index say where each group begins.
-pub fn wake(a: &[u16], users: &[u16], words: &mut Set, code: u16)
-    requires { (solvable a.now ≡ true) × Users a.now users.now × (code < 2 * conditions_of a.now) × WaitSet (conditions_of a.now) words.old.words }
-    ensures { Woken a.now code words.old.words words.new.words }
+// The heads of the rules that have the literal `code` wait, if there is an index; else nothing is done.
+pub fn wake(source: &Source, words: &mut Set, code: u16)
+    requires { (code < 2 * conditions_of source.now.area) × WaitSet (conditions_of source.now.area) words.old.words }
+    ensures { Woken source.now.area source.now.indexed code words.old.words words.new.words }
 {
-    let k = 2 * a[1] as usize + 1;
-    let start = &users[..k];
-    let heads = &users[k..];
-    let t = code as usize;
-    let group = &heads[start[t] as usize..start[t + 1] as usize];
-    for &h in group {
-        words.insert(h);
+    if let Some(heads) = source.users_of(code) {
+        for &h in heads {
+            words.insert(h);
+        }
     }
 }
 
@@ -40,13 +38,11 @@ struct Figures {
 
 impl Figures {
     // The figures of a page at an end.
-    #[tactic(auto, using(page::proofs::Head::head_of))]
-    fn of(a: &[u16], end: End) -> Self
-        requires { solvable a.now ≡ true }
-        ensures { (result.end ≡ end) × FiguresOf a.now result }
+    fn of(page: &Page, end: End) -> Self
+        ensures { (result.end ≡ end) × FiguresOf page.now result }
     {
-        let n = a[1] as usize;
-        let add = value::rounding(a[0], end);
+        let n = page.conditions() as usize;
+        let add = value::rounding(page.top(), end);
         match end {
             End::Lower => Figures {
                 end,
@@ -64,19 +60,21 @@ impl Figures {
     }
 
     // If the line at `at` is an F or R line and its head is reached, the end of the head becomes the line's where the line's is higher; whether it rose.
-    fn raise(self, a: &[u16], at: usize, marks: &[bool], scratch: &mut [u16]) -> bool
-        requires { Half (side self.end) a.now marks.now scratch.old × FiguresOf a.now self × LineIn a.now at }
-        ensures { Raised (side self.end) a.now marks.now at scratch.old scratch.new result }
+    fn raise(self, page: &Page, at: usize, marks: &[bool], scratch: &mut [u16]) -> bool
+        requires { Half (side self.end) page.now marks.now scratch.old × FiguresOf page.now self × LineIn page.now at }
+        ensures raised { Raised (side self.end) page.now marks.now at scratch.old scratch.new result }
+        ensures sound { solvable page.now ≡ true }
     {
-        match a[at + 1] {
+        let line = page.entry(at);
+        match line.kind {
             0..=5 => {
-                let h = a[at] as usize;
+                let h = line.condition as usize;
                 if !marks[h] {
                     return false;
                 }
                 let to = self.base + 2 * self.n;
                 let values = &scratch[self.base..to];
-                let v = value::line_end(a, at, values, self.end, self.add);
+                let v = value::line_end(page, at, values, self.end, self.add);
                 let place = self.base + 2 * h;
                 if v <= scratch[place] {
                     return false;
@@ -89,69 +87,59 @@ impl Figures {
     }
 
     // Looks at the lines at the places and raises the ends of their heads; whether any rose.
-    fn look(self, a: &[u16], places: &[u16], marks: &[bool], scratch: &mut [u16]) -> bool
-        requires { Half (side self.end) a.now marks.now scratch.old × FiguresOf a.now self × Lookable a.now places.now }
-        ensures { Looked (side self.end) a.now marks.now (λ i. get_or places.now i 0) (length places.now) scratch.old scratch.new result }
+    fn look(self, page: &Page, places: &[u16], marks: &[bool], scratch: &mut [u16]) -> bool
+        requires { Half (side self.end) page.now marks.now scratch.old × FiguresOf page.now self × Lookable page.now places.now }
+        ensures { Looked (side self.end) page.now marks.now (λ i. get_or places.now i 0) (length places.now) scratch.old scratch.new result }
     {
         let mut rose = false;
         for &at in places {
-            rose |= self.raise(a, at as usize, marks, scratch);
+            rose |= self.raise(page, at as usize, marks, scratch);
         }
         rose
     }
 
     // The same with all lines, in page order.
     // Two loops: over any iterator the contract would have to say that it ends, that each place begins a line, and which places came.
-    fn sweep(self, a: &[u16], marks: &[bool], scratch: &mut [u16]) -> bool
-        requires { Half (side self.end) a.now marks.now scratch.old × FiguresOf a.now self }
-        ensures { Looked (side self.end) a.now marks.now (place_of a.now) (count_of a.now) scratch.old scratch.new result }
+    fn sweep(self, page: &Page, marks: &[bool], scratch: &mut [u16]) -> bool
+        requires { Half (side self.end) page.now marks.now scratch.old × FiguresOf page.now self }
+        ensures looked { Looked (side self.end) page.now marks.now (place_of page.now) (count_of page.now) scratch.old scratch.new result }
+        ensures sound { solvable page.now ≡ true }
     {
         let mut rose = false;
-        for at in page::Lines::of(a) {
-            rose |= self.raise(a, at, marks, scratch);
+        for at in page.lines() {
+            rose |= self.raise(page, at, marks, scratch);
         }
         rose
     }
 
     // Sweeps until one raises no end; whether any rose.
-    fn settle_sweeping(self, a: &[u16], marks: &[bool], scratch: &mut [u16]) -> bool
-        requires { Half (side self.end) a.now marks.now scratch.old × FiguresOf a.now self }
-        ensures { Settled (side self.end) a.now marks.now scratch.old scratch.new result }
+    fn settle_sweeping(self, page: &Page, marks: &[bool], scratch: &mut [u16]) -> bool
+        requires { Half (side self.end) page.now marks.now scratch.old × FiguresOf page.now self }
+        ensures { Settled (side self.end) page.now marks.now scratch.old scratch.new result }
     {
         let mut changed = false;
         // a `while`: how many sweeps there are only the last one tells
-        while self.sweep(a, marks, scratch) {
+        while self.sweep(page, marks, scratch) {
             changed = true;
         }
         changed
     }
 
     // Takes out one that waits after the other and looks at its lines; if it rose, whoever names it plainly waits. Whether any rose.
-    fn drain(
-        self,
-        a: &[u16],
-        lines: &[u16],
-        users: &[u16],
-        marks: &[bool],
-        scratch: &mut [u16],
-        words: &mut Set,
-    ) -> bool
-        requires { Half (side self.end) a.now marks.now scratch.old × FiguresOf a.now self × Lines a.now lines.now × Users a.now users.now × Waiting (side self.end) a.now marks.now scratch.old words.old.words }
-        ensures { Settled (side self.end) a.now marks.now scratch.old scratch.new result × WaitSet (conditions_of a.now) words.new.words }
+    fn drain(self, source: &Source, marks: &[bool], scratch: &mut [u16], words: &mut Set) -> bool
+        requires { Half (side self.end) source.now.area marks.now scratch.old × FiguresOf source.now.area self × (source.now.indexed ≡ true) × Waiting (side self.end) source.now.area marks.now scratch.old words.old.words }
+        ensures { Settled (side self.end) source.now.area marks.now scratch.old scratch.new result × WaitSet (conditions_of source.now.area) words.new.words }
     {
-        let k = self.n + 1;
-        let first = &lines[..k];
-        let places = &lines[k..];
+        source.recall();
         let mut changed = false;
         let mut last = 0;
         // a `while`: the set grows while it is gone through
         while let Some(c) = words.any_from(last) {
             words.remove(c);
-            let t = c as usize;
-            let group = &places[first[t] as usize..first[t + 1] as usize];
-            if self.look(a, group, marks, scratch) {
+            let places = source.lines_of(c).unwrap();
+            if self.look(source.page, places, marks, scratch) {
                 changed = true;
-                wake(a, users, words, 2 * c);
+                wake(source, words, 2 * c);
             }
             last = c;
         }
@@ -161,20 +149,18 @@ impl Figures {
 
 // Settles the ends over an index, or by sweeps; whether any rose.
 pub fn settle(
-    a: &[u16],
-    lines: &[u16],
-    users: &[u16],
+    source: &Source,
     marks: &[bool],
     scratch: &mut [u16],
     words: &mut Set,
     end: End,
 ) -> bool
-    requires { Half (side end) a.now marks.now scratch.old × MaybeIndexed (side end) a.now marks.now lines.now users.now scratch.old words.old.words × WaitSet (conditions_of a.now) words.old.words }
-    ensures { Settled (side end) a.now marks.now scratch.old scratch.new result × WaitSet (conditions_of a.now) words.new.words }
+    requires { Half (side end) source.now.area marks.now scratch.old × MaybeWaiting (side end) source.now.area marks.now source.now.indexed scratch.old words.old.words × WaitSet (conditions_of source.now.area) words.old.words }
+    ensures { Settled (side end) source.now.area marks.now scratch.old scratch.new result × WaitSet (conditions_of source.now.area) words.new.words }
 {
-    let figures = Figures::of(a, end);
-    if users.is_empty() {
-        return figures.settle_sweeping(a, marks, scratch);
+    let figures = Figures::of(source.page, end);
+    if source.is_indexed() {
+        return figures.drain(source, marks, scratch, words);
     }
-    figures.drain(a, lines, users, marks, scratch, words)
+    figures.settle_sweeping(source.page, marks, scratch)
 }

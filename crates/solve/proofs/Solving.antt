@@ -34,7 +34,7 @@ use Rattle.reach.proofs.Writing.{accepted_run}
 use Rattle.rounds.specs.Round.{closed_at}
 use Rattle.closed.specs.Solving.{ends_at, SolveReady, Solved}
 use Rattle.fixpoint.proofs.KnowledgeOrder.{pair_eq}
-use Rattle.closed.proofs.Answering.{Answering, answering_first, answering_next, answering_last}
+use Rattle.closed.proofs.Answering.{Answering, answering_next}
 use Rattle.run.specs.Answers.{Answered}
 use Rattle.run.specs.Steps.{drive_left}
 use Rattle.solve.proofs.Queries.{asked_under}
@@ -114,9 +114,6 @@ pub one_under : (n : ℕ) (qs : List ℕ) → all_under n qs ≡ true → (i : �
 unfolding all_under
 one_under n qs u i l = rw (one_query qs i l, lt-ltb (get_or qs i 0) n (under_at n qs u i l))
 
-pub apart_first : (page : Page) (qs answers : List ℕ) → 2 * length qs ≤ length answers → Apart page qs answers answers 0
-apart_first page qs answers h = record { same_length = refl; answered = λ P p. answering_first P qs answers h }
-
 pub apart_next : (page : Page) (qs answers₀ : List ℕ) {answers : List ℕ} {i : ℕ} → Apart page qs answers₀ answers i → i < length qs → (two two' : List ℕ)
     → PlainSolved page (take (i + 1 - i) (drop i qs)) two two' → Apart page qs answers₀ (set (set answers (2 * i) (get_or two' 0 0)) (2 * i + 1) (get_or two' 1 0)) (i + 1)
 apart_next page qs answers₀ {answers} {i} s l two two' h =
@@ -129,9 +126,6 @@ apart_next page qs answers₀ {answers} {i} s l two two' h =
           answering_next P qs answers₀ (s.answered P p) l (ap₂ (λ (x y : ℕ). set (set answers (2 * i) x) (2 * i + 1) y) (ap (λ (t : List ℕ). get_or t 0 0) e) (ap (λ (t : List ℕ). get_or t 1 0) e));
     }
 
-pub apart_last : (page : Page) (qs answers₀ : List ℕ) {answers : List ℕ} {i : ℕ} → Apart page qs answers₀ answers i → length qs ≤ i → PlainSolved page qs answers₀ answers
-apart_last page qs answers₀ s l P p = answering_last P qs answers₀ (s.answered P p) l
-
 -- the closed answers, whatever closed reading is meant
 pub closed_solved : (a : List ℕ) → solvable a ≡ true → {qs s answers s' answers' : List ℕ} {counting : Bool} {k : ℕ} → all_under (conditions_of a) qs ≡ true → Solved a qs s answers s' answers' counting k
     → (C : Assign) → IsClosed (page_of a) C → answers' ≡ ends C qs ++ drop (2 * length qs) answers
@@ -142,17 +136,17 @@ closed_solved a ok {qs} {answers = answers} under v C i =
     (ends_listed (closed_at a) C qs (λ c l. closed_one (page_of a) w (closed_is (page_of a) w) i c (rw (conditions_is a) (under_listed (conditions_of a) qs under c l))))
 
 -- the queries of a page, noted and solved
-module _ (a : List ℕ) (ok : solvable a ≡ true) {queries : List ℕ} {k : ℕ} (q : NotedAll a queries k) where
+module _ (a : List ℕ) {queries : List ℕ} {k : ℕ} (q : NotedAll a queries k) where
   -- as many as are noted, each below C
   pub noted_length : length (take k queries) ≡ k
   noted_length = length-take-le k queries (omega (arith, q.size, q.within))
 
-  pub noted_under : all_under (conditions_of a) (take k queries) ≡ true
+  pub noted_under : solvable a ≡ true → all_under (conditions_of a) (take k queries) ≡ true
   unfolding page_of
-  noted_under = rw q.front (asked_under (top_of a) (conditions_of a) (page_of a).lines (solvable_proper a ok).ranged)
+  noted_under ok = rw q.front (asked_under (top_of a) (conditions_of a) (page_of a).lines (solvable_proper a ok).ranged)
 
-  pub ready : (s w : List ℕ) → 4 * conditions_of a ≤ length s → 3072 ≤ length w → SolveReady a (take k queries) s w
-  ready s w l m = record { page_solvable = ok; under = noted_under; long = l; room = omega (arith, noted_length, q.within) }
+  pub ready : solvable a ≡ true → (s w : List ℕ) → 4 * conditions_of a ≤ length s → 3072 ≤ length w → SolveReady a (take k queries) s w
+  ready ok s w l m = record { under = noted_under ok; long = l; room = omega (arith, noted_length, q.within) }
 
   module _ (plain₀ plain closed₀ closed : List ℕ) (p : PlainSolved (page_of a) (take k queries) plain₀ plain)
       (c : (C : Assign) → IsClosed (page_of a) C → closed ≡ ends C (take k queries) ++ drop (2 * length (take k queries)) closed₀) (l : length plain ≡ 3072) (j : length closed ≡ 3072) where

@@ -1,52 +1,57 @@
 // Both readings of a page for all of its Q lines at once: one plain and one closed solving, however many Q lines there are.
 #![tactic(auto)]
 
-ghost use Rattle.std.specs.Prelude.{◌≡◌, true, ◌++◌, ℕ, ◌+◌, ◌*◌, ◌-◌, ◌≤◌, ◌<◌, length, get_or, drop};
-ghost use Rattle.semantics.specs.Area.{page_of, top_of, conditions_of, used_of, all_under, every, line_tests};
+ghost use Rattle.std.specs.Prelude.{◌≡◌, true, ◌*◌, ◌≤◌, ◌<◌, length};
+ghost use Rattle.semantics.specs.Area.{page_of, conditions_of, all_under};
+ghost use Rattle.page.specs.Places.{LineIn};
 ghost use Rattle.page.specs.Solvable.{solvable};
 ghost use Rattle.solve.specs.Figures.{Noted, NotedAll, PlainSolved, Figures};
 
-// If the line at a place is a Q line, puts its condition behind k others; how many there are then.
-fn note_query(page: &[u16], line: usize, queries: &mut [u16], k: usize) -> usize
-    requires { (line + 4 ≤ length page.now) × (every (line_tests (top_of page.now) (conditions_of page.now) (used_of page.now - line) (drop line page.now)) ≡ true) × (k < length queries.old) }
-    ensures { Noted page.now line queries.old k queries.new result }
+use page::Page;
+
+// If the line at `at` is a Q line, puts its condition behind k others; how many there are then.
+fn note_query(page: &Page, at: usize, queries: &mut [u16], k: usize) -> usize
+    requires { LineIn page.now at × (k < length queries.old) }
+    ensures { Noted page.now at queries.old k queries.new result }
 {
-    if page[line + 1] != 6 {
+    let line = page.entry(at);
+    if line.kind != 6 {
         return k;
     }
-    queries[k] = page[line];
+    queries[k] = line.condition;
     k + 1
 }
 
 // The conditions of the Q lines, in page order; how many there are.
-fn note_queries(page: &[u16], queries: &mut [u16]) -> usize
-    requires { (solvable page.now ≡ true) × (length queries.old ≡ 1536) }
-    ensures { NotedAll page.now queries.new result }
+fn note_queries(page: &Page, queries: &mut [u16]) -> usize
+    requires { length queries.old ≡ 1536 }
+    ensures noted { NotedAll page.now queries.new result }
+    ensures sound { solvable page.now ≡ true }
 {
     let mut k = 0;
-    for line in page::Lines::of(page) {
-        k = note_query(page, line, queries, k);
+    for at in page.lines() {
+        k = note_query(page, at, queries, k);
     }
     k
 }
 
 // The plain answers: a run of the queries, driven by an index with more evaluations than any run takes.
-fn solve_plain(page: &[u16], queries: &[u16], workspace: &mut [u16], answers: &mut [u16])
-    requires { (solvable page.now ≡ true) × (all_under (conditions_of page.now) queries.now ≡ true) × (length workspace.old ≡ 15362) × (2 * length queries.now ≤ length answers.old) }
+fn solve_plain(page: &Page, queries: &[u16], workspace: &mut [u16], answers: &mut [u16])
+    requires { (all_under (conditions_of page.now) queries.now ≡ true) × (length workspace.old ≡ 15362) × (2 * length queries.now ≤ length answers.old) }
     ensures { PlainSolved (page_of page.now) queries.now answers.old answers.new }
 {
     let mut marks = [false; 512];
     reach::mark_closure(page, queries, &mut marks);
     let mut run = [0u16; 1536];
-    reach::write_run(&mut run, page[1], page[0], &marks);
+    reach::write_run(&mut run, page.conditions(), page.top(), &marks);
     let m = index::index_length(page);
     run::drive_built(page, &mut run, &mut workspace[..m], u32::MAX);
     closed::write_ends(&run, 3, 1, queries, answers);
 }
 
 // The same, where each query has a run of its own.
-fn solve_apart(page: &[u16], queries: &[u16], workspace: &mut [u16], answers: &mut [u16])
-    requires { (solvable page.now ≡ true) × (all_under (conditions_of page.now) queries.now ≡ true) × (length workspace.old ≡ 15362) × (2 * length queries.now ≤ length answers.old) }
+fn solve_apart(page: &Page, queries: &[u16], workspace: &mut [u16], answers: &mut [u16])
+    requires { (all_under (conditions_of page.now) queries.now ≡ true) × (length workspace.old ≡ 15362) × (2 * length queries.now ≤ length answers.old) }
     ensures { PlainSolved (page_of page.now) queries.now answers.old answers.new }
 {
     for i in 0..queries.len() {
@@ -59,14 +64,8 @@ fn solve_apart(page: &[u16], queries: &[u16], workspace: &mut [u16], answers: &m
 
 // The plain answers, by a run for each query or by one run. `apart` stays a switch: it is the program's choice alone, and a closure would repeat
 // the contract.
-fn solve_runs(
-    page: &[u16],
-    queries: &[u16],
-    workspace: &mut [u16],
-    answers: &mut [u16],
-    apart: bool,
-)
-    requires { (solvable page.now ≡ true) × (all_under (conditions_of page.now) queries.now ≡ true) × (length workspace.old ≡ 15362) × (2 * length queries.now ≤ length answers.old) }
+fn solve_runs(page: &Page, queries: &[u16], workspace: &mut [u16], answers: &mut [u16], apart: bool)
+    requires { (all_under (conditions_of page.now) queries.now ≡ true) × (length workspace.old ≡ 15362) × (2 * length queries.now ≤ length answers.old) }
     ensures { PlainSolved (page_of page.now) queries.now answers.old answers.new }
 {
     if apart {
@@ -78,8 +77,8 @@ fn solve_runs(
 
 // The figures of a page: low and high of the condition of each Q line, in page order, in the plain and in the closed reading. The plain ones come
 // from one run of all Q lines, or from a run for each.
-pub fn solve(page: &[u16], plain: &mut [u16], closed: &mut [u16], apart: bool)
-    requires { (solvable page.now ≡ true) × (length plain.old ≡ 3072) × (length closed.old ≡ 3072) }
+pub fn solve(page: &Page, plain: &mut [u16], closed: &mut [u16], apart: bool)
+    requires { (length plain.old ≡ 3072) × (length closed.old ≡ 3072) }
     ensures { Figures (page_of page.now) plain.new closed.new }
 {
     let mut queries = [0u16; 1536];

@@ -6,7 +6,7 @@ use mathlib.Core.List.{List}
 use Prim.Native.Nat.{ℕ, suc, ◌+◌, ◌*◌, ◌-◌, ◌≤◌, ◌<◌}
 use native.Mathlib.Decide.{ℕ_discrete}
 use native.Mathlib.Omega.{arith}
-use lib.ListN.{length, get_or, take, length-take}
+use lib.ListN.{get_or, take, length-take}
 use lib.Seq.{get_or-take}
 use Rattle.fixpoint.specs.KnowledgeOrder.{Alike}
 use Rattle.fixpoint.proofs.Cond.{by_bool, cond_true, cond_false}
@@ -19,7 +19,6 @@ use Rattle.semantics.proofs.Table.{any_true}
 use Rattle.page.proofs.Head.{head_of}
 use Rattle.bits.specs.Sets.{Nobody}
 use Rattle.bits.specs.Words.{has}
-use Rattle.index.specs.Parts.{MaybeUsers}
 use Rattle.value.specs.Table.{EndTable}
 use Rattle.value.proofs.Tables.{table_of_lem, grades_of}
 use Rattle.settle.specs.Ends.{reads}
@@ -51,12 +50,9 @@ pub free_told : (a : List ℕ) (m : List Bool) {free : Bool} → free ≡ any_be
 free_told a m h z c l r =
     by_bool (free_at a c) (λ e. absurd (true≢false (sym (any_true (conditions_of a) (sought a m) c l (both (member m c) (free_at a c) r e)) ∙ sym h ∙ z))) (λ e. e)
 
-module _ {a : List ℕ} {m : List Bool} {users tops : List ℕ} {k : ℕ} {s lows : List ℕ} (b : AtSupport a m users tops k s lows) where
+module _ {a : List ℕ} {m : List Bool} {indexed : Bool} {tops : List ℕ} {k : ℕ} {s lows : List ℕ} (ok : solvable a ≡ true) (b : AtSupport a m indexed tops k s lows) where
   abbrev n : ℕ
   n = conditions_of a
-
-  ok : solvable a ≡ true
-  ok = b.tables.page_solvable
 
   few : n ≤ 512
   few = (head_of a ok).few
@@ -76,7 +72,6 @@ module _ {a : List ℕ} {m : List Bool} {users tops : List ℕ} {k : ℕ} {s low
   pub advance_notable : {moved : List ℕ} → ((c : ℕ) → has moved c ≡ false) → Notable a m s moved
   advance_notable z =
       record {
-        page_solvable = ok;
         long = b.tables.long;
         marked = b.tables.marked;
         grades = grades_of lower (top_of a) n (held n s) (take (2 * n) s) (simp length-take (omega (arith, b.tables.long))) (λ c l. (b.tables.within c l).low_in) low_table;
@@ -84,7 +79,7 @@ module _ {a : List ℕ} {m : List Bool} {users tops : List ℕ} {k : ℕ} {s low
       }
 
   pub advance_places : Places a m tops
-  advance_places = record { page_solvable = ok; marked = b.tables.marked; long = b.tops_in.known }
+  advance_places = record { marked = b.tables.marked; long = b.tops_in.known }
 
   pub advance_table : HighTable a s
   advance_table = record { long = b.tables.long; within = b.tables.within; negated = b.tables.over_low }
@@ -104,7 +99,7 @@ module _ {a : List ℕ} {m : List Bool} {users tops : List ℕ} {k : ℕ} {s low
   past_same c l =
       (S a ok).local (seen a s) (past a s) c l (λ d i f. pair_eq (seen_low d i) (ap (λ (x : ℕ). top_of a - x) (seen_at (2 * d + 1) (omega arith))))
 
-  pub advance_rests : (length users ≡ 0 → ⊥) → LowsRest a m s lows
+  pub advance_rests : indexed ≡ true → LowsRest a m s lows
   advance_rests d c l r q = omega (arith, ahead_low c l, low_eq (past_same c l), b.lows_wait.rests d c l r q)
 
   -- T of what is held is the next assignment
@@ -154,7 +149,7 @@ module _ {a : List ℕ} {m : List Bool} {users tops : List ℕ} {k : ℕ} {s low
           (λ y. omega (arith, y.below, v.rests c l r, next_low c l r)) (v.noting.each c l)
 
       -- the next high ends are taken over
-      module _ {s₂ lows₂ look look₁ : List ℕ} {fell : Bool} (h : HighsTaken a users m tops' s₁ s₂ lows₂ look look₁ fell) where
+      module _ {s₂ lows₂ look look₁ : List ℕ} {fell : Bool} (h : HighsTaken a indexed m tops' s₁ s₂ lows₂ look look₁ fell) where
         low₂ : (c : ℕ) → c < n → get_or s₂ (2 * c) 0 ≡ get_or s (2 * c) 0
         low₂ c l = h.lows c l ∙ table₁ (2 * c) (omega arith)
 
@@ -179,7 +174,7 @@ module _ {a : List ℕ} {m : List Bool} {users tops : List ℕ} {k : ℕ} {s low
         unfallen₂ c l r e q = sym (free_high c l r e) ∙ sym (v.noting.highs c l) ∙ sym q ∙ high₂ c l r
 
         -- the floor did not move
-        pub advanced_still : {look' lows' : List ℕ} → fell ≡ false → Nobody moved → Advanced a m users tops tops' k s s₂ look' lows' false
+        pub advanced_still : {look' lows' : List ℕ} → fell ≡ false → Nobody moved → Advanced a m indexed tops tops' k s s₂ look' lows' false
         advanced_still f y =
             record {
               same_length = h.same_length ∙ v.noting.same_length;
@@ -196,24 +191,21 @@ module _ {a : List ℕ} {m : List Bool} {users tops : List ℕ} {k : ℕ} {s low
         pub advance_comparable : Comparable a s₂
         advance_comparable =
             record {
-              page_solvable = ok;
               long = omega (arith, b.tables.long, v.noting.same_length, h.same_length);
               within = λ c l. omega (arith, low₂ c l, (b.tables.within c l).low_in);
             }
 
         abbrev Again : List ℕ → Type 0
-        Again look₂ = ((length users ≡ 0 → ⊥) × (look₂ ≡ look₁)) ⊎ LookedAgain a m s₂ look₁ look₂ fell
+        Again look₂ = ((indexed ≡ true) × (look₂ ≡ look₁)) ⊎ LookedAgain a m s₂ look₁ look₂ fell
 
         pub again_in : (look₂ : List ℕ) → Again look₂ → WaitSet n look₂
         again_in look₂ (inl d) = subst (WaitSet n) (sym d.1) h.look_in
         again_in look₂ (inr (inl q)) = q.set
         again_in look₂ (inr (inr q)) = subst (WaitSet n) (sym q.0) h.look_in
 
-        pub take_ready : {look₂ : List ℕ} → MaybeUsers a users → WaitSet n look₂ → TakeReady a users s₂ moved lows₂ look₂
-        take_ready u x =
+        pub take_ready : {look₂ : List ℕ} → WaitSet n look₂ → TakeReady a s₂ moved lows₂ look₂
+        take_ready x =
             record {
-              page_solvable = ok;
-              users_in = u;
               long = advance_comparable.long;
               within = λ c l. omega (arith, h.negations c l, grade₁ c l);
               moved_in = v.noting.set_in;
@@ -223,7 +215,7 @@ module _ {a : List ℕ} {m : List Bool} {users tops : List ℕ} {k : ℕ} {s low
             }
 
         -- the next low ends are taken over
-        module _ {s₃ look₂ look' lows' : List ℕ} (t : AllTaken a users s₂ s₃ lows₂ lows' look₂ look') where
+        module _ {s₃ look₂ look' lows' : List ℕ} (t : AllTaken a indexed s₂ s₃ lows₂ lows' look₂ look') where
           lows₃ : (c : ℕ) → c < n → get_or s₃ (2 * c) 0 ≡ ahead a s₁ c
           lows₃ c l = t.next c l ∙ ahead₂ c l
 
@@ -233,7 +225,6 @@ module _ {a : List ℕ} {m : List Bool} {users tops : List ℕ} {k : ℕ} {s low
           tables₃ : Tables a m s₃
           tables₃ =
               record {
-                page_solvable = ok;
                 long = omega (arith, advance_comparable.long, t.same_length);
                 marked = b.tables.marked;
                 shut = b.tables.shut;
@@ -283,28 +274,28 @@ module _ {a : List ℕ} {m : List Bool} {users tops : List ℕ} {k : ℕ} {s low
           spread : Again look₂ → MarkedWait n m look' ⊎ Older a m (suc k) look'
           spread (inl d) =
               inr (elim t.look_woken [
-                | inl e ↦ absurd (d.0 e)
+                | inl e ↦ absurd (true≢false (sym d.0 ∙ e))
                 | inr f ↦ elim h.look_woken [
-                  | inl e ↦ absurd (d.0 e)
+                  | inl e ↦ absurd (true≢false (sym d.0 ∙ e))
                   | inr g ↦ older_woken f g d.1
                 ]
               ])
           spread (inr (inl q)) = inl (record { set = t.look_in; waits = λ c l r. t.look_kept c (omega (arith, few)) (q.waits c l r) })
           spread (inr (inr q)) = inr (older_fresh q.1 q.2)
 
-          whole : Nobody look → Again look₂ → length users ≡ 0 → MarkedWait n m look' ⊎ Nobody look'
-          whole o (inl d) z = absurd (d.0 z)
+          whole : Nobody look → Again look₂ → indexed ≡ false → MarkedWait n m look' ⊎ Nobody look'
+          whole o (inl d) z = absurd (true≢false (sym d.0 ∙ z))
           whole o (inr (inl q)) z = inl (subst (MarkedWait n m) (sym (t.look_same z)) q)
           whole o (inr (inr q)) z = inr (subst Nobody (sym (t.look_same z ∙ q.0 ∙ h.look_same z)) o)
 
-          negation₃ : (length users ≡ 0 → ⊥) → (c e : ℕ) → c < n → e < n → has lows' c ≡ false → reads (page_of a) true c e ≡ true → get_or s₃ (2 * e + 1) 0 ≡ get_or s (2 * e + 1) 0
+          negation₃ : indexed ≡ true → (c e : ℕ) → c < n → e < n → has lows' c ≡ false → reads (page_of a) true c e ≡ true → get_or s₃ (2 * e + 1) 0 ≡ get_or s (2 * e + 1) 0
           negation₃ d c e l i q f =
               elim (ℕ_discrete (get_or s₂ (2 * n + 2 * e) 0) (get_or s₁ (2 * n + 2 * e) 0)) [
                 | yes z ↦ t.negations e ∙ h.over_high e i ∙ ap (λ (x : ℕ). top_of a - x) (z ∙ v.noting.highs e i) ∙ sym (b.tables.over_high e i)
-                | no z ↦ absurd (⊎_elim d (λ g. true≢false (sym (t.lows_kept c (omega (arith, few)) (g e i z c f)) ∙ q)) h.lows_woken)
+                | no z ↦ absurd (⊎_elim (λ o. true≢false (sym d ∙ o)) (λ g. true≢false (sym (t.lows_kept c (omega (arith, few)) (g e i z c f)) ∙ q)) h.lows_woken)
               ]
 
-          rests₃ : (length users ≡ 0 → ⊥) → (c : ℕ) → c < n → member m c ≡ true → has lows' c ≡ false → (T (page_of a) (past a s₃) c).low ≤ get_or s₃ (2 * c) 0
+          rests₃ : indexed ≡ true → (c : ℕ) → c < n → member m c ≡ true → has lows' c ≡ false → (T (page_of a) (past a s₃) c).low ≤ get_or s₃ (2 * c) 0
           unfolding page_of
           rests₃ d c l r q =
               omega (
@@ -314,7 +305,7 @@ module _ {a : List ℕ} {m : List Bool} {users tops : List ℕ} {k : ℕ} {s low
                 (E a ok).local_end lower (past a s₃) (seen a s) c l
                     (λ e i f. elim (ℕ_discrete (get_or s₂ (2 * e) 0) (ahead a s₂ e)) [
                       | yes z ↦ t.next e i ∙ sym z ∙ low₂ e i ∙ sym (seen_low e i)
-                      | no z ↦ absurd (⊎_elim d (λ g. true≢false (sym (g e i z c f) ∙ q)) t.lows_woken)
+                      | no z ↦ absurd (⊎_elim (λ o. true≢false (sym d ∙ o)) (λ g. true≢false (sym (g e i z c f) ∙ q)) t.lows_woken)
                     ])
                     (λ e i f. ap (λ (x : ℕ). top_of a - x) (negation₃ d c e l i q f ∙ sym (seen_at (2 * e + 1) (omega arith)))),
               )
@@ -338,7 +329,7 @@ module _ {a : List ℕ} {m : List Bool} {users tops : List ℕ} {k : ℕ} {s low
                   ⊎_elim (λ x. true≢false (sym y ∙ x.1 ∙ none₀ c))
                   (λ x. absurd (omega (arith, x.less, ahead_low c real, b.tables.over_low c real, ahead₁ c real x.reached, floors c real x.reached, low_eq (q c real x.reached)))) (v.noting.each c real)
 
-          pub advanced : (fell ≡ true) ⊎ (Nobody moved → ⊥) → Nobody look → Again look₂ → Advanced a m users tops tops' k s s₃ look' lows' true
+          pub advanced : (fell ≡ true) ⊎ (Nobody moved → ⊥) → Nobody look → Again look₂ → Advanced a m indexed tops tops' k s s₃ look' lows' true
           advanced o drained again =
               record {
                 same_length = t.same_length ∙ h.same_length ∙ v.noting.same_length;

@@ -7,11 +7,12 @@ use Prim.Native.Nat.{ℕ, ◌+◌, ◌*◌, ◌-◌, ◌≤◌, ◌<◌}
 use native.Mathlib.Omega.{arith}
 use lib.ListN.{length, get_or, set, drop, length-set}
 use lib.Seq.{get_or-set_same, get_or-set_other, drop-set-lt}
-use Rattle.fixpoint.proofs.Cond.{cond_true, cond_false}
+use Rattle.fixpoint.proofs.Cond.{cond_true, cond_false, cond_most}
 use Rattle.semantics.specs.Area.{top_of, conditions_of}
 use Rattle.semantics.specs.Table.{member}
 use Rattle.rounds.proofs.Starting.{upto}
-use Rattle.stages.specs.Steps.{first_high, BegunAt, first_top}
+use Rattle.stages.specs.Steps.{free_at, first_high, BegunAt, first_top}
+use Rattle.page.proofs.Head.{head_of}
 use Rattle.page.specs.Solvable.{solvable}
 
 -- the high ends of the conditions before c
@@ -25,13 +26,16 @@ module _ (a : List ℕ) (m : List Bool) (s : List ℕ) where
     pub same_length : length tops ≡ length tops₀
     pub copied : (d : ℕ) → d < c → member m d ≡ true → get_or tops d 0 ≡ first_top a s d
 
+-- what is copied is a grade
+pub first_small : (a s : List ℕ) (c : ℕ) → solvable a ≡ true → get_or s (2 * conditions_of a + 2 * c) 0 ≤ 200 → first_top a s c ≤ 200
+first_small a s c ok h = cond_most (free_at a c) (λ e. (head_of a ok).top_most) (λ e. h)
+
 -- the four numbers of the conditions before c
 module _ (a : List ℕ) (m : List Bool) (s₀ : List ℕ) where
   abbrev size : ℕ
   size = conditions_of a
 
   pub record Beginning (s : List ℕ) (c : ℕ) : Type 0 where
-    pub page_solvable : solvable a ≡ true
     pub long : 4 * size ≤ length s
     pub marked : size ≤ length m
     pub within : c ≤ size
@@ -93,7 +97,6 @@ module _ (a : List ℕ) (m : List Bool) (s₀ : List ℕ) where
     pub beginning_next : Beginning s₄ (c + 1)
     beginning_next =
         record {
-          page_solvable = v.page_solvable;
           long = omega (arith, v.long, long₄);
           marked = v.marked;
           within = omega arith;

@@ -11,6 +11,7 @@ use lib.Seq.{get_or-set_same, get_or-set_other, drop-set-lt}
 use Rattle.fixpoint.proofs.Cond.{by_bool}
 use Rattle.semantics.specs.Area.{page_of, top_of, conditions_of}
 use Rattle.semantics.specs.Table.{member}
+use Rattle.page.specs.Solvable.{solvable}
 use Rattle.page.proofs.Head.{head_of}
 use Rattle.bits.specs.Words.{has}
 use Rattle.index.specs.Readers.{lines_read}
@@ -22,8 +23,9 @@ use Rattle.stages.specs.Steps.{free_at, FellTop, LowerReady, FallsAt, StaysAt, L
 use Rattle.stages.proofs.Assignments.{low_eq, high_eq}
 
 -- the conditions before c are done
-pub record Freeing (a users : List ℕ) (m : List Bool) (tops s₀ s look₀ look lowered : List ℕ) (fell : Bool) (c : ℕ) : Type 0 where
-  pub ready : LowerReady a users m tops s look lowered
+pub record Freeing (a : List ℕ) (indexed : Bool) (m : List Bool) (tops s₀ s look₀ look lowered : List ℕ) (fell : Bool) (c : ℕ) : Type 0 where
+  pub sound : solvable a ≡ true
+  pub ready : LowerReady a m tops s look lowered
   pub within : c ≤ conditions_of a
   pub same_length : length s ≡ length s₀
   pub table : (i : ℕ) → i < 2 * conditions_of a → get_or s i 0 ≡ get_or s₀ i 0
@@ -31,23 +33,24 @@ pub record Freeing (a users : List ℕ) (m : List Bool) (tops s₀ s look₀ loo
   pub beyond : drop (4 * conditions_of a) s ≡ drop (4 * conditions_of a) s₀
   pub each : (d : ℕ) → d < conditions_of a → StaysAt a s₀ s lowered d ⊎ (FallsAt a m tops s₀ s lowered d × (free_at a d ≡ true))
   pub stands : (d : ℕ) → d < c → member m d ≡ true → free_at a d ≡ true → get_or s (2 * conditions_of a + 2 * d) 0 ≤ get_or tops d 0
-  pub woken : (length users ≡ 0) ⊎ ((d : ℕ) → d < conditions_of a → has lowered d ≡ true → (h : ℕ) → lines_read (2 * d) (page_of a).lines h ≡ true → has look h ≡ true)
-  pub look_same : length users ≡ 0 → look ≡ look₀
+  pub woken : (indexed ≡ false) ⊎ ((d : ℕ) → d < conditions_of a → has lowered d ≡ true → (h : ℕ) → lines_read (2 * d) (page_of a).lines h ≡ true → has look h ≡ true)
+  pub look_same : indexed ≡ false → look ≡ look₀
   pub none : fell ≡ false → (d : ℕ) → d < conditions_of a → has lowered d ≡ false
   pub one : fell ≡ true → (d : ℕ) × (d < conditions_of a) × (has lowered d ≡ true)
 
-module _ {a users : List ℕ} {m : List Bool} {tops s₀ s look₀ look lowered : List ℕ} {fell : Bool} {c : ℕ} (v : Freeing a users m tops s₀ s look₀ look lowered fell c) where
+module _ {a : List ℕ} {indexed : Bool} {m : List Bool} {tops s₀ s look₀ look lowered : List ℕ} {fell : Bool} {c : ℕ} (v : Freeing a indexed m tops s₀ s look₀ look lowered fell c) where
   abbrev n : ℕ
   n = conditions_of a
 
   few : n ≤ 512
-  few = (head_of a v.ready.page_solvable).few
+  few = (head_of a v.sound).few
 
   module _ (l : c < n) where
     -- nothing is done
-    stay : (member m c ≡ true → free_at a c ≡ true → get_or s (2 * n + 2 * c) 0 ≤ get_or tops c 0) → Freeing a users m tops s₀ s look₀ look lowered fell (c + 1)
+    stay : (member m c ≡ true → free_at a c ≡ true → get_or s (2 * n + 2 * c) 0 ≤ get_or tops c 0) → Freeing a indexed m tops s₀ s look₀ look lowered fell (c + 1)
     stay g =
         record {
+          sound = v.sound;
           ready = v.ready;
           within = omega arith;
           same_length = v.same_length;
@@ -64,11 +67,11 @@ module _ {a users : List ℕ} {m : List Bool} {tops s₀ s look₀ look lowered 
 
     module _ {s' look' lowered' : List ℕ} where
       passed : s' ≡ s → look' ≡ look → lowered' ≡ lowered → (member m c ≡ true → free_at a c ≡ true → get_or s (2 * n + 2 * c) 0 ≤ get_or tops c 0)
-          → Freeing a users m tops s₀ s' look₀ look' lowered' fell (c + 1)
+          → Freeing a indexed m tops s₀ s' look₀ look' lowered' fell (c + 1)
       passed e f h g = rw (e, f, h) (stay g)
 
       -- the high end of c falls
-      module _ {t : Bool} (o : free_at a c ≡ true) (k : FellTop a users m tops c s s' look look' lowered lowered' t) where
+      module _ {t : Bool} (o : free_at a c ≡ true) (k : FellTop a indexed m tops c s s' look look' lowered lowered' t) where
         else' : (j : ℕ) → j ≢ 2 * n + 2 * c → get_or s' j 0 ≡ get_or s j 0
         else' j z = ap (λ (w : List ℕ). get_or w j 0) k.stored ∙ get_or-set_other s (2 * n + 2 * c) j (get_or tops c 0) 0 z
 
@@ -95,7 +98,7 @@ module _ {a users : List ℕ} {m : List Bool} {tops s₀ s look₀ look lowered 
                   (v.each d i)
             ]
 
-        woken' : (length users ≡ 0) ⊎ ((d : ℕ) → d < n → has lowered' d ≡ true → (h : ℕ) → lines_read (2 * d) (page_of a).lines h ≡ true → has look' h ≡ true)
+        woken' : (indexed ≡ false) ⊎ ((d : ℕ) → d < n → has lowered' d ≡ true → (h : ℕ) → lines_read (2 * d) (page_of a).lines h ≡ true → has look' h ≡ true)
         woken' =
             elim v.woken [
               | inl z ↦ inl z
@@ -103,17 +106,16 @@ module _ {a users : List ℕ} {m : List Bool} {tops s₀ s look₀ look lowered 
                 | inl z ↦ inl z
                 | inr g ↦ inr (λ d i q h e. elim (ℕ_discrete d c) [
                   | yes z ↦ g h (subst (λ (j : ℕ). lines_read (2 * j) (page_of a).lines h ≡ true) z e)
-                  | no z ↦ k.kept h (omega (arith, few, reads_below a v.ready.page_solvable (2 * d) h e)) (f d i (sym (was d i z) ∙ q) h e)
+                  | no z ↦ k.kept h (omega (arith, few, reads_below a v.sound (2 * d) h e)) (f d i (sym (was d i z) ∙ q) h e)
                 ])
               ]
             ]
 
-        falls : {fell' : Bool} → fell' ≡ true → Freeing a users m tops s₀ s' look₀ look' lowered' fell' (c + 1)
+        falls : {fell' : Bool} → fell' ≡ true → Freeing a indexed m tops s₀ s' look₀ look' lowered' fell' (c + 1)
         falls e =
             record {
+              sound = v.sound;
               ready = record {
-                page_solvable = v.ready.page_solvable;
-                users_in = v.ready.users_in;
                 long = omega (arith, v.ready.long, same_long);
                 marked = v.ready.marked;
                 known = v.ready.known;
@@ -135,8 +137,8 @@ module _ {a users : List ℕ} {m : List Bool} {tops s₀ s look₀ look lowered 
             }
 
       -- by what the code tells
-      module _ {t : Bool} (k : LoweredFree a users m tops c s s' look look' lowered lowered' t) where
-        pub freeing_next : Freeing a users m tops s₀ s' look₀ look' lowered' (fell || t) (c + 1)
+      module _ {t : Bool} (k : LoweredFree a indexed m tops c s s' look look' lowered lowered' t) where
+        pub freeing_next : Freeing a indexed m tops s₀ s' look₀ look' lowered' (fell || t) (c + 1)
         freeing_next =
             elim k [
               | inl q ↦ rw (q.told, or-false) (passed q.same q.look_same q.lowered_same (λ r f. absurd (true≢false (sym f ∙ q.bound))))
@@ -147,15 +149,15 @@ module _ {a users : List ℕ} {m : List Bool} {tops s₀ s look₀ look lowered 
             ]
 
 -- the next high ends, taken over
-module _ {a users : List ℕ} {m : List Bool} {tops s look lows : List ℕ} (b : HighsReady a users m tops s look lows) where
+module _ {a : List ℕ} {m : List Bool} {tops s look lows : List ℕ} (b : HighsReady a m tops s look lows) where
   abbrev size : ℕ
   size = conditions_of a
 
-  module _ {s₁ look' lowered : List ℕ} {fell : Bool} (v : FreeLowered a users m tops s s₁ look look' lowered fell) where
+  module _ {indexed : Bool} {s₁ look' lowered : List ℕ} {fell : Bool} (v : FreeLowered a indexed m tops s s₁ look look' lowered fell) where
     stays : (c : ℕ) → c < size → has lowered c ≡ false → get_or s₁ (2 * size + 2 * c) 0 ≡ get_or s (2 * size + 2 * c) 0
     stays c l q = ⊎_elim (λ y. y.same) (λ y. absurd (true≢false (sym y.0.noted ∙ q))) (v.each c l)
 
-    module _ {s₂ lows' : List ℕ} (g : LowsBegun a s₁ s₂) (o : Woke a users s₁ s₂ lows lows') where
+    module _ {s₂ lows' : List ℕ} (g : LowsBegun a s₁ s₂) (o : Woke a indexed s₁ s₂ lows lows') where
       highs₂ : (c : ℕ) → c < size → get_or s₂ (2 * size + 2 * c) 0 ≡ get_or s₁ (2 * size + 2 * c) 0
       highs₂ c l = high_eq (g.intervals c l)
 
@@ -184,7 +186,7 @@ module _ {a users : List ℕ} {m : List Bool} {tops s look lows : List ℕ} (b :
           kept_not c l q e =
               ⊎_elim (λ y. true≢false (sym q ∙ y.unnoted)) (λ y. absurd (omega (arith, e, highs₂ c l, y.0.fallen, y.0.over))) (v.each c l)
 
-      pub highs_taken : HighsTaken a users m tops s s₂ lows' look look' fell
+      pub highs_taken : HighsTaken a indexed m tops s s₂ lows' look look' fell
       highs_taken =
           record {
             same_length = g.same_length ∙ v.same_length;

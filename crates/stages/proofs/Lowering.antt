@@ -13,6 +13,7 @@ use Rattle.fixpoint.proofs.Cond.{by_bool}
 use Rattle.fixpoint.proofs.Sum.{sum_drop}
 use Rattle.semantics.specs.Area.{page_of, conditions_of}
 use Rattle.semantics.specs.Table.{member}
+use Rattle.page.specs.Solvable.{solvable}
 use Rattle.page.proofs.Head.{head_of}
 use Rattle.bits.specs.Sets.{Nobody, Member}
 use Rattle.bits.specs.Words.{has, Removed}
@@ -27,10 +28,11 @@ tall a s = sum (conditions_of a) (λ d. get_or s (2 * conditions_of a + 2 * d) 0
 abbrev pub to_lower : (a s look : List ℕ) → ℕ
 to_lower a s look = tall a s * 513 + waiters look
 
-pub record Lowering (a users : List ℕ) (m : List Bool) (tops s₀ s look₀ look lowered : List ℕ) (fell : Bool) : Type 0 where
-  pub ready : LowerReady a users m tops s look lowered
-  pub whole : Whole users (conditions_of a) m look₀
-  pub inside : length users ≡ 0 → (d : ℕ) → d < 512 → has look d ≡ true → has look₀ d ≡ true
+pub record Lowering (a : List ℕ) (indexed : Bool) (m : List Bool) (tops s₀ s look₀ look lowered : List ℕ) (fell : Bool) : Type 0 where
+  pub sound : solvable a ≡ true
+  pub ready : LowerReady a m tops s look lowered
+  pub whole : Whole indexed (conditions_of a) m look₀
+  pub inside : indexed ≡ false → (d : ℕ) → d < 512 → has look d ≡ true → has look₀ d ≡ true
   pub same_length : length s ≡ length s₀
   pub table : (i : ℕ) → i < 2 * conditions_of a → get_or s i 0 ≡ get_or s₀ i 0
   pub negations : (d : ℕ) → d < conditions_of a → get_or s (2 * conditions_of a + (2 * d + 1)) 0 ≡ get_or s₀ (2 * conditions_of a + (2 * d + 1)) 0
@@ -40,12 +42,12 @@ pub record Lowering (a users : List ℕ) (m : List Bool) (tops s₀ s look₀ lo
   pub none : fell ≡ false → (d : ℕ) → d < conditions_of a → has lowered d ≡ false
   pub one : fell ≡ true → (d : ℕ) × (d < conditions_of a) × (has lowered d ≡ true)
 
-module _ {a users : List ℕ} {m : List Bool} {tops s₀ s look₀ look lowered : List ℕ} {fell : Bool} (v : Lowering a users m tops s₀ s look₀ look lowered fell) where
+module _ {a : List ℕ} {indexed : Bool} {m : List Bool} {tops s₀ s look₀ look lowered : List ℕ} {fell : Bool} (v : Lowering a indexed m tops s₀ s look₀ look lowered fell) where
   abbrev n : ℕ
   n = conditions_of a
 
   few : n ≤ 512
-  few = (head_of a v.ready.page_solvable).few
+  few = (head_of a v.sound).few
 
   pub lowering_last : Nobody look → Lowered a m tops s₀ s look₀ look lowered fell
   lowering_last l =
@@ -68,11 +70,9 @@ module _ {a users : List ℕ} {m : List Bool} {tops s₀ s look₀ look lowered 
     lowering_real = v.ready.look_in.inside c waits.within waits.found
 
     module _ (look₁ : List ℕ) (x : Removed c look look₁) where
-      pub lowering_ready : LowerReady a users m tops s look₁ lowered
+      pub lowering_ready : LowerReady a m tops s look₁ lowered
       lowering_ready =
           record {
-            page_solvable = v.ready.page_solvable;
-            users_in = v.ready.users_in;
             long = v.ready.long;
             marked = v.ready.marked;
             known = v.ready.known;
@@ -85,9 +85,10 @@ module _ {a users : List ℕ} {m : List Bool} {tops s₀ s look₀ look lowered 
 
       -- nothing is done
       module _ {s' look' lowered' : List ℕ} {t : Bool} (k : KeptTop a m tops c s s' look₁ look' lowered lowered' t) where
-        stay : Lowering a users m tops s₀ s look₀ look₁ lowered fell
+        stay : Lowering a indexed m tops s₀ s look₀ look₁ lowered fell
         stay =
             record {
+              sound = v.sound;
               ready = lowering_ready;
               whole = v.whole;
               inside = λ e d l q. v.inside e d l (was_in look look₁ c x d l q);
@@ -104,14 +105,14 @@ module _ {a users : List ℕ} {m : List Bool} {tops s₀ s look₀ look lowered 
               one = v.one;
             }
 
-        pub lowering_stays : Lowering a users m tops s₀ s' look₀ look' lowered' fell
+        pub lowering_stays : Lowering a indexed m tops s₀ s' look₀ look' lowered' fell
         lowering_stays = rw (k.same, k.look_same, k.lowered_same) stay
 
         pub stays_less : to_lower a s' look' < to_lower a s look
         stays_less = rw (k.same, k.look_same) (omega (arith, less_look))
 
       -- the high end of c falls
-      module _ {s' look' lowered' : List ℕ} {t : Bool} (k : FellTop a users m tops c s s' look₁ look' lowered lowered' t) where
+      module _ {s' look' lowered' : List ℕ} {t : Bool} (k : FellTop a indexed m tops c s s' look₁ look' lowered lowered' t) where
         else' : (j : ℕ) → j ≢ 2 * n + 2 * c → get_or s' j 0 ≡ get_or s j 0
         else' j z = ap (λ (w : List ℕ). get_or w j 0) k.stored ∙ get_or-set_other s (2 * n + 2 * c) j (get_or tops c 0) 0 z
 
@@ -157,12 +158,11 @@ module _ {a users : List ℕ} {m : List Bool} {tops s₀ s look₀ look lowered 
                   (v.out d l r (was_out d l z q))
             ]
 
-        pub lowering_falls : {fell' : Bool} → fell' ≡ true → Lowering a users m tops s₀ s' look₀ look' lowered' fell'
+        pub lowering_falls : {fell' : Bool} → fell' ≡ true → Lowering a indexed m tops s₀ s' look₀ look' lowered' fell'
         lowering_falls e =
             record {
+              sound = v.sound;
               ready = record {
-                page_solvable = v.ready.page_solvable;
-                users_in = v.ready.users_in;
                 long = omega (arith, v.ready.long, same_long);
                 marked = v.ready.marked;
                 known = v.ready.known;
@@ -190,8 +190,8 @@ module _ {a users : List ℕ} {m : List Bool} {tops s₀ s look₀ look lowered 
             )
 
       -- by what the code tells
-      module _ {s' look' lowered' : List ℕ} {t : Bool} (k : LoweredTop a users m tops c s s' look₁ look' lowered lowered' t) where
-        pub lowering_next : Lowering a users m tops s₀ s' look₀ look' lowered' (fell || t)
+      module _ {s' look' lowered' : List ℕ} {t : Bool} (k : LoweredTop a indexed m tops c s s' look₁ look' lowered lowered' t) where
+        pub lowering_next : Lowering a indexed m tops s₀ s' look₀ look' lowered' (fell || t)
         lowering_next =
             elim k [
               | inl q ↦ rw (q.told, or-false) (lowering_stays q)

@@ -1,7 +1,7 @@
 -- The next low ends, noted line by line over the low ends held. Assumes nothing.
 use mathlib.Core.Path.{◌≡◌, refl, sym, ◌∙◌, ap, subst}
 use mathlib.Core.Logic.{inl, inr, ⊎_elim}
-use mathlib.Core.Bool.{Bool, true, false, true≢false}
+use mathlib.Core.Bool.{Bool, true, false}
 use mathlib.Core.List.{List, [], ◌∷◌}
 use Prim.Native.Nat.{ℕ, suc, ◌+◌, ◌*◌, ◌-◌, ◌≤◌, ◌<◌}
 use native.Mathlib.Decide.{ℕ_discrete}
@@ -9,7 +9,7 @@ use native.Mathlib.Omega.{arith}
 use lib.ListN.{length, get_or, set, take, drop, length-set}
 use lib.Seq.{get_or-set_same, get_or-set_other, drop-set-lt, take-set-le}
 use Rattle.fixpoint.specs.Interval.{Interval, Assign}
-use Rattle.semantics.specs.Area.{first_line, line_at, page_of, top_of, conditions_of, count_of}
+use Rattle.semantics.specs.Area.{line_at, page_of, top_of, conditions_of, count_of}
 use Rattle.semantics.specs.Body.{line_body, T}
 use Rattle.semantics.specs.Grade.{lower}
 use Rattle.semantics.specs.Table.{member}
@@ -19,16 +19,15 @@ use Rattle.page.proofs.Head.{head_of}
 use Rattle.page.proofs.LineNumbers.{line_of}
 use Rattle.bits.specs.Sets.{Member}
 use Rattle.bits.specs.Words.{has, Inserted, Removed}
-use Rattle.index.specs.Groups.{LinesByHead}
+use Rattle.index.specs.Lookup.{LinesAre}
 use Rattle.value.specs.Table.{EndTable, Grades}
 use Rattle.value.specs.LineEnds.{LineEnd}
 use Rattle.value.proofs.BodyEnds.{body_has, body_most}
 use Rattle.value.proofs.Defaults.{bodyless_low}
 use Rattle.value.proofs.Tables.{table_of_lem}
 use Rattle.settle.specs.Waiting.{WaitSet}
-use Rattle.settle.proofs.Groups.{slice, group_every}
 use Rattle.settle.proofs.Members.{else_same, rest_in, joined, joins, joined_else}
-use Rattle.settle.proofs.Raising.{line_entry, line_head}
+use Rattle.settle.proofs.Raising.{line_head}
 use Rattle.rounds.specs.Round.{past}
 use Rattle.stages.specs.Steps.{ahead, seen, Notable, RisesAt, Noting, Covers, NotedAt, Noted, Ahead, AllNoted}
 use Rattle.page.specs.Solvable.{solvable}
@@ -50,7 +49,6 @@ module _ (a : List ℕ) (m : List Bool) where
     pub notable_on : Notable a m s moved → Notable a m s' moved'
     notable_on h =
         record {
-          page_solvable = h.page_solvable;
           long = omega (arith, h.long, v.same_length);
           marked = h.marked;
           grades = subst (Grades (top_of a) n) (sym v.table) h.grades;
@@ -90,7 +88,7 @@ module _ (a : List ℕ) (m : List Bool) where
     covers_after s'' at h c l r p d = h c l r p (subst (λ (I : Assign). line_body (top_of a) I c (line_at (drop at a)) ≡ p ∷ []) (sym seen_same) d)
 
 -- one line
-module _ (a : List ℕ) (m : List Bool) (s moved : List ℕ) (at : ℕ) (H : Notable a m s moved) (x : LineIn a at) where
+module _ (a : List ℕ) (m : List Bool) (s moved : List ℕ) (at : ℕ) (ok : solvable a ≡ true) (H : Notable a m s moved) (x : LineIn a at) where
   abbrev h : ℕ
   h = get_or a at 0
 
@@ -108,9 +106,6 @@ module _ (a : List ℕ) (m : List Bool) (s moved : List ℕ) (at : ℕ) (H : Not
 
   pub noted_query : 5 < get_or a (at + 1) 0 → NotedAt a m at s s moved moved
   noted_query q = nothing_done (λ c l r p d. absurd (omega (arith, (added_to c p d).body)))
-
-  pub noted_apart : member m h ≡ false → NotedAt a m at s s moved moved
-  noted_apart q = nothing_done (λ c l r p d. absurd (true≢false (sym r ∙ ap (member m) (sym (added_to c p d).head) ∙ q)))
 
   seen_table : EndTable lower (top_of a) size (seen a s) (take (2 * size) s)
   seen_table =
@@ -138,10 +133,10 @@ module _ (a : List ℕ) (m : List Bool) (s moved : List ℕ) (at : ℕ) (H : Not
       s' = set s (2 * size + (2 * h + 1)) (top_of a - v)
 
       real : h < size
-      real = line_head a H.page_solvable x
+      real = line_head a ok x
 
       small : size ≤ 512
-      small = (head_of a H.page_solvable).few
+      small = (head_of a ok).few
 
       here : get_or s' (2 * size + (2 * h + 1)) 0 ≡ top_of a - v
       here = get_or-set_same s (2 * size + (2 * h + 1)) (top_of a - v) 0 (omega (arith, H.long, real))
@@ -149,7 +144,7 @@ module _ (a : List ℕ) (m : List Bool) (s moved : List ℕ) (at : ℕ) (H : Not
       below' : ahead a s' h ≤ (T (page_of a) (seen a s) h).low
       below' =
           let q = line_adds in
-          omega (arith, here, w.grade, q.2, body_has lower a H.page_solvable (seen a s) h x.number x.in_count q.0 (moved_to h q.0 q.1))
+          omega (arith, here, w.grade, q.2, body_has lower a ok (seen a s) h x.number x.in_count q.0 (moved_to h q.0 q.1))
 
       up : Noting a m s s' moved moved'
       up =
@@ -168,23 +163,10 @@ module _ (a : List ℕ) (m : List Bool) (s moved : List ℕ) (at : ℕ) (H : Not
       pub noted_up : NotedAt a m at s s' moved moved'
       noted_up = record { noting = up; covers = λ c l r p d. let q = adds_v c p d in rw q.0 (omega (arith, q.1, here, w.grade)) }
 
-  -- in the code's own terms, where k is the number of conditions
-  pub record Facts : Type 0 where
-    pub four : at + 4 ≤ length a
-    pub head : 4 ≤ length a
-    pub in_range : get_or a at 0 < conditions_of a
-    pub few : conditions_of a ≤ 512
-    pub long : 4 * conditions_of a ≤ length s
-    pub marked : conditions_of a ≤ length m
-
-  pub facts : Facts
-  facts =
-      let k = head_of a H.page_solvable in
-      record { four = (line_entry a H.page_solvable x).four; head = k.four; in_range = line_head a H.page_solvable x; few = k.few; long = H.long; marked = H.marked }
-
   pub line_here : get_or a (at + 1) 0 ≤ 5 → LineOf a h at
   line_here l = record { number = x.number; in_count = x.in_count; place = x.place; head = refl; body = l }
 
+  -- in the code's own terms, where k is the number of conditions
   module _ (k : ℕ) (z : k ≡ size) where
     abbrev part : List ℕ
     part = take (2 * k) s
@@ -206,9 +188,6 @@ module _ (a : List ℕ) (m : List Bool) (s moved : List ℕ) (at : ℕ) (H : Not
 
 -- lines one after the other
 module _ (a : List ℕ) (m : List Bool) (place : ℕ → ℕ) where
-  noted_first : {s moved : List ℕ} → WaitSet (conditions_of a) moved → Noted a m place 0 s s moved moved
-  noted_first w = record { noting = noting_same a m w; covers = λ i l. absurd (omega arith) }
-
   noted_next : {i : ℕ} {s₀ s s' moved₀ moved moved' : List ℕ} → Noted a m place i s₀ s moved₀ moved → NotedAt a m (place i) s s' moved moved'
       → Noted a m place (i + 1) s₀ s' moved₀ moved'
   noted_next {i} {s₀} {s} {s'} v r =
@@ -225,20 +204,12 @@ pub record NotingGroup (a : List ℕ) (m : List Bool) (places : List ℕ) (s₀ 
   pub notable : Notable a m s moved
   pub noted : Noted a m (λ j. get_or places j 0) i s₀ s moved₀ moved
 
-pub group_next : {a : List ℕ} {m : List Bool} {places : List ℕ} {s₀ s s' moved₀ moved moved' : List ℕ} {i : ℕ} → NotingGroup a m places s₀ s moved₀ moved i
-    → NotedAt a m (get_or places i 0) s s' moved moved' → NotingGroup a m places s₀ s' moved₀ moved' (i + 1)
-group_next {a} {m} {places} v r = record { notable = notable_on a m r.noting v.notable; noted = noted_next a m (λ j. get_or places j 0) v.noted r }
-
 -- the loop over the page
 pub record NotingPage (a : List ℕ) (m : List Bool) (s₀ s moved₀ moved : List ℕ) (at k : ℕ) : Type 0 where
   pub notable : Notable a m s moved
   pub place : at ≡ place_of a k
   pub in_count : k ≤ count_of a
   pub noted : Noted a m (place_of a) k s₀ s moved₀ moved
-
-pub page_first : {a : List ℕ} {m : List Bool} {s moved : List ℕ} {at k : ℕ} → Notable a m s moved → at ≡ first_line a → k ≡ 0 → NotingPage a m s s moved moved at k
-unfolding place_of
-page_first {a} {m} h f z = rw (f, z) (record { notable = h; place = refl; in_count = omega arith; noted = noted_first a m (place_of a) h.set_in })
 
 module _ {a : List ℕ} {m : List Bool} {s₀ s moved₀ moved : List ℕ} {at k : ℕ} (v : NotingPage a m s₀ s moved₀ moved at k) where
   pub page_next : k < count_of a → {s' moved' : List ℕ} {at' k' : ℕ} → NotedAt a m at s s' moved moved' → Next a at k at' k' → NotingPage a m s₀ s' moved₀ moved' at' k'
@@ -262,44 +233,38 @@ page_noted {a} {m} {s} {s'} ok v =
     }
 
 -- the loop over those that wait
-pub record NotingWaiting (a : List ℕ) (m : List Bool) (first places : List ℕ) (s₀ s moved₀ moved lows : List ℕ) : Type 0 where
-  pub groups : LinesByHead a first places
+pub record NotingWaiting (a : List ℕ) (m : List Bool) (s₀ s moved₀ moved lows : List ℕ) : Type 0 where
   pub notable : Notable a m s moved
   pub noting : Noting a m s₀ s moved₀ moved
   pub lows_in : WaitSet (conditions_of a) lows
   pub rests : (d : ℕ) → d < conditions_of a → member m d ≡ true → has lows d ≡ false → Ahead a s₀ s d
 
-module _ {a : List ℕ} {m : List Bool} {first places : List ℕ} {s₀ s moved₀ moved lows : List ℕ} (v : NotingWaiting a m first places s₀ s moved₀ moved lows) where
-  few : conditions_of a ≤ 512
-  few = (head_of a v.notable.page_solvable).few
+module _ {a : List ℕ} {m : List Bool} {s₀ s moved₀ moved lows : List ℕ} (v : NotingWaiting a m s₀ s moved₀ moved lows) {c : ℕ} (waits : Member lows c) where
+  waiting_real : c < conditions_of a
+  waiting_real = v.lows_in.inside c waits.within waits.found
 
-  module _ {c : ℕ} (waits : Member lows c) where
-    pub waiting_real : c < conditions_of a
-    waiting_real = v.lows_in.inside c waits.within waits.found
+  module _ (ok : solvable a ≡ true) (lows₁ : List ℕ) (x : Removed c lows lows₁) {group : List ℕ} (g : LinesAre a c group) {s' moved' : List ℕ}
+      (r : Noted a m (λ i. get_or group i 0) (length group) s s' moved moved') where
+    few : conditions_of a ≤ 512
+    few = (head_of a ok).few
 
-    abbrev group : List ℕ
-    group = slice places (get_or first c 0) (get_or first (c + 1) 0)
+    rests_c : member m c ≡ true → Ahead a s₀ s' c
+    rests_c q =
+        body_most lower a ok (seen a s₀) c (ahead a s' c)
+        (λ j u p d.
+        let y = g.every (place_of a j) (line_of (top_of a) (seen a s₀) c a j u d) in
+        covers_after a m v.noting s' (get_or group y.0 0) (r.covers y.0 y.1) c waiting_real q p
+        (subst (λ (i : ℕ). line_body (top_of a) (seen a s₀) c (line_at (drop i a)) ≡ p ∷ []) (sym y.2) d))
+        (λ h. omega (arith, bodyless_low a c))
 
-    module _ (lows₁ : List ℕ) (x : Removed c lows lows₁) where
-      module _ {s' moved' : List ℕ} (r : Noted a m (λ i. get_or group i 0) (length group) s s' moved moved') where
-        rests_c : member m c ≡ true → Ahead a s₀ s' c
-        rests_c q =
-            body_most lower a v.notable.page_solvable (seen a s₀) c (ahead a s' c)
-            (λ j u p d.
-            let y = group_every v.groups c waiting_real (place_of a j) (line_of (top_of a) (seen a s₀) c a j u d) in
-            covers_after a m v.noting s' (get_or group y.0 0) (r.covers y.0 y.1) c waiting_real q p
-            (subst (λ (i : ℕ). line_body (top_of a) (seen a s₀) c (line_at (drop i a)) ≡ p ∷ []) (sym y.2) d))
-            (λ g. omega (arith, bodyless_low a c))
-
-        pub waiting_next : NotingWaiting a m first places s₀ s' moved₀ moved' lows₁
-        waiting_next =
-            record {
-              groups = v.groups;
-              notable = notable_on a m r.noting v.notable;
-              noting = noting_on a m v.noting r.noting;
-              lows_in = rest_in lows lows₁ c x v.lows_in;
-              rests = λ d l q o. elim (ℕ_discrete d c) [
-                | yes z ↦ subst (Ahead a s₀ s') (sym z) (rests_c (sym (ap (member m) z) ∙ q))
-                | no z ↦ omega (arith, v.rests d l q (sym (else_same lows lows₁ c x d (omega (arith, few)) z) ∙ o), no_later a m r.noting d l)
-              ];
-            }
+    pub waiting_next : NotingWaiting a m s₀ s' moved₀ moved' lows₁
+    waiting_next =
+        record {
+          notable = notable_on a m r.noting v.notable;
+          noting = noting_on a m v.noting r.noting;
+          lows_in = rest_in lows lows₁ c x v.lows_in;
+          rests = λ d l q o. elim (ℕ_discrete d c) [
+            | yes z ↦ subst (Ahead a s₀ s') (sym z) (rests_c (sym (ap (member m) z) ∙ q))
+            | no z ↦ omega (arith, v.rests d l q (sym (else_same lows lows₁ c x d (omega (arith, few)) z) ∙ o), no_later a m r.noting d l)
+          ];
+        }

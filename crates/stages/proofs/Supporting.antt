@@ -6,7 +6,7 @@ use mathlib.Core.List.{List}
 use Prim.Native.Nat.{ℕ, suc, ◌+◌, ◌*◌, ◌-◌, ◌≤◌, ◌<◌}
 use native.Mathlib.Decide.{ℕ_discrete}
 use native.Mathlib.Omega.{arith}
-use lib.ListN.{length, get_or}
+use lib.ListN.{get_or}
 use Rattle.fixpoint.specs.Interval.{Within}
 use Rattle.fixpoint.proofs.Cond.{by_bool, cond_true, cond_false}
 use Rattle.fixpoint.proofs.KnowledgeOrder.{pair_eq}
@@ -16,10 +16,9 @@ use Rattle.semantics.specs.Grade.{lower, upper}
 use Rattle.semantics.specs.Table.{member}
 use Rattle.page.proofs.Head.{head_of}
 use Rattle.bits.specs.Words.{has}
-use Rattle.index.specs.Parts.{MaybeUsers}
 use Rattle.settle.specs.Ends.{reads}
 use Rattle.settle.specs.Scratch.{held, Half, RestsAt, Settled}
-use Rattle.settle.specs.Waiting.{MaybeIndex, MaybeIndexed}
+use Rattle.settle.specs.Waiting.{Waiting}
 use Rattle.settle.proofs.Raising.{S, E, T_below}
 use Rattle.rounds.specs.Round.{LowsBegun, Woke, past, closed_at}
 use Rattle.stages.specs.Steps.{free_at, Unlooked, Lowered, FollowReady}
@@ -28,16 +27,9 @@ use Rattle.stages.proofs.Assignments.{low_eq, high_eq}
 use Rattle.stages.proofs.PageStages.{stage_over, between_falls, FloorOf, support_at, capped_at, KeepsTop, restart_at}
 use Rattle.page.specs.Solvable.{solvable}
 
-pub users_of : {a lines users : List ℕ} → MaybeIndex a lines users → MaybeUsers a users
-users_of (inl z) = inl z
-users_of (inr i) = inr i.1
-
-module _ {a : List ℕ} {m : List Bool} {users tops : List ℕ} {k : ℕ} {s look lows : List ℕ} (b : AtStage a m users tops k s look lows) where
+module _ {a : List ℕ} {m : List Bool} {indexed : Bool} {tops : List ℕ} {k : ℕ} {s look lows : List ℕ} (ok : solvable a ≡ true) (b : AtStage a m indexed tops k s look lows) where
   abbrev n : ℕ
   n = conditions_of a
-
-  ok : solvable a ≡ true
-  ok = b.tables.page_solvable
 
   few : n ≤ 512
   few = (head_of a ok).few
@@ -115,7 +107,6 @@ module _ {a : List ℕ} {m : List Bool} {users tops : List ℕ} {k : ℕ} {s loo
     pub tops_half : Half upper a m s₁
     tops_half =
         record {
-          page_solvable = ok;
           long = omega (arith, b.tables.long, v.same_length);
           marked = b.tables.marked;
           shut = b.tables.shut;
@@ -129,14 +120,14 @@ module _ {a : List ℕ} {m : List Bool} {users tops : List ℕ} {k : ℕ} {s loo
     rests₁ c l r q =
         omega (
           arith,
-          T_below tops_half c l r,
+          T_below ok tops_half c l r,
           support_at a ok m b.tables.shut k s₁ floor₁ c l r,
           between_falls a ok m b.tables.shut k c l,
           stays_at c l r q,
         )
 
-    pub tops_indexed : {lines : List ℕ} → MaybeIndex a lines users → MaybeIndexed upper a m lines users s₁ lowered
-    tops_indexed = ⊎_elim (λ z. inl z) (λ i. inr (record { lines_in = i.0; users_in = i.1; waiting = record { set = v.lowered_in; rests = rests₁ } }))
+    pub tops_waiting : Waiting upper a m s₁ lowered
+    tops_waiting = record { set = v.lowered_in; rests = rests₁ }
 
     -- nothing fell: the high ends are those of the support already
     module _ (z : fell ≡ false) where
@@ -146,7 +137,6 @@ module _ {a : List ℕ} {m : List Bool} {users tops : List ℕ} {k : ℕ} {s loo
       tables₁ : Tables a m s₁
       tables₁ =
           record {
-            page_solvable = ok;
             long = tops_half.long;
             marked = b.tables.marked;
             shut = b.tables.shut;
@@ -159,7 +149,7 @@ module _ {a : List ℕ} {m : List Bool} {users tops : List ℕ} {k : ℕ} {s loo
       tops₁ : (c : ℕ) → c < n → member m c ≡ true → get_or s₁ (2 * n + 2 * c) 0 ≡ (between_at a k c).high
       tops₁ c l r = omega (arith, known_all c l r, stays_at c l r (v.none z c l), between_falls a ok m b.tables.shut k c l)
 
-      rests₁' : (length users ≡ 0 → ⊥) → (c : ℕ) → c < n → member m c ≡ true → has lows c ≡ false → (T (page_of a) (past a s₁) c).low ≤ get_or s₁ (2 * c) 0
+      rests₁' : indexed ≡ true → (c : ℕ) → c < n → member m c ≡ true → has lows c ≡ false → (T (page_of a) (past a s₁) c).low ≤ get_or s₁ (2 * c) 0
       rests₁' d c l r q =
           omega (
             arith,
@@ -168,7 +158,7 @@ module _ {a : List ℕ} {m : List Bool} {users tops : List ℕ} {k : ℕ} {s loo
             low_eq ((S a ok).local (past a s₁) (past a s) c l (λ e i f. pair_eq (lows₁ e i) (ap (λ (x : ℕ). top_of a - x) (v.table (2 * e + 1) (omega arith))))),
           )
 
-      pub supported_still : Supported a m users tops k s s₁ look₂ lows false
+      pub supported_still : Supported a m indexed tops k s s₁ look₂ lows false
       supported_still =
           record {
             same_length = v.same_length;
@@ -203,11 +193,9 @@ module _ {a : List ℕ} {m : List Bool} {users tops : List ℕ} {k : ℕ} {s loo
       lows₂ : (c : ℕ) → c < n → get_or s₂ (2 * c) 0 ≡ get_or s (2 * c) 0
       lows₂ c l = x.steady.others c l ∙ lows₁ c l
 
-      pub follow_ready : MaybeUsers a users → FollowReady a users s₂ lowered lows
-      follow_ready u =
+      pub follow_ready : FollowReady a s₂ lowered lows
+      follow_ready =
           record {
-            page_solvable = ok;
-            users_in = u;
             long = x.half.long;
             within = λ c l. (x.half.within c l).high_in;
             lowered_in = v.lowered_in;
@@ -216,7 +204,7 @@ module _ {a : List ℕ} {m : List Bool} {users tops : List ℕ} {k : ℕ} {s loo
           }
 
       -- after the negations
-      module _ {s₃ lows' : List ℕ} (g : LowsBegun a s₂ s₃) (o : Woke a users s₂ s₃ lows lows') where
+      module _ {s₃ lows' : List ℕ} (g : LowsBegun a s₂ s₃) (o : Woke a indexed s₂ s₃ lows lows') where
         lows₃ : (c : ℕ) → c < n → get_or s₃ (2 * c) 0 ≡ get_or s (2 * c) 0
         lows₃ c l = low_eq (g.intervals c l) ∙ lows₂ c l
 
@@ -226,7 +214,6 @@ module _ {a : List ℕ} {m : List Bool} {users tops : List ℕ} {k : ℕ} {s loo
         tables₃ : Tables a m s₃
         tables₃ =
             record {
-              page_solvable = ok;
               long = omega (arith, x.half.long, g.same_length);
               marked = b.tables.marked;
               shut = b.tables.shut;
@@ -236,7 +223,7 @@ module _ {a : List ℕ} {m : List Bool} {users tops : List ℕ} {k : ℕ} {s loo
               apart = λ c l r. highs₃ c l ∙ x.steady.apart c l r ∙ apart₁ c l r;
             }
 
-        rests₃ : (length users ≡ 0 → ⊥) → (c : ℕ) → c < n → member m c ≡ true → has lows' c ≡ false → (T (page_of a) (past a s₃) c).low ≤ get_or s₃ (2 * c) 0
+        rests₃ : indexed ≡ true → (c : ℕ) → c < n → member m c ≡ true → has lows' c ≡ false → (T (page_of a) (past a s₃) c).low ≤ get_or s₃ (2 * c) 0
         unfolding page_of
         rests₃ d c l r q =
             let out : has lows c ≡ false = by_bool (has lows c) (λ y. absurd (true≢false (sym (o.kept c (omega (arith, few)) y) ∙ q))) (λ y. y) in
@@ -247,11 +234,11 @@ module _ {a : List ℕ} {m : List Bool} {users tops : List ℕ} {k : ℕ} {s loo
               (E a ok).local_end lower (past a s₃) (past a s) c l (λ e i f. lows₃ e i)
                   (λ e i f. ap (λ (y : ℕ). top_of a - y) (elim (ℕ_discrete (get_or s₂ (2 * e + 1) 0) (get_or s₃ (2 * e + 1) 0)) [
                     | yes y ↦ sym y ∙ negation₂ e i
-                    | no y ↦ absurd (⊎_elim d (λ h. true≢false (sym (h e i y c f) ∙ q)) o.woken)
+                    | no y ↦ absurd (⊎_elim (λ j. true≢false (sym d ∙ j)) (λ h. true≢false (sym (h e i y c f) ∙ q)) o.woken)
                   ])),
             )
 
-        pub supported : Supported a m users tops k s s₃ look₂ lows' fell
+        pub supported : Supported a m indexed tops k s s₃ look₂ lows' fell
         supported =
             record {
               same_length = g.same_length ∙ x.steady.same_length ∙ v.same_length;

@@ -1,7 +1,7 @@
 -- The next low ends are taken over, one condition that moved after the other. Assumes nothing.
 use mathlib.Core.Path.{◌≡◌, sym, ◌∙◌, ap, subst}
 use mathlib.Core.Logic.{◌≢◌, ◌⊎◌, inl, inr, ⊎_elim}
-use mathlib.Core.Bool.{true, false}
+use mathlib.Core.Bool.{Bool, true, false}
 use mathlib.Core.List.{List}
 use Prim.Native.Nat.{ℕ, ◌+◌, ◌*◌, ◌-◌, ◌≤◌, ◌<◌}
 use native.Mathlib.Decide.{ℕ_discrete}
@@ -12,7 +12,6 @@ use Rattle.semantics.specs.Area.{page_of, top_of, conditions_of}
 use Rattle.page.proofs.Head.{head_of}
 use Rattle.bits.specs.Sets.{Nobody, Member}
 use Rattle.bits.specs.Words.{has, Removed}
-use Rattle.index.specs.Parts.{MaybeUsers}
 use Rattle.index.specs.Readers.{lines_read}
 use Rattle.index.proofs.Readers.{reads_below}
 use Rattle.settle.specs.Waiting.{WaitSet}
@@ -21,13 +20,12 @@ use Rattle.settle.proofs.Members.{else_same, rest_in}
 use Rattle.page.specs.Solvable.{solvable}
 
 -- whoever reads a literal of a condition that moved and was taken over is in the set
-abbrev WokenBy : (a users s₀ moved : List ℕ) → (ℕ → ℕ) → List ℕ → Type 0
-WokenBy a users s₀ moved code words =
-    (length users ≡ 0) ⊎ ((d : ℕ) → d < conditions_of a → has moved d ≡ false → get_or s₀ (2 * d) 0 ≢ ahead a s₀ d → (h : ℕ) → lines_read (code d) (page_of a).lines h ≡ true → has words h ≡ true)
+abbrev WokenBy : (a : List ℕ) (indexed : Bool) (s₀ moved : List ℕ) → (ℕ → ℕ) → List ℕ → Type 0
+WokenBy a indexed s₀ moved code words =
+    (indexed ≡ false) ⊎ ((d : ℕ) → d < conditions_of a → has moved d ≡ false → get_or s₀ (2 * d) 0 ≢ ahead a s₀ d → (h : ℕ) → lines_read (code d) (page_of a).lines h ≡ true → has words h ≡ true)
 
-pub record Taking (a users s₀ s moved lows₀ lows look₀ look : List ℕ) : Type 0 where
-  pub page_solvable : solvable a ≡ true
-  pub users_in : MaybeUsers a users
+pub record Taking (a : List ℕ) (indexed : Bool) (s₀ s moved lows₀ lows look₀ look : List ℕ) : Type 0 where
+  pub sound : solvable a ≡ true
   pub long : 4 * conditions_of a ≤ length s
   pub grades : (d : ℕ) → d < conditions_of a → get_or s₀ (2 * conditions_of a + (2 * d + 1)) 0 ≤ top_of a
   pub same_length : length s ≡ length s₀
@@ -38,20 +36,20 @@ pub record Taking (a users s₀ s moved lows₀ lows look₀ look : List ℕ) : 
   pub lows_in : WaitSet (conditions_of a) lows
   pub look_in : WaitSet (conditions_of a) look
   pub done : (d : ℕ) → d < conditions_of a → has moved d ≡ false → get_or s (2 * d) 0 ≡ ahead a s₀ d
-  pub lows_woken : WokenBy a users s₀ moved (λ d. 2 * d) lows
-  pub look_woken : WokenBy a users s₀ moved (λ d. 2 * d + 1) look
+  pub lows_woken : WokenBy a indexed s₀ moved (λ d. 2 * d) lows
+  pub look_woken : WokenBy a indexed s₀ moved (λ d. 2 * d + 1) look
   pub lows_kept : (d : ℕ) → d < 512 → has lows₀ d ≡ true → has lows d ≡ true
   pub look_kept : (d : ℕ) → d < 512 → has look₀ d ≡ true → has look d ≡ true
-  pub look_same : (length users ≡ 0) → look ≡ look₀
+  pub look_same : (indexed ≡ false) → look ≡ look₀
 
-module _ {a users s₀ s moved lows₀ lows look₀ look : List ℕ} (v : Taking a users s₀ s moved lows₀ lows look₀ look) where
+module _ {a : List ℕ} {indexed : Bool} {s₀ s moved lows₀ lows look₀ look : List ℕ} (v : Taking a indexed s₀ s moved lows₀ lows look₀ look) where
   abbrev n : ℕ
   n = conditions_of a
 
   few : n ≤ 512
-  few = (head_of a v.page_solvable).few
+  few = (head_of a v.sound).few
 
-  pub taking_last : Nobody moved → AllTaken a users s₀ s lows₀ lows look₀ look
+  pub taking_last : Nobody moved → AllTaken a indexed s₀ s lows₀ lows look₀ look
   taking_last l =
       let out : (d : ℕ) → d < conditions_of a → has moved d ≡ false = λ d k. l d (omega (arith, few)) in
       record {
@@ -74,7 +72,7 @@ module _ {a users s₀ s moved lows₀ lows look₀ look : List ℕ} (v : Taking
     taking_real = v.moved_in.inside c waits.within waits.found
 
     module _ (moved₁ : List ℕ) (x : Removed c moved moved₁) where
-      module _ {s' lows' look' : List ℕ} (r : TakenOver a users c s s' lows lows' look look') where
+      module _ {s' lows' look' : List ℕ} (r : TakenOver a indexed c s s' lows lows' look look') where
         else' : (j : ℕ) → j ≢ 2 * c → get_or s' j 0 ≡ get_or s j 0
         else' j z = ap (λ (t : List ℕ). get_or t j 0) r.stored ∙ get_or-set_other s (2 * c) j (ahead a s c) 0 z
 
@@ -83,21 +81,20 @@ module _ {a users s₀ s moved lows₀ lows look₀ look : List ℕ} (v : Taking
             ap (λ (t : List ℕ). get_or t (2 * c) 0) r.stored ∙ get_or-set_same s (2 * c) (ahead a s c) 0 (omega (arith, v.long, taking_real))
             ∙ ap (λ (k : ℕ). top_of a - k) (v.upper (2 * n + (2 * c + 1)) (omega arith))
 
-        woken_next : (code : ℕ → ℕ) (words words' : List ℕ) → WokenBy a users s₀ moved code words → ((d : ℕ) → d < 512 → has words d ≡ true → has words' d ≡ true)
-            → (length users ≡ 0) ⊎ ((h : ℕ) → lines_read (code c) (page_of a).lines h ≡ true → has words' h ≡ true) → WokenBy a users s₀ moved₁ code words'
+        woken_next : (code : ℕ → ℕ) (words words' : List ℕ) → WokenBy a indexed s₀ moved code words → ((d : ℕ) → d < 512 → has words d ≡ true → has words' d ≡ true)
+            → (indexed ≡ false) ⊎ ((h : ℕ) → lines_read (code c) (page_of a).lines h ≡ true → has words' h ≡ true) → WokenBy a indexed s₀ moved₁ code words'
         woken_next code words words' (inl z) k w = inl z
         woken_next code words words' (inr f) k (inl z) = inl z
         woken_next code words words' (inr f) k (inr g) =
             inr (λ d l q z. elim (ℕ_discrete d c) [
               | yes y ↦ λ h e. g h (subst (λ (j : ℕ). lines_read (code j) (page_of a).lines h ≡ true) y e)
-              | no y ↦ λ h e. k h (omega (arith, few, reads_below a v.page_solvable (code d) h e)) (f d l (sym (else_same moved moved₁ c x d (omega (arith, few)) y) ∙ q) z h e)
+              | no y ↦ λ h e. k h (omega (arith, few, reads_below a v.sound (code d) h e)) (f d l (sym (else_same moved moved₁ c x d (omega (arith, few)) y) ∙ q) z h e)
             ])
 
-        pub taking_next : Taking a users s₀ s' moved₁ lows₀ lows' look₀ look'
+        pub taking_next : Taking a indexed s₀ s' moved₁ lows₀ lows' look₀ look'
         taking_next =
             record {
-              page_solvable = v.page_solvable;
-              users_in = v.users_in;
+              sound = v.sound;
               long = omega (arith, ap length r.stored, length-set s (2 * c) (ahead a s c), v.long);
               grades = v.grades;
               same_length = ap length r.stored ∙ length-set s (2 * c) (ahead a s c) ∙ v.same_length;

@@ -8,11 +8,9 @@ use Rattle.semantics.specs.Rounds.{IsRoundCount}
 use Rattle.semantics.specs.Table.{member}
 use Rattle.settle.specs.Scratch.{held}
 use Rattle.rounds.specs.Round.{closed_at}
-use Rattle.page.specs.Solvable.{solvable}
 
 -- the scratch holds the closed reading of what is marked, and what is marked names only what is marked
 pub record CountReady (a : List ℕ) (m : List Bool) (s : List ℕ) : Type 0 where
-  pub page_solvable : solvable a ≡ true
   pub long : 4 * conditions_of a ≤ length s
   pub marked : conditions_of a ≤ length m
   pub shut : DependencyClosed (conditions_of a) (names (page_of a)) (member m)

@@ -16,7 +16,6 @@ use Rattle.settle.specs.Scratch.{held}
 use Rattle.settle.specs.Waiting.{WaitSet}
 use Rattle.rounds.specs.Round.{MarkedWait, LowsWait, closed_at}
 use Rattle.stages.specs.Steps.{free_at, Whole}
-use Rattle.page.specs.Solvable.{solvable}
 
 -- assignment k
 abbrev pub stage_at : List ℕ → ℕ → Assign
@@ -33,7 +32,6 @@ pub record SameFloor (n : ℕ) (free reached : ℕ → Bool) (I J : Assign) : Ty
 
 -- both tables hold grades, each negation tells the end that is held, and a condition that is not reached has the high end 0
 pub record Tables (a : List ℕ) (m : List Bool) (s : List ℕ) : Type 0 where
-  pub page_solvable : solvable a ≡ true
   pub long : 4 * conditions_of a ≤ length s
   pub marked : conditions_of a ≤ length m
   pub shut : DependencyClosed (conditions_of a) (names (page_of a)) (member m)
@@ -59,37 +57,37 @@ pub record Older (a : List ℕ) (m : List Bool) (k : ℕ) (look : List ℕ) : Ty
       → (stage_at a before b).high ≡ (stage_at a k b).high
 
 -- assignment k; `look` has those whose high end may be another in its support, `lows` those whose low end may be another in the next
-pub record AtStage (a : List ℕ) (m : List Bool) (users tops : List ℕ) (k : ℕ) (s look lows : List ℕ) : Type 0 where
+pub record AtStage (a : List ℕ) (m : List Bool) (indexed : Bool) (tops : List ℕ) (k : ℕ) (s look lows : List ℕ) : Type 0 where
   pub tables : Tables a m s
   pub tops_in : Tops a m k tops
   pub staged : (c : ℕ) → c < conditions_of a → member m c ≡ true → held (conditions_of a) s c ≡ stage_at a k c
   pub look_in : WaitSet (conditions_of a) look
   pub spread : MarkedWait (conditions_of a) m look ⊎ Older a m k look
-  pub whole : Whole users (conditions_of a) m look
-  pub lows_wait : LowsWait a m users s lows
+  pub whole : Whole indexed (conditions_of a) m look
+  pub lows_wait : LowsWait a m indexed s lows
 
 -- the floor of assignment k, and the high ends of its support
-pub record AtSupport (a : List ℕ) (m : List Bool) (users tops : List ℕ) (k : ℕ) (s lows : List ℕ) : Type 0 where
+pub record AtSupport (a : List ℕ) (m : List Bool) (indexed : Bool) (tops : List ℕ) (k : ℕ) (s lows : List ℕ) : Type 0 where
   pub tables : Tables a m s
   pub tops_in : Tops a m k tops
   pub between : (c : ℕ) → c < conditions_of a → member m c ≡ true → held (conditions_of a) s c ≡ between_at a k c
-  pub lows_wait : LowsWait a m users s lows
+  pub lows_wait : LowsWait a m indexed s lows
 
 -- the support of assignment k; whether a high end above that of the closed reading fell, or all stay
-pub record Supported (a : List ℕ) (m : List Bool) (users tops : List ℕ) (k : ℕ) (s s' look' lows' : List ℕ) (fell : Bool) : Type 0 where
+pub record Supported (a : List ℕ) (m : List Bool) (indexed : Bool) (tops : List ℕ) (k : ℕ) (s s' look' lows' : List ℕ) (fell : Bool) : Type 0 where
   pub same_length : length s' ≡ length s
   pub beyond : drop (4 * conditions_of a) s' ≡ drop (4 * conditions_of a) s
   pub look_in : WaitSet (conditions_of a) look'
   pub drained : Nobody look'
-  pub at : AtSupport a m users tops k s' lows'
+  pub at : AtSupport a m indexed tops k s' lows'
   pub none : fell ≡ false → (c : ℕ) → c < conditions_of a → member m c ≡ true → free_at a c ≡ false → (stage_at a (suc k) c).high ≡ (stage_at a k c).high
   pub one : fell ≡ true → (c : ℕ) × (c < conditions_of a) × (member m c ≡ true) × ((closed_at a c).high < (stage_at a k c).high)
 
 -- the next assignment, if the floor moves
-pub record Advanced (a : List ℕ) (m : List Bool) (users tops tops' : List ℕ) (k : ℕ) (s s' look' lows' : List ℕ) (moved : Bool) : Type 0 where
+pub record Advanced (a : List ℕ) (m : List Bool) (indexed : Bool) (tops tops' : List ℕ) (k : ℕ) (s s' look' lows' : List ℕ) (moved : Bool) : Type 0 where
   pub same_length : length s' ≡ length s
   pub beyond : drop (4 * conditions_of a) s' ≡ drop (4 * conditions_of a) s
   pub size : length tops' ≡ length tops
-  pub next : moved ≡ true → AtStage a m users tops' (suc k) s' look' lows'
+  pub next : moved ≡ true → AtStage a m indexed tops' (suc k) s' look' lows'
   pub one : moved ≡ true → ¬ Alike (conditions_of a) (member m) (stage_at a k) (stage_at a (suc k))
   pub still : moved ≡ false → SameFloor (conditions_of a) (free_at a) (member m) (stage_at a (suc k)) (stage_at a k)

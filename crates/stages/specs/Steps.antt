@@ -9,13 +9,11 @@ use Rattle.semantics.specs.Body.{line_body, T, unknown_by_default}
 use Rattle.semantics.specs.Table.{member}
 use Rattle.bits.specs.Sets.{Nobody}
 use Rattle.bits.specs.Words.{has, Inserted}
-use Rattle.index.specs.Parts.{MaybeUsers}
 use Rattle.index.specs.Readers.{lines_read}
 use Rattle.value.specs.Table.{Grades}
 use Rattle.settle.specs.Ends.{reads}
 use Rattle.settle.specs.Waiting.{WaitSet}
 use Rattle.rounds.specs.Round.{MarkedWait, past, Fresh, LinesHave}
-use Rattle.page.specs.Solvable.{solvable}
 
 -- the conditions that are unknown by default
 abbrev pub free_at : List ℕ → ℕ → Bool
@@ -35,7 +33,6 @@ seen a s = past a (take (2 * conditions_of a) s)
 
 -- what noting a line asks
 pub record Notable (a : List ℕ) (m : List Bool) (s moved : List ℕ) : Type 0 where
-  pub page_solvable : solvable a ≡ true
   pub long : 4 * conditions_of a ≤ length s
   pub marked : conditions_of a ≤ length m
   pub grades : Grades (top_of a) (conditions_of a) (take (2 * conditions_of a) s)
@@ -90,20 +87,18 @@ abbrev pub LowsRest : (a : List ℕ) (m : List Bool) (s lows : List ℕ) → Typ
 LowsRest a m s lows = (c : ℕ) → c < conditions_of a → member m c ≡ true → has lows c ≡ false → Ahead a s s c
 
 -- the next low end of c is taken over; with an index whoever names c waits
-pub record TakenOver (a users : List ℕ) (c : ℕ) (s s' lows lows' look look' : List ℕ) : Type 0 where
+pub record TakenOver (a : List ℕ) (indexed : Bool) (c : ℕ) (s s' lows lows' look look' : List ℕ) : Type 0 where
   pub stored : s' ≡ set s (2 * c) (ahead a s c)
   pub lows_in : WaitSet (conditions_of a) lows'
   pub look_in : WaitSet (conditions_of a) look'
   pub lows_kept : (d : ℕ) → d < 512 → has lows d ≡ true → has lows' d ≡ true
   pub look_kept : (d : ℕ) → d < 512 → has look d ≡ true → has look' d ≡ true
-  pub lows_woken : (length users ≡ 0) ⊎ ((h : ℕ) → lines_read (2 * c) (page_of a).lines h ≡ true → has lows' h ≡ true)
-  pub look_woken : (length users ≡ 0) ⊎ ((h : ℕ) → lines_read (2 * c + 1) (page_of a).lines h ≡ true → has look' h ≡ true)
-  pub look_same : length users ≡ 0 → look' ≡ look
+  pub lows_woken : (indexed ≡ false) ⊎ ((h : ℕ) → lines_read (2 * c) (page_of a).lines h ≡ true → has lows' h ≡ true)
+  pub look_woken : (indexed ≡ false) ⊎ ((h : ℕ) → lines_read (2 * c + 1) (page_of a).lines h ≡ true → has look' h ≡ true)
+  pub look_same : indexed ≡ false → look' ≡ look
 
 -- what taking over asks: whoever did not move holds its next low end already
-pub record TakeReady (a users s moved lows look : List ℕ) : Type 0 where
-  pub page_solvable : solvable a ≡ true
-  pub users_in : MaybeUsers a users
+pub record TakeReady (a s moved lows look : List ℕ) : Type 0 where
   pub long : 4 * conditions_of a ≤ length s
   pub within : (c : ℕ) → c < conditions_of a → get_or s (2 * conditions_of a + (2 * c + 1)) 0 ≤ top_of a
   pub moved_in : WaitSet (conditions_of a) moved
@@ -112,7 +107,7 @@ pub record TakeReady (a users s moved lows look : List ℕ) : Type 0 where
   pub unmoved : (c : ℕ) → c < conditions_of a → has moved c ≡ false → get_or s (2 * c) 0 ≡ ahead a s c
 
 -- all next low ends are taken over
-pub record AllTaken (a users s s' lows lows' look look' : List ℕ) : Type 0 where
+pub record AllTaken (a : List ℕ) (indexed : Bool) (s s' lows lows' look look' : List ℕ) : Type 0 where
   pub same_length : length s' ≡ length s
   pub next : (c : ℕ) → c < conditions_of a → get_or s' (2 * c) 0 ≡ ahead a s c
   pub negations : (c : ℕ) → get_or s' (2 * c + 1) 0 ≡ get_or s (2 * c + 1) 0
@@ -122,12 +117,12 @@ pub record AllTaken (a users s s' lows lows' look look' : List ℕ) : Type 0 whe
   pub look_in : WaitSet (conditions_of a) look'
   pub lows_kept : (d : ℕ) → d < 512 → has lows d ≡ true → has lows' d ≡ true
   pub look_kept : (d : ℕ) → d < 512 → has look d ≡ true → has look' d ≡ true
-  pub lows_woken : (length users ≡ 0) ⊎ ((c : ℕ) → c < conditions_of a → get_or s (2 * c) 0 ≢ ahead a s c → (h : ℕ) → lines_read (2 * c) (page_of a).lines h ≡ true → has lows' h ≡ true)
-  pub look_same : length users ≡ 0 → look' ≡ look
-  pub look_woken : (length users ≡ 0) ⊎ ((c : ℕ) → c < conditions_of a → get_or s (2 * c) 0 ≢ ahead a s c → (h : ℕ) → lines_read (2 * c + 1) (page_of a).lines h ≡ true → has look' h ≡ true)
+  pub lows_woken : (indexed ≡ false) ⊎ ((c : ℕ) → c < conditions_of a → get_or s (2 * c) 0 ≢ ahead a s c → (h : ℕ) → lines_read (2 * c) (page_of a).lines h ≡ true → has lows' h ≡ true)
+  pub look_same : indexed ≡ false → look' ≡ look
+  pub look_woken : (indexed ≡ false) ⊎ ((c : ℕ) → c < conditions_of a → get_or s (2 * c) 0 ≢ ahead a s c → (h : ℕ) → lines_read (2 * c + 1) (page_of a).lines h ≡ true → has look' h ≡ true)
 
 -- the high end of c, which is reached and above that of the closed reading, falls to it; with an index whoever names c plainly is looked at
-pub record FellTop (a users : List ℕ) (m : List Bool) (tops : List ℕ) (c : ℕ) (s s' look look' lowered lowered' : List ℕ) (fell : Bool) : Type 0 where
+pub record FellTop (a : List ℕ) (indexed : Bool) (m : List Bool) (tops : List ℕ) (c : ℕ) (s s' look look' lowered lowered' : List ℕ) (fell : Bool) : Type 0 where
   pub told : fell ≡ true
   pub reached : member m c ≡ true
   pub over : get_or tops c 0 < get_or s (2 * conditions_of a + 2 * c) 0
@@ -135,8 +130,8 @@ pub record FellTop (a users : List ℕ) (m : List Bool) (tops : List ℕ) (c : �
   pub lowered_in : Inserted c lowered lowered'
   pub look_in : WaitSet (conditions_of a) look'
   pub kept : (d : ℕ) → d < 512 → has look d ≡ true → has look' d ≡ true
-  pub woken : (length users ≡ 0) ⊎ ((h : ℕ) → lines_read (2 * c) (page_of a).lines h ≡ true → has look' h ≡ true)
-  pub look_same : length users ≡ 0 → look' ≡ look
+  pub woken : (indexed ≡ false) ⊎ ((h : ℕ) → lines_read (2 * c) (page_of a).lines h ≡ true → has look' h ≡ true)
+  pub look_same : indexed ≡ false → look' ≡ look
 
 -- .. or nothing is done
 pub record KeptTop (a : List ℕ) (m : List Bool) (tops : List ℕ) (c : ℕ) (s s' look look' lowered lowered' : List ℕ) (fell : Bool) : Type 0 where
@@ -146,14 +141,12 @@ pub record KeptTop (a : List ℕ) (m : List Bool) (tops : List ℕ) (c : ℕ) (s
   pub lowered_same : lowered' ≡ lowered
   pub stands : member m c ≡ true → get_or s (2 * conditions_of a + 2 * c) 0 ≤ get_or tops c 0
 
-abbrev pub LoweredTop : (a users : List ℕ) (m : List Bool) (tops : List ℕ) (c : ℕ) (s s' look look' lowered lowered' : List ℕ) (fell : Bool) → Type 0
-LoweredTop a users m tops c s s' look look' lowered lowered' fell =
-    KeptTop a m tops c s s' look look' lowered lowered' fell ⊎ FellTop a users m tops c s s' look look' lowered lowered' fell
+abbrev pub LoweredTop : (a : List ℕ) (indexed : Bool) (m : List Bool) (tops : List ℕ) (c : ℕ) (s s' look look' lowered lowered' : List ℕ) (fell : Bool) → Type 0
+LoweredTop a indexed m tops c s s' look look' lowered lowered' fell =
+    KeptTop a m tops c s s' look look' lowered lowered' fell ⊎ FellTop a indexed m tops c s s' look look' lowered lowered' fell
 
 -- what lowering asks
-pub record LowerReady (a users : List ℕ) (m : List Bool) (tops s look lowered : List ℕ) : Type 0 where
-  pub page_solvable : solvable a ≡ true
-  pub users_in : MaybeUsers a users
+pub record LowerReady (a : List ℕ) (m : List Bool) (tops s look lowered : List ℕ) : Type 0 where
   pub long : 4 * conditions_of a ≤ length s
   pub marked : conditions_of a ≤ length m
   pub known : conditions_of a ≤ length tops
@@ -191,8 +184,8 @@ pub record Lowered (a : List ℕ) (m : List Bool) (tops s s' look look' lowered 
   pub one : fell ≡ true → (c : ℕ) × (c < conditions_of a) × (has lowered c ≡ true)
 
 -- without an index everybody reached is looked at, or nobody
-abbrev pub Whole : (users : List ℕ) (n : ℕ) (m : List Bool) (look : List ℕ) → Type 0
-Whole users n m look = length users ≡ 0 → MarkedWait n m look ⊎ Nobody look
+abbrev pub Whole : (indexed : Bool) (n : ℕ) (m : List Bool) (look : List ℕ) → Type 0
+Whole indexed n m look = indexed ≡ false → MarkedWait n m look ⊎ Nobody look
 
 -- everybody reached is looked at, or no high end fell and every negation is fresh: no low end that a rule negates is another next
 abbrev pub LookedAgain : (a : List ℕ) (m : List Bool) (s look look' : List ℕ) (fell : Bool) → Type 0
@@ -208,12 +201,12 @@ pub record NotFree (a : List ℕ) (c : ℕ) (s s' look look' lowered lowered' : 
   pub bound : free_at a c ≡ false
 
 -- .. or c is free, and its high end falls or stays
-abbrev pub LoweredFree : (a users : List ℕ) (m : List Bool) (tops : List ℕ) (c : ℕ) (s s' look look' lowered lowered' : List ℕ) (fell : Bool) → Type 0
-LoweredFree a users m tops c s s' look look' lowered lowered' fell =
-    NotFree a c s s' look look' lowered lowered' fell ⊎ ((free_at a c ≡ true) × LoweredTop a users m tops c s s' look look' lowered lowered' fell)
+abbrev pub LoweredFree : (a : List ℕ) (indexed : Bool) (m : List Bool) (tops : List ℕ) (c : ℕ) (s s' look look' lowered lowered' : List ℕ) (fell : Bool) → Type 0
+LoweredFree a indexed m tops c s s' look look' lowered lowered' fell =
+    NotFree a c s s' look look' lowered lowered' fell ⊎ ((free_at a c ≡ true) × LoweredTop a indexed m tops c s s' look look' lowered lowered' fell)
 
 -- the high ends of the free conditions fell where their entries are lower; with an index whoever names such a one plainly is looked at
-pub record FreeLowered (a users : List ℕ) (m : List Bool) (tops s s' look look' lowered : List ℕ) (fell : Bool) : Type 0 where
+pub record FreeLowered (a : List ℕ) (indexed : Bool) (m : List Bool) (tops s s' look look' lowered : List ℕ) (fell : Bool) : Type 0 where
   pub same_length : length s' ≡ length s
   pub table : (i : ℕ) → i < 2 * conditions_of a → get_or s' i 0 ≡ get_or s i 0
   pub negations : (c : ℕ) → c < conditions_of a → get_or s' (2 * conditions_of a + (2 * c + 1)) 0 ≡ get_or s (2 * conditions_of a + (2 * c + 1)) 0
@@ -222,15 +215,13 @@ pub record FreeLowered (a users : List ℕ) (m : List Bool) (tops s s' look look
   pub lowered_in : WaitSet (conditions_of a) lowered
   pub each : (c : ℕ) → c < conditions_of a → StaysAt a s s' lowered c ⊎ (FallsAt a m tops s s' lowered c × (free_at a c ≡ true))
   pub stands : (c : ℕ) → c < conditions_of a → member m c ≡ true → free_at a c ≡ true → get_or s' (2 * conditions_of a + 2 * c) 0 ≤ get_or tops c 0
-  pub woken : (length users ≡ 0) ⊎ ((c : ℕ) → c < conditions_of a → has lowered c ≡ true → (h : ℕ) → lines_read (2 * c) (page_of a).lines h ≡ true → has look' h ≡ true)
-  pub look_same : length users ≡ 0 → look' ≡ look
+  pub woken : (indexed ≡ false) ⊎ ((c : ℕ) → c < conditions_of a → has lowered c ≡ true → (h : ℕ) → lines_read (2 * c) (page_of a).lines h ≡ true → has look' h ≡ true)
+  pub look_same : indexed ≡ false → look' ≡ look
   pub none : fell ≡ false → (c : ℕ) → c < conditions_of a → has lowered c ≡ false
   pub one : fell ≡ true → (c : ℕ) × (c < conditions_of a) × (has lowered c ≡ true)
 
 -- what taking over the next high ends asks
-pub record HighsReady (a users : List ℕ) (m : List Bool) (tops s look lows : List ℕ) : Type 0 where
-  pub page_solvable : solvable a ≡ true
-  pub users_in : MaybeUsers a users
+pub record HighsReady (a : List ℕ) (m : List Bool) (tops s look lows : List ℕ) : Type 0 where
   pub long : 4 * conditions_of a ≤ length s
   pub marked : conditions_of a ≤ length m
   pub known : conditions_of a ≤ length tops
@@ -251,14 +242,14 @@ pub record HighFalls (a : List ℕ) (m : List Bool) (tops s s' : List ℕ) (c : 
   pub fallen : get_or s' (2 * conditions_of a + 2 * c) 0 ≡ get_or tops c 0
 
 -- with an index whoever reads a literal of a condition whose high end fell is in the set
-abbrev pub WokenByFall : (a users s s' : List ℕ) → (ℕ → ℕ) → List ℕ → Type 0
-WokenByFall a users s s' code words =
-    (length users ≡ 0)
+abbrev pub WokenByFall : (a : List ℕ) (indexed : Bool) (s s' : List ℕ) → (ℕ → ℕ) → List ℕ → Type 0
+WokenByFall a indexed s s' code words =
+    (indexed ≡ false)
     ⊎ ((c : ℕ) → c < conditions_of a → get_or s' (2 * conditions_of a + 2 * c) 0 ≢ get_or s (2 * conditions_of a + 2 * c) 0 → (h : ℕ) → lines_read (code c) (page_of a).lines h ≡ true → has words h ≡ true)
 
 -- the next high ends of the free conditions are taken over, with their negations; whoever negates such a one waits, and whoever names it
 -- plainly is looked at
-pub record HighsTaken (a users : List ℕ) (m : List Bool) (tops s s' lows' look look' : List ℕ) (fell : Bool) : Type 0 where
+pub record HighsTaken (a : List ℕ) (indexed : Bool) (m : List Bool) (tops s s' lows' look look' : List ℕ) (fell : Bool) : Type 0 where
   pub same_length : length s' ≡ length s
   pub lows : (c : ℕ) → c < conditions_of a → get_or s' (2 * c) 0 ≡ get_or s (2 * c) 0
   pub negations : (c : ℕ) → c < conditions_of a → get_or s' (2 * conditions_of a + (2 * c + 1)) 0 ≡ get_or s (2 * conditions_of a + (2 * c + 1)) 0
@@ -267,16 +258,14 @@ pub record HighsTaken (a users : List ℕ) (m : List Bool) (tops s s' lows' look
   pub lows_in : WaitSet (conditions_of a) lows'
   pub look_in : WaitSet (conditions_of a) look'
   pub each : (c : ℕ) → c < conditions_of a → HighStays a m tops s s' c ⊎ HighFalls a m tops s s' c
-  pub lows_woken : WokenByFall a users s s' (λ c. 2 * c + 1) lows'
-  pub look_woken : WokenByFall a users s s' (λ c. 2 * c) look'
-  pub look_same : length users ≡ 0 → look' ≡ look
+  pub lows_woken : WokenByFall a indexed s s' (λ c. 2 * c + 1) lows'
+  pub look_woken : WokenByFall a indexed s s' (λ c. 2 * c) look'
+  pub look_same : indexed ≡ false → look' ≡ look
   pub none : fell ≡ false → (c : ℕ) → c < conditions_of a → get_or s' (2 * conditions_of a + 2 * c) 0 ≡ get_or s (2 * conditions_of a + 2 * c) 0
   pub one : fell ≡ true → (c : ℕ) × (c < conditions_of a) × HighFalls a m tops s s' c
 
 -- what the negations of the lowered conditions ask: all others have their numbers already
-pub record FollowReady (a users s lowered lows : List ℕ) : Type 0 where
-  pub page_solvable : solvable a ≡ true
-  pub users_in : MaybeUsers a users
+pub record FollowReady (a s lowered lows : List ℕ) : Type 0 where
   pub long : 4 * conditions_of a ≤ length s
   pub within : (c : ℕ) → c < conditions_of a → get_or s (2 * conditions_of a + 2 * c) 0 ≤ top_of a
   pub lowered_in : WaitSet (conditions_of a) lowered

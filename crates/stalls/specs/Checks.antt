@@ -22,13 +22,13 @@ pub record Refuses (a area : List ℕ) (e : Refusal) : Type 0 where
   pub turn_leaves : (b : ℕ) → area ≡ (turn_of a area b).area
 
 -- 10 and 60
-abbrev pub SharedChecked : {U : Type 0} → List ℕ → List ℕ → Result U Refusal → Type 0
-SharedChecked a area (Ok u) = (sound a ≡ true) × (shared_length (page_of a) ≤ length area)
+abbrev pub SharedChecked : List ℕ → List ℕ → Result (List ℕ) Refusal → Type 0
+SharedChecked a area (Ok page) = (page ≡ a) × (sound a ≡ true) × (shared_length (page_of a) ≤ length area)
 SharedChecked a area (Err e) = Refuses a area e
 
 -- the same, with where the part of a stall begins
-abbrev pub PartPlaced : List ℕ → Stall → List ℕ → Result ℕ Refusal → Type 0
-PartPlaced a s area (Ok at) = (sound a ≡ true) × (shared_length (page_of a) ≤ length area) × (at ≡ beginning (page_of a) (stall_of s))
+abbrev pub PartPlaced : List ℕ → Stall → List ℕ → Result (List ℕ × ℕ) Refusal → Type 0
+PartPlaced a s area (Ok (page, at)) = (page ≡ a) × (sound a ≡ true) × (shared_length (page_of a) ≤ length area) × (at ≡ beginning (page_of a) (stall_of s))
 PartPlaced a s area (Err e) = Refuses a area e
 
 -- 14, with the stall

@@ -10,6 +10,7 @@ ghost use Rattle.run.specs.Answers.{Answered, evaluate_answer_of};
 ghost use Rattle.stalls.specs.Answers.{stall_of, number_of_stall, turned_of, turn_answer_of, PartDrives};
 ghost use Rattle.stalls.specs.Checks.{SharedChecked, PartPlaced, PartChecked};
 
+use page::Page;
 use reach::Opened;
 use refusal::Refusal;
 use run::{Counted, Told};
@@ -34,35 +35,35 @@ impl Stall {
 }
 
 // Where the run of a stall begins in the shared area: the second at 3 × C.
-fn beginning(page: &[u16], stall: Stall) -> usize
-    requires { sound page.now ≡ true }
+fn beginning(page: &Page, stall: Stall) -> usize
     ensures { result ≡ Stalls·beginning (page_of page.now) (stall_of stall) }
 {
     match stall {
         Stall::First => 0,
-        Stall::Second => 3 * page[1] as usize,
+        Stall::Second => 3 * page.conditions() as usize,
     }
 }
 
 // 10 page area not sound, 60 shared area shorter than 6 × C.
-fn check_shared(page: &[u16], area: &[u16]) -> Result<(), Refusal>
+fn check_shared<'a>(page: &'a [u16], area: &[u16]) -> Result<Page<'a>, Refusal>
     ensures { SharedChecked page.now area.now result }
 {
-    if !page::page_sound(page) {
+    let Some(page) = Page::of(page) else {
         return Err(Refusal::PageNotSound);
-    }
-    if area.len() < 6 * page[1] as usize {
+    };
+    if area.len() < 6 * page.conditions() as usize {
         return Err(Refusal::SharedShort);
     }
-    Ok(())
+    Ok(page)
 }
 
-// Where the part of a stall begins: 10 or 60.
-fn part_at(page: &[u16], stall: Stall, area: &[u16]) -> Result<usize, Refusal>
+// The page, and where the part of a stall begins: 10 or 60.
+fn part_at<'a>(page: &'a [u16], stall: Stall, area: &[u16]) -> Result<(Page<'a>, usize), Refusal>
     ensures { PartPlaced page.now stall area.now result }
 {
-    check_shared(page, area)?;
-    Ok(beginning(page, stall))
+    let page = check_shared(page, area)?;
+    let at = beginning(&page, stall);
+    Ok((page, at))
 }
 
 // Open the run of one stall: 10, 60, then as on its part alone.
@@ -75,8 +76,8 @@ pub fn open_stall(
     ensures answer { opening_of result ≡ (open_stall page.now (stall_of stall) queries.now area.old).answer }
     ensures left { area.new ≡ (open_stall page.now (stall_of stall) queries.now area.old).run }
 {
-    let at = part_at(page, stall, area)?;
-    reach::open_sound(page, queries, &mut area[at..])
+    let (page, at) = part_at(page, stall, area)?;
+    reach::open_sound(&page, queries, &mut area[at..])
 }
 
 // Evaluate a condition of one stall: 10, 60, then as on its part alone.
@@ -88,12 +89,12 @@ pub fn evaluate_stall(
 ) -> Result<Told, Refusal>
     ensures { Answered (evaluate_stall page.now (stall_of stall) area.old condition) (evaluate_answer_of result) area.new }
 {
-    let at = part_at(page, stall, area)?;
-    run::evaluate_sound(page, &mut area[at..], condition)
+    let (page, at) = part_at(page, stall, area)?;
+    run::evaluate_sound(&page, &mut area[at..], condition)
 }
 
 // A drive of one stall's part.
-fn drive_part(page: &[u16], stall: Stall, area: &mut [u16], allowance: u32) -> Counted
+fn drive_part(page: &Page, stall: Stall, area: &mut [u16], allowance: u32) -> Counted
     requires { (sound page.now ≡ true) × (shared_length (page_of page.now) ≤ length area.old) × (run_sound (page_of page.now) (part_of (page_of page.now) (stall_of stall) area.old) ≡ true) }
     ensures { PartDrives page.now (stall_of stall) area.old allowance result.taken result.rest area.new }
 {
@@ -124,7 +125,7 @@ impl From<Refusal> for TurnError {
 }
 
 // 14 the part of a stall is not sound.
-fn check_part(page: &[u16], stall: Stall, area: &[u16]) -> Result<(), TurnError>
+fn check_part(page: &Page, stall: Stall, area: &[u16]) -> Result<(), TurnError>
     requires { (sound page.now ≡ true) × (shared_length (page_of page.now) ≤ length area.now) }
     ensures { PartChecked page.now stall area.now result }
 {
@@ -139,7 +140,7 @@ fn check_part(page: &[u16], stall: Stall, area: &[u16]) -> Result<(), TurnError>
 }
 
 // A turn that nothing refuses: the first stall its half, the second its half and what the first left of its own, the first what then remains.
-fn turn_sound(page: &[u16], area: &mut [u16], allowance: u32) -> Turned
+fn turn_sound(page: &Page, area: &mut [u16], allowance: u32) -> Turned
     requires { (sound page.now ≡ true) × (shared_length (page_of page.now) ≤ length area.old) × (run_sound (page_of page.now) (part_of (page_of page.now) first area.old) ≡ true) × (run_sound (page_of page.now) (part_of (page_of page.now) second area.old) ≡ true) }
     ensures answer { turned_of result ≡ (turn_of page.now area.old allowance).answer }
     ensures left { area.new ≡ (turn_of page.now area.old allowance).area }
@@ -162,8 +163,8 @@ pub fn turn(page: &[u16], area: &mut [u16], allowance: u32) -> Result<Turned, Tu
     ensures answer { turn_answer_of result ≡ (turn_of page.now area.old allowance).answer }
     ensures left { area.new ≡ (turn_of page.now area.old allowance).area }
 {
-    check_shared(page, area)?;
-    check_part(page, Stall::First, area)?;
-    check_part(page, Stall::Second, area)?;
-    Ok(turn_sound(page, area, allowance))
+    let page = check_shared(page, area)?;
+    check_part(&page, Stall::First, area)?;
+    check_part(&page, Stall::Second, area)?;
+    Ok(turn_sound(&page, area, allowance))
 }

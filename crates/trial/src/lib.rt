@@ -11,6 +11,7 @@ ghost use Rattle.print.specs.Texts.{Room};
 ghost use Rattle.trial.specs.Parts.{list_left, ListIn, ReadAs, BegunAs, TrialEnd, GivesTrial, TrialPut};
 
 use answers::{Solved, put_refusal, put_top};
+use page::Page;
 use print::Text;
 
 // Why nothing is tried: the number of the refusal of the page or of the list, and the line that it tells.
@@ -127,17 +128,18 @@ impl<'a> Iterator for Trials<'a> {
 }
 
 // The answers of a trial, on the page that its lines change; answers how many they are. Both readings of that page are solved once.
-pub fn answer_trial(page: &[u16], lines: &[u16], text: &mut Text<'_>) -> u16
+pub fn answer_trial(page: &Page, lines: &[u16], text: &mut Text<'_>) -> u16
     requires { (sound page.now ≡ true) × ListIn (top_of page.now) (conditions_of page.now) lines.now (length lines.now / 4) × (4 ≤ length lines.now) × Room text.old 27648 }
     ensures { TrialPut (page_of page.now) lines.now text.old text.new result }
 {
     let mut area = [0u16; 14852];
     change::change(page, lines, &mut area);
+    let changed = Page { numbers: &area };
     let mut plain = [0u16; 3072];
     let mut closed = [0u16; 3072];
-    solve::solve(&area, &mut plain, &mut closed, false);
+    solve::solve(&changed, &mut plain, &mut closed, false);
     let solved = Solved {
-        page: &area,
+        page: &changed,
         plain: &plain,
         closed: &closed,
     };

@@ -9,12 +9,13 @@ ghost use Rattle.trial.specs.Parts.{ListIn};
 mod input;
 
 use input::read_file;
+use page::Page;
 use print::Text;
 use std::io;
 use trial::Trials;
 
 // Prints the answers of each trial of the list and the last line.
-fn print_trials(rt: &impl Print, page: &[u16], list: &[u16], out: &mut [u8]) -> io::Result<()>
+fn print_trials(rt: &impl Print, page: &Page, list: &[u16], out: &mut [u8]) -> io::Result<()>
     requires { (sound page.now ≡ true) × ListIn (top_of page.now) (conditions_of page.now) list.now (length list.now / 4) × (27648 ≤ length out.old) }
 {
     let mut count: u32 = 0;
@@ -33,14 +34,17 @@ fn main(rt: HostRuntime) -> io::Result<()> {
     let n = read_file(&rt, b"page", &mut text);
     let mut bytes = [0u8; 65536];
     let m = read_file(&rt, b"trials", &mut bytes);
-    let mut page = [0u16; 12804];
+    let mut area = [0u16; 12804];
     let mut list = [0u16; 4096];
     let mut out = [0u8; 27648];
     let mut first = Text::new(&mut out);
-    let begun = trial::begin(&text[..n], &bytes[..m], &mut page, &mut list, &mut first);
+    let begun = trial::begin(&text[..n], &bytes[..m], &mut area, &mut list, &mut first);
     rt.write_all(first.written())?;
     match begun {
-        Ok(lines) => print_trials(&rt, &page, &list[..4 * lines], &mut out),
+        Ok(lines) => {
+            let page = Page { numbers: &area };
+            print_trials(&rt, &page, &list[..4 * lines], &mut out)
+        }
         Err(_) => Ok(()),
     }
 }

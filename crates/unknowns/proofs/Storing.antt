@@ -27,7 +27,7 @@ module _ (a : List ℕ) (m : List Bool) where
       }
 
   pub places_on : {next next' : List ℕ} → Places a m next → Steady a m next next' → Places a m next'
-  places_on p v = record { page_solvable = p.page_solvable; marked = p.marked; long = omega (arith, p.long, v.same_length) }
+  places_on p v = record { marked = p.marked; long = omega (arith, p.long, v.same_length) }
 
 -- the conditions before c have what f makes of their entry
 module _ (a : List ℕ) (m : List Bool) (f : ℕ → ℕ → ℕ) (next₀ : List ℕ) where

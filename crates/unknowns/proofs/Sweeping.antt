@@ -15,6 +15,7 @@ use Rattle.semantics.specs.Body.{line_body}
 use Rattle.semantics.specs.Grade.{upper}
 use Rattle.page.specs.Lines.{step_at, Next}
 use Rattle.page.specs.Places.{place_of, LineIn, LineOf}
+use Rattle.page.proofs.LineNumbers.{line_in}
 use Rattle.value.specs.Table.{EndTable}
 use Rattle.settle.proofs.Raising.{line_head}
 use Rattle.unknowns.specs.NextHighs.{sought, Places, Steady, TakenLine, PassedLine, Looked, Above, Swept}
@@ -23,7 +24,7 @@ use Rattle.page.specs.Solvable.{solvable}
 
 -- the head of an F or R line is a condition
 pub head_below : (a : List ℕ) → solvable a ≡ true → {c at : ℕ} → LineOf a c at → get_or a at 0 < conditions_of a
-head_below a ok o = line_head a ok (record { number = o.number; in_count = o.in_count; place = o.place })
+head_below a ok o = line_head a ok (line_in o)
 
 -- the places of the lines before line k
 abbrev pub Passed : List ℕ → ℕ → ℕ → Type 0
@@ -60,6 +61,7 @@ module _ (a : List ℕ) (I : Assign) {Seen : ℕ → Type 0} {c x at : ℕ} (h :
 
 module _ (a : List ℕ) (m : List Bool) (values next₀ : List ℕ) where
   pub record Sweeping (next : List ℕ) (at k : ℕ) : Type 0 where
+    pub sound : solvable a ≡ true
     pub places : Places a m next₀
     pub place : at ≡ place_of a k
     pub within : k ≤ count_of a
@@ -67,11 +69,12 @@ module _ (a : List ℕ) (m : List Bool) (values next₀ : List ℕ) where
     pub above : (I : Assign) → EndTable upper (top_of a) (conditions_of a) I values → (c : ℕ) → c < conditions_of a → sought a m c ≡ true → get_or next₀ c 0 ≡ 0
         → Above a I (Passed a k) c (get_or next c 0)
 
-  pub sweeping_first : Places a m next₀ → {at k : ℕ} → (at ≡ first_line a) × (k ≡ 0) → Sweeping next₀ at k
+  pub sweeping_first : solvable a ≡ true → Places a m next₀ → {at k : ℕ} → (at ≡ first_line a) × (k ≡ 0) → Sweeping next₀ at k
   unfolding place_of
-  sweeping_first p q =
+  sweeping_first ok p q =
       rw q.1
       (record {
+        sound = ok;
         places = p;
         place = q.0;
         within = omega arith;
@@ -84,7 +87,7 @@ module _ (a : List ℕ) (m : List Bool) (values next₀ : List ℕ) where
     here = record { number = k; in_count = l; place = v.place }
 
     real : get_or a at 0 < conditions_of a
-    real = line_head a v.places.page_solvable here
+    real = line_head a v.sound here
 
     module _ {at' k' : ℕ} (g : Next a at k at' k') where
       place' : at' ≡ place_of a k'
@@ -98,6 +101,7 @@ module _ (a : List ℕ) (m : List Bool) (values next₀ : List ℕ) where
       passed {next'} t =
           rw t.same
           (record {
+            sound = v.sound;
             places = v.places;
             place = place';
             within = omega (arith, g.count);
@@ -128,6 +132,7 @@ module _ (a : List ℕ) (m : List Bool) (values next₀ : List ℕ) where
         taken : Sweeping next' at' k'
         taken =
             record {
+              sound = v.sound;
               places = v.places;
               place = place';
               within = omega (arith, g.count);

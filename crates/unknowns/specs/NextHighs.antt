@@ -9,15 +9,13 @@ use Rattle.page.specs.Places.{LineOf}
 use Rattle.value.specs.Table.{EndTable}
 use Rattle.value.specs.LineEnds.{LineEnd}
 use Rattle.settle.specs.Scratch.{held}
-use Rattle.page.specs.Solvable.{solvable}
 
 -- c is reached and unknown by default
 abbrev pub sought : List ℕ → List Bool → ℕ → Bool
 sought a m c = member m c && unknown_by_default (page_of a) c
 
--- a sound page, with a mark and an entry for each condition
+-- a mark and an entry for each condition
 pub record Places (a : List ℕ) (m : List Bool) (next : List ℕ) : Type 0 where
-  pub page_solvable : solvable a ≡ true
   pub marked : conditions_of a ≤ length m
   pub long : conditions_of a ≤ length next
 

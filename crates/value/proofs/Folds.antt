@@ -18,14 +18,8 @@ module _ (f : ℕ → ℕ → ℕ) (codes values : List ℕ) (first : ℕ) where
     pub within : j ≤ length codes
     pub is : foldl f first (numbers_of values codes) ≡ foldl f r (numbers_of values (drop j codes))
 
-  pub folding_first : Folding first 0
-  folding_first = record { within = omega arith; is = refl }
-
   pub folding_next : {r j r' : ℕ} → Folding r j → j < length codes → r' ≡ f r (get_or values (get_or codes j 0) 0) → Folding r' (j + 1)
   folding_next {r} {j} s l h = record { within = omega arith; is = s.is ∙ rw (add-one, drop-cons codes j 0 l, h) }
-
-  pub folding_last : {r j : ℕ} → Folding r j → length codes ≤ j → Folded f codes values first r
-  folding_last {r} {j} s l = record { is = sym (s.is ∙ rw (drop_of_length-le codes l)) }
 
 -- the literals from one place up to another, of which one stands at j
 module _ (a : List ℕ) (from to : ℕ) (inside : to ≤ length a) where

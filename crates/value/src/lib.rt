@@ -9,7 +9,8 @@ ghost use Rattle.page.specs.Graded.{RuleAt};
 ghost use Rattle.page.specs.Places.{LineOf};
 ghost use Rattle.value.specs.Table.{side, Grades};
 ghost use Rattle.value.specs.LineEnds.{slice, behind_first, Foldable, Folded, OnGrades, Computes, excess, bounded, product, Adds, EndAdding, RuleEnd, LineEnd};
-ghost use Rattle.page.specs.Solvable.{solvable};
+
+use page::Page;
 
 // An end of an interval.
 #[derive(Clone, Copy)]
@@ -27,12 +28,12 @@ pub struct Ends {
 
 // What a condition without F and R lines has.
 #[tactic(auto, using(crate::proofs::Defaults::bodyless_free, crate::proofs::Defaults::bodyless_kept))]
-pub fn bodyless(a: &[u16], c: u16) -> Ends
-    requires { (solvable a.now ≡ true) × (c < conditions_of a.now) }
-    ensures { record { low = result.low; high = result.high } ≡ bodyless (page_of a.now) c }
+pub fn bodyless(page: &Page, c: u16) -> Ends
+    requires { c < conditions_of page.now }
+    ensures { record { low = result.low; high = result.high } ≡ bodyless (page_of page.now) c }
 {
-    let high = if page::unknown_by_default(a, c) {
-        a[0]
+    let high = if page.unknown_by_default(c) {
+        page.top()
     } else {
         0
     };
@@ -135,10 +136,11 @@ fn fold_by_op(a: &[u16], at: usize, values: &[u16], first: u16, top: u16, add: u
 
 // One end of the value of the rule at `at`: its op over its literals' numbers from left to right, then its weight.
 #[tactic(auto, using(crate::proofs::RuleEnds::code_under))]
-fn rule_end(a: &[u16], at: usize, values: &[u16], add: u16) -> u16
-    requires { (solvable a.now ≡ true) × Grades (top_of a.now) (conditions_of a.now) values.now × RuleAt (top_of a.now) (conditions_of a.now) a.now at × (1 ≤ get_or a.now (at + 1) 0) × (get_or a.now (at + 1) 0 ≤ 5) × Adds (top_of a.now) add }
-    ensures { EndAdding (top_of a.now) add (λ e. RuleEnd e a.now values.now at result) }
+fn rule_end(page: &Page, at: usize, values: &[u16], add: u16) -> u16
+    requires { Grades (top_of page.now) (conditions_of page.now) values.now × RuleAt (top_of page.now) (conditions_of page.now) page.now at × (1 ≤ get_or page.now (at + 1) 0) × (get_or page.now (at + 1) 0 ≤ 5) × Adds (top_of page.now) add }
+    ensures { EndAdding (top_of page.now) add (λ e. RuleEnd e page.now values.now at result) }
 {
+    let a = page.numbers;
     let top = a[0];
     let first = values[a[at + 4] as usize];
     let r = fold_by_op(a, at, values, first, top, add);
@@ -146,16 +148,16 @@ fn rule_end(a: &[u16], at: usize, values: &[u16], add: u16) -> u16
 }
 
 // One end of the value of the F or R line at `at`; `add` is what the end adds before a division.
-pub fn line_end(a: &[u16], at: usize, values: &[u16], end: End, add: u16) -> u16
-    requires { (solvable a.now ≡ true) × Grades (top_of a.now) (conditions_of a.now) values.now × LineOf a.now (get_or a.now at 0) at × (add ≡ rounding (side end) (top_of a.now)) }
-    ensures { LineEnd (side end) a.now values.now at result }
+pub fn line_end(page: &Page, at: usize, values: &[u16], end: End, add: u16) -> u16
+    requires { Grades (top_of page.now) (conditions_of page.now) values.now × LineOf page.now (get_or page.now at 0) at × (add ≡ rounding (side end) (top_of page.now)) }
+    ensures { LineEnd (side end) page.now values.now at result }
 {
-    let k = a[at + 1];
-    match k {
+    let line = page.entry(at);
+    match line.kind {
         0 => match end {
-            End::Lower => a[at + 2],
-            End::Upper => a[at + 3],
+            End::Lower => line.x,
+            End::Upper => line.y,
         },
-        _ => rule_end(a, at, values, add),
+        _ => rule_end(page, at, values, add),
     }
 }

@@ -64,12 +64,15 @@ module _ (a : List ℕ) (c : ℕ) (run₀ : List ℕ) where
         beyond = refl;
       })
 
+  pub marking_long : {run : List ℕ} {at k : ℕ} → Marking run at k → 3 * conditions_of a ≤ length run
+  marking_long s = omega (arith, s.long, s.same_length)
+
   module _ {run : List ℕ} {at k : ℕ} (s : Marking run at k) (l : k < count_of a) where
     -- the head of the entry is a condition
-    pub head_in : get_or a at 0 < conditions_of a
+    head_in : get_or a at 0 < conditions_of a
     head_in = entry_head (top_of a) (conditions_of a) _ a at (entry_ok a s.scan l)
 
-    pub head_fits : 3 * get_or a at 0 + 3 ≤ length run
+    head_fits : 3 * get_or a at 0 + 3 ≤ length run
     head_fits = omega (arith, head_in, s.long, s.same_length)
 
     pub marking_next : {run' : List ℕ} {at' k' : ℕ} → run' ≡ cond (line_names (line_at (drop at a)) c) (marked (get_or a at 0) run) run → Next a at k at' k' → Marking run' at' k'

@@ -16,13 +16,7 @@ use Rattle.semantics.proofs.Table.{all_at, all_true}
 
 -- the tests of a cell, in the code's order
 module _ (top : ℕ) (p : Interval) (mark : ℕ) where
-  pub cell_crossed : p.high < p.low → false ≡ every (cell_tests top p mark)
-  cell_crossed h = rw (lt-leb p.low p.high h)
-
   module _ (o : p.low ≤ p.high) where
-    pub cell_over : top < p.high → false ≡ every (cell_tests top p mark)
-    cell_over h = rw (le-leb p.low p.high o, lt-leb p.high top h)
-
     module _ (i : p.high ≤ top) where
       pub cell_marked : 2 < mark → false ≡ every (cell_tests top p mark)
       cell_marked h = rw (le-leb p.low p.high o, le-leb p.high top i, lt-leb mark 2 h)

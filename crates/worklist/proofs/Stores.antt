@@ -1,5 +1,5 @@
 -- What a store to a cell of a run area leaves in the other numbers. Assumes nothing.
-use mathlib.Core.Path.{◌≡◌, refl, sym, ◌∙◌, ap}
+use mathlib.Core.Path.{◌≡◌, refl, sym}
 use mathlib.Core.Logic.{◌≢◌}
 use mathlib.Core.Bool.{Bool, true, false, cond, ◌&&◌}
 use mathlib.Core.List.{List}
@@ -8,7 +8,7 @@ use native.Mathlib.Decide.{ℕ_discrete}
 use native.Mathlib.Omega.{arith}
 use lib.Dec.{eqb, leb}
 use lib.ListN.{length, set, drop, length-set}
-use lib.Seq.{get_or-set_same, get_or-set_other, set-get_or, drop-set-lt}
+use lib.Seq.{get_or-set_same, get_or-set_other, drop-set-lt}
 use borrow.Author.Tests.{eq-eqb, ne_eqb}
 use Rattle.fixpoint.proofs.KnowledgeOrder.{pair_eq}
 use Rattle.semantics.specs.RunArea.{interval_at, mark_at}
@@ -59,13 +59,3 @@ module _ (t : Bool) (d : ℕ) (run : List ℕ) where
       same true true e = mark_same run d 2 l
       same true false e = refl
       same false s e = refl
-
--- where nothing changes, and where the mark becomes 2
-module _ (d : ℕ) (run : List ℕ) where
-  pub stays_unreached : mark_at run d ≡ 0 → (t : Bool) → run ≡ cond t (marked d run) run
-  stays_unreached e true = rw e
-  stays_unreached e false = refl
-
-  pub stays_waiting : mark_at run d ≡ 2 → (t : Bool) → run ≡ cond t (marked d run) run
-  stays_waiting e true = rw e (sym (set-get_or run (3 * d + 2) 0) ∙ ap (set run (3 * d + 2)) e)
-  stays_waiting e false = refl

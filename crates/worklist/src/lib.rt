@@ -4,16 +4,17 @@
 ghost use Rattle.std.specs.Prelude.{◌≡◌, true, cond, ℕ, ◌≤◌, ◌+◌, ◌<◌, ◌*◌, length, get_or, drop};
 ghost use Rattle.semantics.specs.Area.{page_of, conditions_of, every, line_at};
 ghost use Rattle.semantics.specs.RunArea.{interval_at, mark_at, cell_tests, run_sound};
-ghost use Rattle.page.specs.Lines.{EntryIn, line_names};
-ghost use Rattle.index.specs.Parts.{MaybeUsers};
+ghost use Rattle.page.specs.Lines.{line_names};
+ghost use Rattle.page.specs.Places.{LineIn};
 ghost use Rattle.worklist.specs.Cells.{Lowest, DependantsMarked};
 ghost use Rattle.worklist.specs.Waiting.{WordsMatch, StillMatches, Digits};
 ghost use Rattle.worklist.specs.Woken.{HeadsIn, HeadsWoken, SetKept};
 ghost use Rattle.worklist.specs.Marks.{marked};
 ghost use Rattle.worklist.specs.Evaluation.{stored};
-ghost use Rattle.page.specs.Solvable.{solvable};
 
 use bits::Set;
+use index::Source;
+use page::Page;
 
 // Whether the cell of c (low, high, mark) is sound.
 fn cell_ok(run: &[u16], c: u16, top: u16) -> bool
@@ -33,12 +34,11 @@ fn cell_ok(run: &[u16], c: u16, top: u16) -> bool
 }
 
 // Whether a run area is long enough and sound.
-pub fn run_sound(a: &[u16], run: &[u16]) -> bool
-    requires { solvable a.now ≡ true }
-    ensures { result ≡ run_sound (page_of a.now) run.now }
+pub fn run_sound(page: &Page, run: &[u16]) -> bool
+    ensures { result ≡ run_sound (page_of page.now) run.now }
 {
-    let top = a[0];
-    let n = a[1];
+    let top = page.top();
+    let n = page.conditions();
     if run.len() < 3 * n as usize {
         return false;
     }
@@ -91,38 +91,39 @@ pub fn waiting_set(run: &[u16], n: u16) -> Set
     Set::from(words)
 }
 
-// The head of the entry at `at` waits if the entry is a rule that names c and the head is reached. A head that is not reached
+// The head of the line at `at` waits if the line is a rule that names c and the head is reached. A head that is not reached
 // or that waits already stays as it is, so its literals are not looked at.
-fn wake_head(a: &[u16], at: usize, run: &mut [u16], waiting: &mut Set, c: u16)
-    requires { EntryIn a.now at × (3 * get_or a.now at 0 + 3 ≤ length run.old) × (get_or a.now at 0 < 512) }
-    ensures marks { run.new ≡ cond (line_names (line_at (drop at a.now)) c) (marked (get_or a.now at 0) run.old) run.old }
-    ensures set { (n : ℕ) → get_or a.now at 0 < n → StillMatches n run.old waiting.old.words run.new waiting.new.words }
+fn wake_head(page: &Page, at: usize, run: &mut [u16], waiting: &mut Set, c: u16)
+    requires { LineIn page.now at × (3 * conditions_of page.now ≤ length run.old) }
+    ensures marks { run.new ≡ cond (line_names (line_at (drop at page.now)) c) (marked (get_or page.now at 0) run.old) run.old }
+    ensures set { StillMatches (conditions_of page.now) run.old waiting.old.words run.new waiting.new.words }
 {
-    let h = a[at];
+    let line = page.entry(at);
+    let h = line.condition;
     let place = 3 * h as usize + 2;
     let mark = run[place];
-    if mark != 2 && mark != 0 && page::line_names(a, at, c) {
+    if mark != 2 && mark != 0 && page.line_names(at, c) {
         run[place] = 2;
         waiting.insert(h);
     }
 }
 
 // Every reached condition with a rule that names c waits, and the set follows: by a scan of the page.
-fn wake_by_scan(a: &[u16], run: &mut [u16], waiting: &mut Set, c: u16)
-    requires { (solvable a.now ≡ true) × (3 * conditions_of a.now ≤ length run.old) }
-    ensures { DependantsMarked (page_of a.now) c run.old run.new × StillMatches (conditions_of a.now) run.old waiting.old.words run.new waiting.new.words }
+fn wake_by_scan(page: &Page, run: &mut [u16], waiting: &mut Set, c: u16)
+    requires { 3 * conditions_of page.now ≤ length run.old }
+    ensures { DependantsMarked (page_of page.now) c run.old run.new × StillMatches (conditions_of page.now) run.old waiting.old.words run.new waiting.new.words }
 {
-    for at in page::Lines::of(a) {
-        wake_head(a, at, run, waiting, c);
+    for at in page.lines() {
+        wake_head(page, at, run, waiting, c);
     }
 }
 
-// Every reached condition among heads[from..to) waits, and the set follows.
-fn wake_group(run: &mut [u16], waiting: &mut Set, heads: &[u16], from: usize, to: usize)
-    requires { HeadsIn heads.now from to run.old }
-    ensures { HeadsWoken heads.now from to run.old run.new × SetKept heads.now from to run.old waiting.old.words run.new waiting.new.words }
+// Every reached condition among the heads waits, and the set follows.
+fn wake_heads(run: &mut [u16], waiting: &mut Set, heads: &[u16])
+    requires { HeadsIn heads.now run.old }
+    ensures { HeadsWoken heads.now (length heads.now) run.old run.new × SetKept heads.now (length heads.now) run.old waiting.old.words run.new waiting.new.words }
 {
-    for &h in &heads[from..to] {
+    for &h in heads {
         let at = 3 * h as usize + 2;
         let mark = run[at];
         if mark != 2 && mark != 0 {
@@ -133,21 +134,14 @@ fn wake_group(run: &mut [u16], waiting: &mut Set, heads: &[u16], from: usize, to
 }
 
 // Every reached condition with a rule that names c waits, and the set follows: by the dependants of the index, or by a scan where there is none.
-pub fn wake_dependants(a: &[u16], users: &[u16], run: &mut [u16], waiting: &mut Set, c: u16)
-    requires { (solvable a.now ≡ true) × MaybeUsers a.now users.now × (3 * conditions_of a.now ≤ length run.old) × (c < conditions_of a.now) }
-    ensures { DependantsMarked (page_of a.now) c run.old run.new × StillMatches (conditions_of a.now) run.old waiting.old.words run.new waiting.new.words }
+pub fn wake_dependants(source: &Source, run: &mut [u16], waiting: &mut Set, c: u16)
+    requires { (3 * conditions_of source.now.area ≤ length run.old) × (c < conditions_of source.now.area) }
+    ensures { DependantsMarked (page_of source.now.area) c run.old run.new × StillMatches (conditions_of source.now.area) run.old waiting.old.words run.new waiting.new.words }
 {
-    if users.is_empty() {
-        wake_by_scan(a, run, waiting, c);
-        return;
+    match source.dependants_of(c) {
+        Some(heads) => wake_heads(run, waiting, heads),
+        None => wake_by_scan(source.page, run, waiting, c),
     }
-    let base = 2 * a[1] as usize + 1;
-    let start = &users[0..base];
-    let heads = &users[base..];
-    let t = 2 * c as usize;
-    let from = start[t] as usize;
-    let to = start[t + 2] as usize;
-    wake_group(run, waiting, heads, from, to);
 }
 
 // The cell of c becomes low, high, mark.

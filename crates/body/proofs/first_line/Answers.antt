@@ -5,39 +5,41 @@ use native.Mathlib.Omega.{arith}
 use Rattle.page.proofs.Head.{head_of}
 use Rattle.page.proofs.Steps.{stepped, passed_all}
 use Rattle.body.proofs.Searching.{searching_first, searching_none, line_here, searching_found, searching_next, low_of_none}
-use Rattle.body.proofs.first_line.Goals.{else-a-at-via-then-a-at+else-has_low, else-a-at-via-else-a-at}
+use Rattle.body.proofs.first_line.Goals.{else-line-c-via-then-line-c+else-has_low, else-line-c-via-else-line-c}
 use Rattle.body.proofs.first_line.Goals as goal
 
 pub loop-at-init : goal.loop-at-init
-loop-at-init c = let b = c.of-lines.ensures in (b.same, searching_first _ _ _ _ (b.place, b.count))
+loop-at-init c = let b = c.lines-lines.ensures.scan in (b.same, searching_first _ _ _ _ (b.place, b.count))
+
+pub entry-line-requires : goal.entry-line-requires
+entry-line-requires c = (stepped c.loop-at.invariant.0 (rw c.in-Some.is at c.next.ensures.steps)).line
 
 pub has_low-requires : goal.has_low-requires
-has_low-requires c =
-    let i = c.loop-at.invariant in
-    let s = stepped i.0 (rw c.in-Some.is at c.next.ensures.steps) in
-    rw s.here (c.requires.0, c.requires.1, line_here _ _ _ _ c.requires.0 i.1 s.more)
+has_low-requires c = (c.requires, (stepped c.loop-at.invariant.0 (rw c.in-Some.is at c.next.ensures.steps)).line)
 
 pub overflow_add-result : goal.overflow_add-result
 overflow_add-result c =
     let s = stepped c.loop-at.invariant.0 (rw c.in-Some.is at c.next.ensures.steps) in
-    omega (arith, s.more, s.next.count, head_of c.args.a.now c.requires.0)
+    omega (arith, s.more, s.next.count, head_of c.args.page.now c.entry-line.ensures.sound)
 
 pub returns-then-has_low : goal.returns-then-has_low
 returns-then-has_low c =
     let i = c.loop-at.invariant in
+    let e = c.entry-line.ensures in
     let s = stepped i.0 (rw c.in-Some.is at c.next.ensures.steps) in
     let z : c.loop-at.lines.passed + 2 ≡ c.next.new.self.passed + 1 = omega (arith, s.next.count) in
-    rw z at (searching_found _ _ _ _ c.requires.0 i.1 s.more (λ I t. sym c.if-has_low.true ∙ rw (c.if-a-at.true, s.here) at (c.has_low.ensures I t)))
+    rw z at (searching_found _ _ _ _ e.sound i.1 s.more (λ I t. sym c.if-has_low.true ∙ rw (sym e.value.condition_is ∙ c.if-line-c.true, s.here) at (c.has_low.ensures I t)))
 
 pub loop-at-preserved : goal.loop-at-preserved
 loop-at-preserved c =
     let i = c.loop-at.invariant in
+    let e = c.entry-line.ensures in
     let s = stepped i.0 (rw c.in-Some.is at c.next.ensures.steps) in (
       s.same,
-      searching_next _ _ _ _ c.requires.0 i.1 s.more
-          (elim c.else-a-at.branch [
-            | else-a-at-via-then-a-at+else-has_low w ↦ λ I t. sym w.if-has_low.false ∙ rw (w.if-a-at.true, s.here) at (w.has_low.ensures I t)
-            | else-a-at-via-else-a-at w ↦ λ I t. low_of_none _ _ (line_here _ _ _ _ c.requires.0 i.1 s.more) _ I (λ e b. w.if-a-at.false (rw s.here e))
+      searching_next _ _ _ _ e.sound i.1 s.more
+          (elim c.else-line-c.branch [
+            | else-line-c-via-then-line-c+else-has_low w ↦ λ I t. sym w.if-has_low.false ∙ rw (sym e.value.condition_is ∙ w.if-line-c.true, s.here) at (w.has_low.ensures I t)
+            | else-line-c-via-else-line-c w ↦ λ I t. low_of_none _ _ (line_here _ _ _ _ e.sound i.1 s.more) _ I (λ q b. w.if-line-c.false (e.value.condition_is ∙ rw s.here q))
           ])
           s.next,
     )

@@ -6,7 +6,7 @@ use Rattle.body.proofs.Searching.{Searching}
 use Rattle.body.proofs.first_line.Given as goal
 
 abbrev pub invariant-loop-at : goal.invariant-loop-at
-invariant-loop-at l = (l.lines.numbers.now ≡ l.a) × Searching l.a l.values l.c l.low l.lines.at l.lines.passed
+invariant-loop-at l = (l.lines.numbers.now ≡ l.page) × Searching l.page l.values l.c l.low l.lines.at l.lines.passed
 
 abbrev pub decreases-loop-at : goal.decreases-loop-at
-decreases-loop-at l = count_of l.a - l.lines.passed
+decreases-loop-at l = count_of l.page - l.lines.passed

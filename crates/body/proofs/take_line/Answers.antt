@@ -2,26 +2,17 @@
 use mathlib.Core.Path.{refl}
 use mathlib.Core.Logic.{inl, inr}
 use native.Mathlib.Omega.{arith}
-use Rattle.body.proofs.Gathering.{here_entry, here_line}
+use Rattle.body.proofs.Gathering.{here_line}
 use Rattle.body.proofs.take_line.Goals as goal
 
-pub overflow_add-at : goal.overflow_add-at
-overflow_add-at c = let e = here_entry c.args.a.now c.requires.0 c.requires.2 in omega arith
-
-pub offset_bounds-a-at : goal.offset_bounds-a-at
-offset_bounds-a-at c = let e = here_entry c.args.a.now c.requires.0 c.requires.2 in omega arith
-
-pub bounds-a-at : goal.bounds-a-at
-bounds-a-at c = let e = here_entry c.args.a.now c.requires.0 c.requires.2 in omega arith
-
 pub line_ends-x-requires : goal.line_ends-x-requires
-line_ends-x-requires c = (c.requires.0, c.requires.1, here_line c.requires.2 refl (omega arith))
+line_ends-x-requires c = (c.requires.0, here_line c.requires.1 refl (omega (arith, c.entry-line.ensures.value.kind_is)))
 
-pub returns-in-0-to-5 : goal.returns-in-0-to-5
-returns-in-0-to-5 c =
+pub returns-in-0-to-5-clause-taken : goal.returns-in-0-to-5-clause-taken
+returns-in-0-to-5-clause-taken c =
     inr
     (record {
-      here = here_line c.requires.2 refl (omega arith);
+      here = here_line c.requires.1 refl (omega (arith, c.entry-line.ensures.value.kind_is));
       low_end = c.line_ends-x.result.low;
       low_is = c.line_ends-x.ensures.0;
       high_end = c.line_ends-x.result.high;
@@ -29,5 +20,5 @@ returns-in-0-to-5 c =
       most = rw (c.max.ensures, c.max-in-0-to-5.ensures, c.unwrap_or-best.ensures) refl;
     })
 
-pub returns-in_default : goal.returns-in_default
-returns-in_default c = inl (record { not_here = λ o. omega arith; same = refl })
+pub returns-in_default-clause-taken : goal.returns-in_default-clause-taken
+returns-in_default-clause-taken c = inl (record { not_here = λ o. omega (arith, c.entry-line.ensures.value.kind_is, o.body); same = refl })

@@ -1,38 +1,37 @@
 -- `change` meets its contract: the head, the lines that stay, the facts, and then two numbers of the head. Assumes nothing.
-use mathlib.Core.Path.{refl, sym, ◌∙◌}
+use mathlib.Core.Path.{refl, sym, ◌∙◌, ap}
+use Prim.Native.Nat.{◌+◌, ◌≤◌}
 use native.Mathlib.Omega.{arith}
 use borrow.Author.Rules.{rules}
+use lib.ListN.{length}
 use lib.Seq.{length-take-le}
-use Rattle.semantics.specs.Area.{first_line}
 use Rattle.change.specs.Trial.{lines_in}
 use Rattle.change.proofs.Lines.{wrote_length, lines_length_lem}
 use Rattle.change.proofs.Keeping.{bounds}
 use Rattle.change.proofs.Changed.{changed}
 use Rattle.change.proofs.change.Goals as goal
+use Rattle.change.proofs.change.Goals.{After-page}
 
-pub bounds-a-1 : goal.bounds-a-1
-bounds-a-1 c = omega (arith, (bounds _ c.requires.0).four)
-
-pub overflow_cast-first : goal.overflow_cast-first
-overflow_cast-first c = omega (arith, (bounds _ c.requires.0).few)
-
-pub overflow_add-first : goal.overflow_add-first
-overflow_add-first c = omega (arith, (bounds _ c.requires.0).few)
+-- the numbers before the lines lie in the area
+room : (c : After-page) → 4 + c.conditions-n.result ≤ length c.page.inside.numbers.now
+room c = let b = bounds _ c.requires.0 in omega (arith, b.first, b.inside, c.conditions-n.ensures.value, ap length c.page.view_is)
 
 pub slice_bounds-put_all-end : goal.slice_bounds-put_all-end
-slice_bounds-put_all-end c = let b = bounds _ c.requires.0 in sym (length-take-le (first_line c.args.a.now) c.args.a.now (omega (arith, b.first, b.inside)))
+slice_bounds-put_all-end c = sym (length-take-le _ _ (room (goal.at.slice_bounds-put_all-end c).After-page))
 
 pub put_all-end-requires : goal.put_all-end-requires
 put_all-end-requires c =
     let b = bounds _ c.requires.0 in
-    omega (arith, b.few, c.requires.1, length-take-le (first_line c.args.a.now) c.args.a.now (omega (arith, b.first, b.inside)))
+    let h = length-take-le _ _ (room (goal.at.put_all-end-requires c).After-page) in
+    omega (arith, b.few, c.requires.1, c.conditions-n.ensures.value, h)
 
 pub keep_lines-requires : goal.keep_lines-requires
 keep_lines-requires c =
-    let b = bounds _ c.requires.0 in (
+    let b = bounds _ c.requires.0 in
+    let h = length-take-le _ _ (room (goal.at.keep_lines-requires c).After-page) in (
       c.requires.0,
       omega (arith, b.most, c.requires.1, wrote_length c.put_all-end.ensures),
-      omega (arith, c.put_all-end.ensures.behind, length-take-le (first_line c.args.a.now) c.args.a.now (omega (arith, b.first, b.inside))),
+      omega (arith, c.put_all-end.ensures.behind, c.conditions-n.ensures.value, h),
       refl,
     )
 
@@ -54,5 +53,7 @@ pub returns : goal.returns
 returns c =
     let k = c.keep_lines.ensures.puts in
     let f = c.put_facts.ensures.puts in
+    let n = c.conditions-n.ensures.value in
+    let w = rw c.page.view_is at c.put_all-end.ensures in
     let e = sym (f.same ∙ k.same) in
-    changed c.args.a.now (lines_in c.args.lines.now) c.requires.0 {m = first_line c.args.a.now} (omega arith) c.put_all-end.ensures k.wrote f.wrote _ (search rules)
+    changed c.args.page.now (lines_in c.args.lines.now) c.requires.0 {m = 4 + c.conditions-n.result} (omega (arith, n)) w k.wrote (rw n at f.wrote) _ (search rules)

@@ -1,23 +1,19 @@
 -- `keep_lines` meets its contract. The loop's invariant: those of the lines passed that stay are written. Assumes nothing.
 use native.Mathlib.Omega.{arith}
-use Rattle.page.proofs.Solvable.{sound_solvable}
 use Rattle.page.proofs.Steps.{stepped, passed_all}
-use Rattle.change.proofs.Keeping.{keeping_first, entry_tested, entry_room, keeping_next, keeping_done}
+use Rattle.change.proofs.Keeping.{keeping_first, entry_room, keeping_next, keeping_done}
 use Rattle.change.proofs.keep_lines.Goals as goal
-
-pub of-at-items-requires : goal.of-at-items-requires
-of-at-items-requires c = sound_solvable _ c.requires.0
 
 pub loop-at-init : goal.loop-at-init
 loop-at-init c =
-    let b = c.of-at-items.ensures in
+    let b = c.lines-at-items.ensures.scan in
     rw c.into_iter-at-iterator.ensures.into_iter_gives (b.same, keeping_first _ _ _ c.requires.0 c.requires.1 (c.requires.2, c.requires.3) (b.place, b.count))
 
 pub keep_line-requires : goal.keep_line-requires
 keep_line-requires c =
     let i = c.loop-at.invariant.1 in
     let s = stepped c.loop-at.invariant.0 c.in-Some.ensures.steps in
-    rw s.here (entry_tested _ _ _ i s.more, entry_room _ _ _ i s.more, omega (arith, i.few, i.lines, s.more))
+    (s.line, rw s.here (entry_room _ _ _ i s.more), omega (arith, i.few, i.lines, s.more))
 
 pub loop-at-preserved : goal.loop-at-preserved
 loop-at-preserved c =

@@ -5,4 +5,4 @@ use Rattle.change.proofs.Keeping.{Keeping}
 use Rattle.change.proofs.keep_lines.Given as goal
 
 abbrev pub invariant-loop-at : goal.invariant-loop-at
-invariant-loop-at l = (l.at-iterator.numbers.now ≡ l.a) × Keeping l.a (lines_in l.lines) l.initial.entries l.at-iterator.at l.at-iterator.passed l.entries
+invariant-loop-at l = (l.at-iterator.numbers.now ≡ l.page) × Keeping l.page (lines_in l.lines) l.initial.entries l.at-iterator.at l.at-iterator.passed l.entries

@@ -1,39 +1,46 @@
 -- `solve` marks the closure of the queries, makes the rounds, answers, and counts.
 use native.Mathlib.Omega.{arith}
+use Rattle.index.proofs.Lookup.{area_is}
 use Rattle.page.proofs.Head.{head_of}
 use Rattle.reach.proofs.Marking.{unmarked}
 use Rattle.reach.proofs.Naming.{under_at}
 use Rattle.closed.proofs.Answering.{rounds_begin, count_ready, solved_uncounted, solved_counted}
 use Rattle.closed.proofs.solve.Goals as goal
 
-pub bounds-a-1 : goal.bounds-a-1
-bounds-a-1 c = omega (arith, head_of c.args.a.now c.requires.0.page_solvable)
-
 pub mark_closure-requires : goal.mark_closure-requires
-mark_closure-requires c = (c.requires.0.page_solvable, c.requires.0.under, unmarked)
-
-pub bounds-a-0 : goal.bounds-a-0
-bounds-a-0 c = omega (arith, head_of c.args.a.now c.requires.0.page_solvable)
-
-pub begin-requires : goal.begin-requires
-begin-requires c = (c.requires.0.long, (head_of c.args.a.now c.requires.0.page_solvable).few)
-
-pub any_free-free-requires : goal.any_free-free-requires
-any_free-free-requires c = (c.requires.0.page_solvable, omega (arith, c.mark_closure.ensures.size, head_of c.args.a.now c.requires.0.page_solvable))
+mark_closure-requires c = rw (area_is c.source.view_is) (c.requires.under, unmarked)
 
 pub alternate-requires : goal.alternate-requires
-alternate-requires c = (rounds_begin _ _ _ _ c.requires.0 c.mark_closure.ensures c.begin.ensures, c.requires.1, (head_of c.args.a.now c.requires.0.page_solvable).few, c.any_free-free.ensures)
+alternate-requires c =
+    let e = area_is c.source.view_is in
+    let ok = rw e at c.conditions-n.ensures.sound in
+    let b = rw (c.conditions-n.ensures.value, c.top.ensures.value, e) at c.begin.ensures in
+    (rounds_begin _ _ _ _ ok c.requires (rw e at c.mark_closure.ensures) b, (head_of _ ok).few, rw e at c.any_free-free.ensures)
 
 pub write_ends-requires : goal.write_ends-requires
 write_ends-requires c =
-    let u = under_at _ _ c.requires.0.under in
-    (λ k l. omega (arith, u k l, c.requires.0.long, c.begin.ensures.same_length, c.alternate.ensures.0.same_length), c.requires.0.room)
+    let n = rw (area_is c.source.view_is) at c.conditions-n.ensures.value in
+    let u = under_at _ _ c.requires.under in
+    (λ k l. omega (arith, n, u k l, c.requires.long, c.begin.ensures.same_length, c.alternate.ensures.0.same_length), c.requires.room)
 
 pub returns-then-not-counting : goal.returns-then-not-counting
-returns-then-not-counting c = rw c.if-not-counting.true (solved_uncounted _ _ _ _ c.requires.0 c.mark_closure.ensures c.begin.ensures c.alternate.ensures.0 c.write_ends.ensures 0)
+returns-then-not-counting c =
+    let e = area_is c.source.view_is in
+    let n = rw e at c.conditions-n.ensures.value in
+    let b = rw (c.conditions-n.ensures.value, c.top.ensures.value, e) at c.begin.ensures in
+    rw c.if-not-counting.true
+    (solved_uncounted _ _ _ _ (rw e at c.conditions-n.ensures.sound) c.requires (rw e at c.mark_closure.ensures) b c.alternate.ensures.0 (rw n at c.write_ends.ensures) 0)
 
 pub count_rounds-requires : goal.count_rounds-requires
-count_rounds-requires c = (count_ready _ _ _ _ c.requires.0 c.mark_closure.ensures c.begin.ensures c.alternate.ensures.0, c.requires.1, omega (arith, c.alternate.ensures.1, head_of c.args.a.now c.requires.0.page_solvable), c.any_free-free.ensures)
+count_rounds-requires c =
+    let e = area_is c.source.view_is in
+    let ok = rw e at c.conditions-n.ensures.sound in
+    let b = rw (c.conditions-n.ensures.value, c.top.ensures.value, e) at c.begin.ensures in
+    (count_ready _ _ _ _ ok c.requires (rw e at c.mark_closure.ensures) b c.alternate.ensures.0, omega (arith, c.alternate.ensures.1, head_of _ ok), rw e at c.any_free-free.ensures)
 
 pub returns : goal.returns
-returns c = solved_counted _ _ _ _ c.requires.0 c.mark_closure.ensures c.begin.ensures c.alternate.ensures.0 c.write_ends.ensures _ c.count_rounds.ensures
+returns c =
+    let e = area_is c.source.view_is in
+    let n = rw e at c.conditions-n.ensures.value in
+    let b = rw (c.conditions-n.ensures.value, c.top.ensures.value, e) at c.begin.ensures in
+    solved_counted _ _ _ _ (rw e at c.conditions-n.ensures.sound) c.requires (rw e at c.mark_closure.ensures) b c.alternate.ensures.0 (rw n at c.write_ends.ensures) _ c.count_rounds.ensures

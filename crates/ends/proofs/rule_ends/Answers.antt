@@ -7,17 +7,22 @@ use Rattle.ends.proofs.Rules.{first_negation, ends_foldable, high_folded}
 use Rattle.ends.proofs.rule_ends.Goals as goal
 
 pub high_of-requires : goal.high_of-requires
-high_of-requires c = first_negation c.args.a.now c.args.values.now c.args.at c.requires.0 c.requires.1 c.requires.2
+high_of-requires c = let r = rw (← c.page.view_is) at c.requires in first_negation _ c.args.values.now c.args.at c.page.invariant r.0 r.1
 
 pub fold_ends-r-requires : goal.fold_ends-r-requires
-fold_ends-r-requires c = (ends_foldable c.args.a.now c.args.values.now c.args.at c.requires.0 c.requires.1 c.requires.2 c.high_of.ensures, c.requires.3, c.requires.4)
+fold_ends-r-requires c =
+    let r = rw (← c.page.view_is) at c.requires in
+    (ends_foldable _ c.args.values.now c.args.at c.page.invariant r.0 r.1 c.high_of.ensures, r.2, r.3)
 
 pub returns : goal.returns
 returns c =
     let z = c.args in
-    let r = c.requires in (
-      rule_end_is z.a.now z.values.now z.at r.2 lower r.0 r.1.low r.3 r.4 c.fold_ends-r.ensures.low c.divided.ensures,
-      rule_end_is z.a.now (mirrored (top_of z.a.now) z.values.now) z.at r.2 upper r.0 r.1.high r.3 r.4
-          (high_folded z.a.now z.values.now z.at r.0 r.1 r.2 c.high_of.ensures c.fold_ends-r.ensures.high)
+    let r = rw (← c.page.view_is) at c.requires in
+    let a = c.page.inside.numbers.now in
+    let ok = c.page.invariant in
+    rw (← c.page.view_is) (
+      rule_end_is a z.values.now z.at r.1 lower ok r.0.low r.2 r.3 c.fold_ends-r.ensures.low c.divided.ensures,
+      rule_end_is a (mirrored (top_of a) z.values.now) z.at r.1 upper ok r.0.high r.2 r.3
+          (high_folded a z.values.now z.at ok r.0 r.1 c.high_of.ensures c.fold_ends-r.ensures.high)
           c.divided-2.ensures,
     )

@@ -8,9 +8,11 @@ use Rattle.followers.proofs.follow_line.Goals as goal
 pub returns-then-contains : goal.returns-then-contains
 returns-then-contains c =
     elim c.then-contains.branch [
-      | then-contains-via-then-contains w ↦ stays (λ q. sym c.contains.ensures ∙ w.if-contains.true)
+      | then-contains-via-then-contains w ↦ stays (λ q. sym (rw c.entry-head.ensures.value.condition_is at c.contains.ensures) ∙ w.if-contains.true)
       | then-contains-via-else-contains+then-not-line_meets w ↦ stays (λ q. absurd (true≢false (sym q ∙ sym w.line_meets.ensures ∙ w.if-not-line_meets.true)))
     ]
 
 pub returns : goal.returns
-returns c = enters (sym c.contains.ensures ∙ c.if-contains.false) (sym c.line_meets.ensures ∙ c.if-not-line_meets.false) c.insert.ensures.set c.insert-2.ensures.set
+returns c =
+    let h = c.entry-head.ensures.value.condition_is in
+    enters (sym (rw h at c.contains.ensures) ∙ c.if-contains.false) (sym c.line_meets.ensures ∙ c.if-not-line_meets.false) (rw h at c.insert.ensures.set) (rw h at c.insert-2.ensures.set)

@@ -9,11 +9,11 @@ use Rattle.page.proofs.Solvable.{solvable_proper}
 use Rattle.followers.proofs.followers_of.Goals as goal
 
 pub insert-requires : goal.insert-requires
-insert-requires c = omega (arith, (head_of c.args.a.now c.requires.0).few)
+insert-requires c = omega (arith, (head_of _ c.recall.ensures).few)
 
 pub loop-seen-smaller : goal.loop-seen-smaller
 loop-seen-smaller c = omega (arith, c.pass.ensures.counted, size_most 512 (has c.pass.new.row.words))
 
 pub returns : goal.returns
 unfolding page_of
-returns c = settled_row (page_of c.args.a.now) (solvable_proper c.args.a.now c.requires.0) c.args.c c.requires.1 c.loop-seen.invariant.1 c.pass.ensures c.loop-seen-test.false
+returns c = settled_row (page_of c.args.page.now) (solvable_proper c.args.page.now c.recall.ensures) c.args.c c.requires c.loop-seen.invariant.1 c.pass.ensures c.loop-seen-test.false

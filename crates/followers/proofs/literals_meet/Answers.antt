@@ -13,6 +13,8 @@ use Rattle.semantics.specs.Page.{mentions}
 use Rattle.bits.specs.Words.{has}
 use Rattle.followers.specs.Rows.{meets}
 use Rattle.page.proofs.Entries.{code_in}
+use Rattle.page.proofs.Head.{head_of}
+use Rattle.page.proofs.LineNumbers.{rule_in}
 use Rattle.layers.proofs.Literals.{codes_length, code_at}
 use Rattle.followers.proofs.Meeting.{literals_met}
 use Rattle.followers.proofs.literals_meet.Goals as goal
@@ -20,20 +22,21 @@ use Rattle.followers.proofs.literals_meet.Goals as goal
 pub any-requires-clause-callable : goal.any-requires-clause-callable
 any-requires-clause-callable c =
     let z = c.args in
-    let r = c.requires.0 in
-    let s = c.literals_at in
-    let n = codes_length z.a.now z.at r.fits s.ensures in
+    let s = c.literals in
+    let w = head_of z.page.now s.ensures.sound in
+    let r = rule_in z.page.now s.ensures.sound c.requires.0 c.requires.1 c.requires.2 in
+    let n = codes_length z.page.now z.at r.fits s.ensures.value in
     serves_from_places (YieldsList-from_slice s.result.now cc) (λ x q k. search rules)
     (λ x k l e.
-    let h = code_at z.a.now z.at r.fits s.ensures k (omega arith) in
-    let i = code_in (top_of z.a.now) (conditions_of z.a.now) z.a.now z.at r k (omega arith) in
+    let h = code_at z.page.now z.at r.fits s.ensures.value k (omega arith) in
+    let i = code_in (top_of z.page.now) (conditions_of z.page.now) z.page.now z.at r k (omega arith) in
     let j = get_or_default_zero s.result.now k x.now l in
-    λ a p n s f g. omega (arith, c.requires.1))
+    λ a p n s f g. omega (arith, w.few))
 
 pub returns : goal.returns
 returns c =
     let words = c.args.set.now.words in
-    let xs = c.literals_at.result.now in
+    let xs = c.literals.result.now in
     any_from_yields_List (λ k. has words (k / 2)) _ _ _ c.any.ensures.ran (YieldsList-from_slice xs cc) (λ x b q k. search (rules, tests))
     ∙ literals_met words c.args.set.now.eight xs
-    ∙ ap (λ codes. meets words (mentions (map literal_of codes))) c.literals_at.ensures
+    ∙ ap (λ codes. meets words (mentions (map literal_of codes))) c.literals.ensures.value

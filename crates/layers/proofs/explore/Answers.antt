@@ -8,53 +8,57 @@ use Rattle.layers.proofs.explore.Goals as goal
 
 pub bounds-levels-root : goal.bounds-levels-root
 unfolding page_of
-bounds-levels-root c = omega (arith, c.requires.1.size)
+bounds-levels-root c = omega (arith, c.requires.0.size)
 
 pub loop-level-init : goal.loop-level-init
 unfolding page_of
-loop-level-init c = (open_root (page_of c.args.a.now) (solvable_proper c.args.a.now c.requires.0) c.requires.1 c.requires.2 c.requires.3, λ x l. l)
+loop-level-init c =
+    let w = solvable_proper c.args.page.now c.recall.ensures in
+    (w, open_root (page_of c.args.page.now) w c.requires.0 c.requires.1 c.requires.2, λ x l. l)
 
 pub look-requires : goal.look-requires
 unfolding page_of
-look-requires c = (c.requires.0, c.loop-level.invariant.0.size)
+look-requires c = c.loop-level.invariant.1.size
 
 pub enter-level-requires : goal.enter-level-requires
 unfolding page_of
 enter-level-requires c =
     let h = c.loop-level.invariant in
     let f = c.in-Err.ensures in
-    (omega (arith, h.0.size, names_inside (page_of c.args.a.now) (solvable_proper c.args.a.now c.requires.0) f.0 _ f.2), level_small (page_of c.args.a.now) (solvable_proper c.args.a.now c.requires.0) h.0)
+    (omega (arith, h.1.size, names_inside (page_of c.args.page.now) h.0 f.0 _ f.2), level_small (page_of c.args.page.now) h.0 h.1)
 
 pub loop-level-smaller-in-Err : goal.loop-level-smaller-in-Err
 unfolding page_of
 loop-level-smaller-in-Err c =
-    (moved_entered (page_of c.args.a.now) (solvable_proper c.args.a.now c.requires.0) c.loop-level.invariant.0 (omega arith) c.in-Err.ensures c.enter-level.ensures).less
+    let h = c.loop-level.invariant in
+    (moved_entered (page_of c.args.page.now) h.0 h.1 (omega arith) c.in-Err.ensures c.enter-level.ensures).less
 
 pub loop-level-preserved-in-Err : goal.loop-level-preserved-in-Err
 unfolding page_of
 loop-level-preserved-in-Err c =
     let h = c.loop-level.invariant in
-    let m = moved_entered (page_of c.args.a.now) (solvable_proper c.args.a.now c.requires.0) h.0 (omega arith) c.in-Err.ensures c.enter-level.ensures in
-    (m.state, λ x l. m.stays x (h.1 x l))
+    let m = moved_entered (page_of c.args.page.now) h.0 h.1 (omega arith) c.in-Err.ensures c.enter-level.ensures in
+    (h.0, m.state, λ x l. m.stays x (h.2 x l))
 
 pub finish-least-requires : goal.finish-least-requires
 unfolding page_of
-finish-least-requires c = omega (arith, c.loop-level.invariant.0.size, (solvable_proper c.args.a.now c.requires.0).conditions_most)
+finish-least-requires c = let h = c.loop-level.invariant in omega (arith, h.1.size, h.0.conditions_most)
 
 pub loop-level-smaller : goal.loop-level-smaller
 unfolding page_of
 loop-level-smaller c =
-    (moved_finished (page_of c.args.a.now) (solvable_proper c.args.a.now c.requires.0) c.loop-level.invariant.0 c.in-Ok.ensures (omega arith) c.finish-least.ensures).less
+    let h = c.loop-level.invariant in
+    (moved_finished (page_of c.args.page.now) h.0 h.1 c.in-Ok.ensures (omega arith) c.finish-least.ensures).less
 
 pub loop-level-preserved : goal.loop-level-preserved
 unfolding page_of
 loop-level-preserved c =
     let h = c.loop-level.invariant in
-    let m = moved_finished (page_of c.args.a.now) (solvable_proper c.args.a.now c.requires.0) h.0 c.in-Ok.ensures (omega arith) c.finish-least.ensures in
-    (m.state, λ x l. m.stays x (h.1 x l))
+    let m = moved_finished (page_of c.args.page.now) h.0 h.1 c.in-Ok.ensures (omega arith) c.finish-least.ensures in
+    (h.0, m.state, λ x l. m.stays x (h.2 x l))
 
 pub returns : goal.returns
 unfolding page_of
 returns c =
     let h = c.loop-level.invariant in
-    explored (page_of c.args.a.now) (solvable_proper c.args.a.now c.requires.0) c.requires.1 c.requires.2 c.requires.3 h.0 (omega arith) h.1
+    explored (page_of c.args.page.now) h.0 c.requires.0 c.requires.1 c.requires.2 h.1 (omega arith) h.2

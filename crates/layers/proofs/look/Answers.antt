@@ -1,20 +1,17 @@
 -- `layers::look` meets its contract: the lines behind are looked at. Assumes nothing.
 use Rattle.std.proofs.lemmas.Result.{err_from_is_err_and}
-use Rattle.page.proofs.Head.{head_of}
-use Rattle.page.proofs.Scanning.{entry_sound}
 use Rattle.page.proofs.Steps.{stepped, passed_all}
 use Rattle.layers.proofs.Looking.{searching_first, searching_next, searching_out, searching_last}
 use Rattle.layers.proofs.look.Goals as goal
 
 pub loop-at-init : goal.loop-at-init
 loop-at-init c =
-    let b = c.of-at-items.ensures in
-    rw c.into_iter-at-iterator.ensures.into_iter_gives (b.same, searching_first c.args.a.now c.args.levels.now c.args.level c.requires.0 (b.place, b.count))
+    let b = c.lines-at-items.ensures.scan in
+    rw c.into_iter-at-iterator.ensures.into_iter_gives
+    (b.same, searching_first c.args.page.now c.args.levels.now c.args.level c.lines-at-items.ensures.sound (b.place, b.count))
 
 pub look_line-requires : goal.look_line-requires
-look_line-requires c =
-    let s = stepped c.loop-at.invariant.0 c.in-Some.ensures.steps in
-    rw s.here (entry_sound c.args.a.now c.loop-at.invariant.1.scan s.more, c.requires.1, (head_of c.args.a.now c.requires.0).few)
+look_line-requires c = let s = stepped c.loop-at.invariant.0 c.in-Some.ensures.steps in (s.line, c.requires)
 
 pub returns-in_err-negated : goal.returns-in_err-negated
 returns-in_err-negated c =

@@ -4,4 +4,4 @@ use Rattle.layers.proofs.Looking.{Searching}
 use Rattle.layers.proofs.look.Given as goal
 
 abbrev pub invariant-loop-at : goal.invariant-loop-at
-invariant-loop-at l = (l.at-iterator.numbers.now ≡ l.a) × Searching l.a l.levels l.level l.at-iterator.at l.at-iterator.passed l.negated
+invariant-loop-at l = (l.at-iterator.numbers.now ≡ l.page) × Searching l.page l.levels l.level l.at-iterator.at l.at-iterator.passed l.negated

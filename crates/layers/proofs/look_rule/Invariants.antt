@@ -3,4 +3,4 @@ use Rattle.layers.proofs.Looking.{Looking}
 use Rattle.layers.proofs.look_rule.Given as goal
 
 abbrev pub invariant-loop-code : goal.invariant-loop-code
-invariant-loop-code l = Looking l.a l.at l.levels l.level l.negated l.code-index
+invariant-loop-code l = Looking l.page l.at l.levels l.level l.negated l.code-index

@@ -5,4 +5,4 @@ use Rattle.picks.proofs.Comparing.{Comparing}
 use Rattle.picks.proofs.figures_held.Given as goal
 
 abbrev pub invariant-loop-query : goal.invariant-loop-query
-invariant-loop-query l = (l.query-iterator.b.size ≡ 2) × Comparing (top_of l.a) l.queries l.figures l.values (conditions_of l.a) l.query-iterator.a.rest.now l.query-iterator.b.rest.now
+invariant-loop-query l = (l.query-iterator.b.size ≡ 2) × Comparing (top_of l.page) l.queries l.figures l.values (conditions_of l.page) l.query-iterator.a.rest.now l.query-iterator.b.rest.now

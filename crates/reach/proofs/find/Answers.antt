@@ -11,54 +11,59 @@ use Rattle.reach.proofs.Passing.{finding_first, finding_next, finding_last, find
 use Rattle.reach.proofs.find.Goals as goal
 
 pub insert_queries-requires : goal.insert_queries-requires
-insert_queries-requires c = queries_few c.args.a.now c.requires.0 c.args.queries.now c.requires.1
+insert_queries-requires c = queries_few _ c.recall.ensures c.args.queries.now c.requires
 
 pub loop-fresh-init : goal.loop-fresh-init
 unfolding page_of
-loop-fresh-init c = finding_first (page_of c.args.a.now) c.args.queries.now (solvable_proper c.args.a.now c.requires.0) c.requires.1 _ _ c.empty-set.ensures c.insert_queries.ensures
+loop-fresh-init c =
+    let w = solvable_proper _ c.recall.ensures in
+    finding_first (page_of c.args.page.now) c.args.queries.now w c.requires _ _ c.empty-set.ensures c.insert_queries.ensures
 
 pub pass-more-requires : goal.pass-more-requires
 unfolding page_of
 pass-more-requires c =
-    (c.requires.0, fresh_inside (page_of c.args.a.now) c.args.queries.now (solvable_proper c.args.a.now c.requires.0) c.requires.1 c.loop-fresh.invariant, λ k l. c.empty-new.ensures k)
+    let w = solvable_proper _ c.recall.ensures in
+    (fresh_inside (page_of c.args.page.now) c.args.queries.now w c.requires c.loop-fresh.invariant, λ k l. c.empty-new.ensures k)
 
 pub overflow_add-passes : goal.overflow_add-passes
 unfolding page_of
 overflow_add-passes c =
-    let w = solvable_proper c.args.a.now c.requires.0 in
-    omega (arith, w.conditions_most, finding_few (page_of c.args.a.now) c.args.queries.now w c.requires.1 c.loop-fresh.invariant)
+    let w = solvable_proper _ c.recall.ensures in
+    omega (arith, w.conditions_most, finding_few (page_of c.args.page.now) c.args.queries.now w c.requires c.loop-fresh.invariant)
 
 pub overflow_add-reached : goal.overflow_add-reached
 unfolding page_of
 overflow_add-reached c =
-    let w = solvable_proper c.args.a.now c.requires.0 in
-    omega (arith, (finding_counts (page_of c.args.a.now) c.args.queries.now w c.requires.1 c.loop-fresh.invariant).0, (counted_few _ _ c.pass-more.ensures.counted w.conditions_most).0)
+    let w = solvable_proper _ c.recall.ensures in
+    omega (arith, (finding_counts (page_of c.args.page.now) c.args.queries.now w c.requires c.loop-fresh.invariant).0, (counted_few _ _ c.pass-more.ensures.counted w.conditions_most).0)
 
 pub overflow_add-edges : goal.overflow_add-edges
 unfolding page_of
 overflow_add-edges c =
-    let w = solvable_proper c.args.a.now c.requires.0 in
-    omega (arith, (finding_counts (page_of c.args.a.now) c.args.queries.now w c.requires.1 c.loop-fresh.invariant).1, (counted_few _ _ c.pass-more.ensures.counted w.conditions_most).1)
+    let w = solvable_proper _ c.recall.ensures in
+    omega (arith, (finding_counts (page_of c.args.page.now) c.args.queries.now w c.requires c.loop-fresh.invariant).1, (counted_few _ _ c.pass-more.ensures.counted w.conditions_most).1)
 
 pub returns : goal.returns
 unfolding page_of
 returns c =
     let p = c.pass-more.ensures in
-    let t = finding_last (page_of c.args.a.now) c.args.queries.now (solvable_proper c.args.a.now c.requires.0) c.requires.1 c.loop-fresh.invariant p.passed p.counted (c.is_empty.ensures.0 c.if-is_empty.true) in
+    let w = solvable_proper _ c.recall.ensures in
+    let t = finding_last (page_of c.args.page.now) c.args.queries.now w c.requires c.loop-fresh.invariant p.passed p.counted (c.is_empty.ensures.0 c.if-is_empty.true) in
     record { found = t.0; counted = t.1 }
 
 pub loop-fresh-preserved : goal.loop-fresh-preserved
 unfolding page_of
 loop-fresh-preserved c =
+    let w = solvable_proper _ c.recall.ensures in
     let p = c.pass-more.ensures in
     let m = some_has 512 (has c.pass-more.new.new.words) (λ n. true≢false (sym (c.is_empty.ensures.1 n) ∙ c.if-is_empty.false)) in
-    finding_next (page_of c.args.a.now) c.args.queries.now (solvable_proper c.args.a.now c.requires.0) c.requires.1 c.loop-fresh.invariant p.passed p.counted m.0 m.1 m.2
+    finding_next (page_of c.args.page.now) c.args.queries.now w c.requires c.loop-fresh.invariant p.passed p.counted m.0 m.1 m.2
 
 pub loop-fresh-smaller : goal.loop-fresh-smaller
 unfolding page_of
 loop-fresh-smaller c =
-    let w = solvable_proper c.args.a.now c.requires.0 in
+    let w = solvable_proper _ c.recall.ensures in
     let p = c.pass-more.ensures in
     let m = some_has 512 (has c.pass-more.new.new.words) (λ n. true≢false (sym (c.is_empty.ensures.1 n) ∙ c.if-is_empty.false)) in
-    let f = finding_next (page_of c.args.a.now) c.args.queries.now w c.requires.1 c.loop-fresh.invariant p.passed p.counted m.0 m.1 m.2 in
-    omega (arith, finding_few (page_of c.args.a.now) c.args.queries.now w c.requires.1 f)
+    let f = finding_next (page_of c.args.page.now) c.args.queries.now w c.requires c.loop-fresh.invariant p.passed p.counted m.0 m.1 m.2 in
+    omega (arith, finding_few (page_of c.args.page.now) c.args.queries.now w c.requires f)

@@ -5,7 +5,7 @@ use Rattle.reach.proofs.Passing.{Finding}
 use Rattle.reach.proofs.find.Given as goal
 
 abbrev pub invariant-loop-fresh : goal.invariant-loop-fresh
-invariant-loop-fresh l = Finding (page_of l.a) l.queries l.set.words l.fresh.words l.passes l.reached l.edges
+invariant-loop-fresh l = Finding (page_of l.page) l.queries l.set.words l.fresh.words l.passes l.reached l.edges
 
 abbrev pub decreases-loop-fresh : goal.decreases-loop-fresh
-decreases-loop-fresh l = conditions_of l.a - l.passes
+decreases-loop-fresh l = conditions_of l.page - l.passes

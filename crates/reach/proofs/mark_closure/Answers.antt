@@ -9,21 +9,26 @@ use Rattle.reach.proofs.Naming.{queries_few}
 use Rattle.reach.proofs.mark_closure.Goals as goal
 
 pub insert_queries-requires : goal.insert_queries-requires
-insert_queries-requires c = queries_few c.args.a.now c.requires.0 c.args.queries.now c.requires.1
+insert_queries-requires c = queries_few _ c.recall.ensures c.args.queries.now c.requires.0
 
 pub loop-init : goal.loop-init
 unfolding page_of
 loop-init c =
     let i = c.insert_queries in
-    spreading_first (page_of c.args.a.now) c.args.queries.now (solvable_proper c.args.a.now c.requires.0) c.requires.1 _ _ c.requires.2 i.ensures i.array_long
+    let w = solvable_proper _ c.recall.ensures in
+    spreading_first (page_of c.args.page.now) c.args.queries.now w c.requires.0 _ _ c.requires.1 i.ensures i.array_long
 
 pub loop-preserved : goal.loop-preserved
 unfolding page_of
-loop-preserved c = spreading_next (page_of c.args.a.now) c.args.queries.now (solvable_proper c.args.a.now c.requires.0) c.requires.1 c.loop.invariant c.sweep.ensures c.sweep.array_long
+loop-preserved c =
+    let w = solvable_proper _ c.recall.ensures in
+    spreading_next (page_of c.args.page.now) c.args.queries.now w c.requires.0 c.loop.invariant c.sweep.ensures c.sweep.array_long
 
 pub loop-smaller : goal.loop-smaller
 loop-smaller c = omega (arith, c.sweep.ensures.counted, size_most 512 (member c.sweep.new.marks))
 
 pub returns : goal.returns
 unfolding page_of
-returns c = spreading_last (page_of c.args.a.now) c.args.queries.now (solvable_proper c.args.a.now c.requires.0) c.requires.1 c.loop.invariant c.sweep.ensures c.sweep.array_long (omega arith)
+returns c =
+    let w = solvable_proper _ c.recall.ensures in
+    spreading_last (page_of c.args.page.now) c.args.queries.now w c.requires.0 c.loop.invariant c.sweep.ensures c.sweep.array_long (omega arith)

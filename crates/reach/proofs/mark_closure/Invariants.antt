@@ -7,7 +7,7 @@ use Rattle.reach.proofs.Closing.{Spreading}
 use Rattle.reach.proofs.mark_closure.Given as goal
 
 abbrev pub invariant-loop : goal.invariant-loop
-invariant-loop l = Spreading (page_of l.a) l.queries l.marks
+invariant-loop l = Spreading (page_of l.page) l.queries l.marks
 
 abbrev pub decreases-loop : goal.decreases-loop
 decreases-loop l = 512 - count 512 (member l.marks)

@@ -5,7 +5,7 @@ use Rattle.reach.proofs.Passing.{Following}
 use Rattle.reach.proofs.pass.Given as goal
 
 abbrev pub invariant-loop-c : goal.invariant-loop-c
-invariant-loop-c l = Following (page_of l.a) l.initial.fresh.words l.initial.found.words l.fresh.words l.found.words l.new.words l.reached l.edges
+invariant-loop-c l = Following (page_of l.page) l.initial.fresh.words l.initial.found.words l.fresh.words l.found.words l.new.words l.reached l.edges
 
 abbrev pub decreases-loop-c : goal.decreases-loop-c
-decreases-loop-c l = conditions_of l.a - l.reached
+decreases-loop-c l = conditions_of l.page - l.reached

@@ -4,4 +4,4 @@ use Rattle.reach.proofs.Sweeping.{Sweeping}
 use Rattle.reach.proofs.sweep.Given as goal
 
 abbrev pub invariant-loop-at : goal.invariant-loop-at
-invariant-loop-at l = (l.at-iterator.numbers.now ≡ l.a) × Sweeping l.a l.initial.marks l.marks l.at-iterator.at l.at-iterator.passed l.new
+invariant-loop-at l = (l.at-iterator.numbers.now ≡ l.page) × Sweeping l.page l.initial.marks l.marks l.at-iterator.at l.at-iterator.passed l.new

@@ -6,7 +6,7 @@ use Rattle.rounds.proofs.Rounding.{Alternating}
 use Rattle.rounds.proofs.alternate.Given as goal
 
 abbrev pub invariant-loop-lows : goal.invariant-loop-lows
-invariant-loop-lows l = Alternating l.a l.marks l.initial.scratch l.scratch × LowsWait l.a l.marks l.users l.scratch l.lows.words × (length l.next ≡ length l.initial.next)
+invariant-loop-lows l = Alternating l.source.area l.marks l.initial.scratch l.scratch × LowsWait l.source.area l.marks l.source.indexed l.scratch l.lows.words × (length l.next ≡ length l.initial.next)
 
 abbrev pub decreases-loop-lows : goal.decreases-loop-lows
-decreases-loop-lows l = to_learn l.a l.scratch
+decreases-loop-lows l = to_learn l.source.area l.scratch

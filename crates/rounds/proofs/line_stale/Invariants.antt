@@ -3,4 +3,4 @@ use Rattle.rounds.proofs.Stale.{Passed}
 use Rattle.rounds.proofs.line_stale.Given as goal
 
 abbrev pub invariant-loop-code : goal.invariant-loop-code
-invariant-loop-code l = Passed l.a l.scratch l.codes l.code-index
+invariant-loop-code l = Passed l.page l.scratch l.codes l.code-index

@@ -4,4 +4,4 @@ use Rattle.rounds.proofs.Stale.{Searching}
 use Rattle.rounds.proofs.negation_stale.Given as goal
 
 abbrev pub invariant-loop-at : goal.invariant-loop-at
-invariant-loop-at l = (l.at-iterator.numbers.now ≡ l.a) × Searching l.a l.scratch l.at-iterator.at l.at-iterator.passed
+invariant-loop-at l = (l.at-iterator.numbers.now ≡ l.page) × Searching l.page l.scratch l.at-iterator.at l.at-iterator.passed

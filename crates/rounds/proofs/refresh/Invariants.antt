@@ -3,4 +3,4 @@ use Rattle.rounds.proofs.Starting.{Refreshing}
 use Rattle.rounds.proofs.refresh.Given as goal
 
 abbrev pub invariant-loop-c : goal.invariant-loop-c
-invariant-loop-c l = Refreshing l.a l.initial.scratch l.scratch l.c
+invariant-loop-c l = Refreshing l.page l.initial.scratch l.scratch l.c

@@ -3,4 +3,4 @@ use Rattle.rounds.proofs.Starting.{StartingHighs}
 use Rattle.rounds.proofs.start_highs.Given as goal
 
 abbrev pub invariant-loop-c : goal.invariant-loop-c
-invariant-loop-c l = StartingHighs l.a l.initial.scratch l.scratch l.c
+invariant-loop-c l = StartingHighs l.page l.initial.scratch l.scratch l.c

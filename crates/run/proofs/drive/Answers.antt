@@ -1,12 +1,16 @@
 -- `run::drive` meets its contract. Assumes nothing.
-use mathlib.Core.Path.{refl}
-use mathlib.Core.Logic.{inl}
-use Rattle.page.proofs.Solvable.{sound_solvable}
+use Rattle.semantics.specs.Call.{drive}
+use Rattle.std.proofs.lemmas.Result.{err_from_is_err_and}
 use Rattle.run.proofs.Driving.{drive_answers}
 use Rattle.run.proofs.drive.Goals as goal
 
+pub returns-in_err-page : goal.returns-in_err-page
+returns-in_err-page c =
+    let p = err_from_is_err_and c.from_residual.result c.from_residual.ensures.1 in
+    rw (p.1, p.2) (c.in_err-page.ensures.answers (drive c.args.allowance))
+
 pub drive_over-requires : goal.drive_over-requires
-drive_over-requires c = let s = c.in_ok-check_areas.ensures in (sound_solvable _ s.0, s.1, inl refl, inl refl)
+drive_over-requires c = let s = c.in_ok-page.ensures in rw (c.scanned.ensures, s.0) s.2
 
 pub returns : goal.returns
-returns c = let s = c.in_ok-check_areas.ensures in drive_answers _ _ _ s.0 s.1 c.drive_over.ensures
+returns c = let s = c.in_ok-page.ensures in drive_answers _ _ _ s.1 s.2 (rw (c.scanned.ensures, s.0) at c.drive_over.ensures)

@@ -1,45 +1,47 @@
 -- `run::drive_indexed` meets its contract. Assumes nothing.
-use mathlib.Core.Path.{refl, sym, ◌∙◌}
-use mathlib.Core.Logic.{inl}
+use mathlib.Core.Path.{sym, ◌∙◌}
 use native.Mathlib.Omega.{arith}
 use lib.Seq.{length-take-le}
+use Rattle.std.proofs.lemmas.Result.{err_from_is_err_and}
+use Rattle.semantics.specs.Call.{drive}
 use Rattle.semantics.proofs.Workspaces.{workspace_short, workspace_used, drive_workspace_lem}
 use Rattle.index.proofs.Parts.{erased_front}
-use Rattle.page.proofs.Solvable.{sound_solvable}
 use Rattle.run.proofs.Driving.{drive_answers}
 use Rattle.run.proofs.drive_indexed.Goals as goal
 
-pub index_length-m-requires : goal.index_length-m-requires
-index_length-m-requires c = sound_solvable _ c.in_ok-check_areas.ensures.0
+pub returns-in_err-page : goal.returns-in_err-page
+returns-in_err-page c =
+    let p = err_from_is_err_and c.from_residual.result c.from_residual.ensures.1 in
+    let f = c.in_err-page.ensures in
+    record { answer = rw (p.1, p.2) (f.answers (drive c.args.allowance)); workspace = f.workspace c.args.workspace.now }
 
 pub drive_over-requires : goal.drive_over-requires
-drive_over-requires c = let s = c.in_ok-check_areas.ensures in (sound_solvable _ s.0, s.1, inl refl, inl refl)
+drive_over-requires c = let s = c.in_ok-page.ensures in rw (c.scanned.ensures, s.0) s.2
 
 pub returns-then-workspace-m : goal.returns-then-workspace-m
 returns-then-workspace-m c =
     let z = c.args in
-    let s = c.in_ok-check_areas.ensures in
+    let s = c.in_ok-page.ensures in
+    let m = rw s.0 at c.index_length-m.ensures in
     record {
-      answer = drive_answers _ _ _ s.0 s.1 c.drive_over.ensures;
-      workspace = workspace_short z.page.now z.workspace.now (omega (arith, c.index_length-m.ensures, c.if-workspace-m.true))
-          ∙ sym (drive_workspace_lem z.page.now z.run.now z.workspace.now s.0 s.1);
+      answer = drive_answers _ _ _ s.1 s.2 (rw (c.scanned.ensures, s.0) at c.drive_over.ensures);
+      workspace = workspace_short z.page.now z.workspace.now (omega (arith, m, c.if-workspace-m.true)) ∙ sym (drive_workspace_lem z.page.now z.run.now z.workspace.now s.1 s.2);
     }
 
 pub slice_bounds-drive_built-end-2 : goal.slice_bounds-drive_built-end-2
 slice_bounds-drive_built-end-2 c = sym (length-take-le _ _ (omega (arith, c.if-workspace-m.false)))
 
 pub drive_built-drove-requires : goal.drive_built-drove-requires
-drive_built-drove-requires c =
-    let s = c.in_ok-check_areas.ensures in
-    (sound_solvable _ s.0, s.1, length-take-le _ _ (omega (arith, c.if-workspace-m.false)) ∙ c.index_length-m.ensures.0)
+drive_built-drove-requires c = let s = c.in_ok-page.ensures in (rw s.0 s.2, length-take-le _ _ (omega (arith, c.if-workspace-m.false)) ∙ c.index_length-m.ensures.0)
 
 pub returns : goal.returns
 returns c =
     let z = c.args in
-    let s = c.in_ok-check_areas.ensures in
+    let s = c.in_ok-page.ensures in
+    let m = rw s.0 at c.index_length-m.ensures in
     record {
-      answer = drive_answers _ _ _ s.0 s.1 c.drive_built-drove.ensures;
-      workspace = rw c.index_length-m.ensures.0 at (erased_front z.workspace.now c.drive_built-drove.new.workspace c.drive_built-drove.auto.workspace (omega (arith, c.if-workspace-m.false)) c.erase.ensures)
-          ∙ workspace_used z.page.now z.workspace.now (omega (arith, c.index_length-m.ensures, c.if-workspace-m.false))
-          ∙ sym (drive_workspace_lem z.page.now z.run.now z.workspace.now s.0 s.1);
+      answer = drive_answers _ _ _ s.1 s.2 (rw s.0 at c.drive_built-drove.ensures);
+      workspace = rw m.0 at (erased_front z.workspace.now c.drive_built-drove.new.workspace c.drive_built-drove.auto.workspace (omega (arith, c.if-workspace-m.false)) c.erase.ensures)
+          ∙ workspace_used z.page.now z.workspace.now (omega (arith, m, c.if-workspace-m.false))
+          ∙ sym (drive_workspace_lem z.page.now z.run.now z.workspace.now s.1 s.2);
     }

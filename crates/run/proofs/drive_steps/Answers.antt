@@ -7,7 +7,7 @@ use Rattle.run.proofs.Driving.{driving_first, driving_rests, driving_spends, dri
 use Rattle.run.proofs.drive_steps.Goals as goal
 
 pub loop-c-init : goal.loop-c-init
-loop-c-init c = (driving_first _ _ _ c.requires.0 c.requires.1, c.requires.4, c.requires.5)
+loop-c-init c = (driving_first _ _ _ c.recall.ensures c.requires.0, c.requires.1, c.requires.2)
 
 pub returns-then-spent : goal.returns-then-spent
 returns-then-spent c =
@@ -19,14 +19,13 @@ pub held-requires : goal.held-requires
 held-requires c =
     let i = c.loop-c.invariant in
     let w = lowest_waits i.2 (rw c.in-Some.is at c.lowest.ensures) in
-    omega (arith, w.within, long_of c.args.a.now _ i.0.run_sound)
+    omega (arith, w.within, long_of c.args.source.now.area _ i.0.run_sound)
 
 pub step-requires : goal.step-requires
 step-requires c =
-    let z = c.requires in
     let i = c.loop-c.invariant in
     let w = lowest_waits i.2 (rw c.in-Some.is at c.lowest.ensures) in
-    (z.0, i.0.run_sound, w.within, w.found, z.2, z.3, i.1)
+    (i.0.run_sound, w.within, w.found, i.1)
 
 pub loop-c-preserved : goal.loop-c-preserved
 loop-c-preserved c =
@@ -38,4 +37,4 @@ loop-c-preserved c =
 pub returns : goal.returns
 returns c =
     let i = c.loop-c.invariant in
-    driving_rests _ _ _ i.0 i.1 (none_waits i.2 (rw c.in_default.is at c.lowest.ensures) (head_of c.args.a.now c.requires.0).few)
+    driving_rests _ _ _ i.0 i.1 (none_waits i.2 (rw c.in_default.is at c.lowest.ensures) (head_of c.args.source.now.area i.0.page_solvable).few)

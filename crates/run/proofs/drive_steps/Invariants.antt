@@ -7,7 +7,7 @@ use Rattle.run.proofs.Driving.{Driving}
 use Rattle.run.proofs.drive_steps.Given as goal
 
 abbrev pub invariant-loop-c : goal.invariant-loop-c
-invariant-loop-c l = Driving l.a l.initial.run l.allowance l.run l.taken l.before × Beside l.a l.run l.values × WordsMatch (conditions_of l.a) l.run l.waiting.words
+invariant-loop-c l = Driving l.source.area l.initial.run l.allowance l.run l.taken l.before × Beside l.source.area l.run l.values × WordsMatch (conditions_of l.source.area) l.run l.waiting.words
 
 abbrev pub decreases-loop-c : goal.decreases-loop-c
 decreases-loop-c l = l.allowance - l.taken

@@ -4,8 +4,14 @@ use Rattle.std.proofs.lemmas.Result.{err_from_is_err_and}
 use Rattle.run.proofs.Answering.{refused_10}
 use Rattle.run.proofs.evaluate.Goals as goal
 
-pub returns-in_err-check_page : goal.returns-in_err-check_page
-returns-in_err-check_page c =
+pub returns-in_err-page : goal.returns-in_err-page
+returns-in_err-page c =
     let p = err_from_is_err_and c.from_residual.result c.from_residual.ensures.1 in
-    let f = c.in_err-check_page.ensures in
+    let f = c.in_err-page.ensures in
     rw (p.1, p.2, f.0) (refused_10 _ _ f.1 (evaluate c.args.condition))
+
+pub evaluate_sound-requires : goal.evaluate_sound-requires
+evaluate_sound-requires c = let f = c.in_ok-page.ensures in rw f.0 f.1
+
+pub returns : goal.returns
+returns c = rw c.in_ok-page.ensures.0 at c.evaluate_sound.ensures

@@ -4,7 +4,6 @@ use native.Mathlib.Omega.{arith}
 use Rattle.semantics.specs.Call.{evaluate}
 use Rattle.std.proofs.lemmas.Result.{err_from_is_err_and}
 use Rattle.worklist.proofs.Evaluation.{long_of}
-use Rattle.page.proofs.Solvable.{sound_solvable}
 use Rattle.run.proofs.Answering.{refused_14, evaluate_15, evaluate_16, evaluate_answers}
 use Rattle.run.proofs.evaluate_sound.Goals as goal
 
@@ -31,7 +30,7 @@ returns-then-not-waits c =
 pub evaluate_waiting-requires : goal.evaluate_waiting-requires
 evaluate_waiting-requires c =
     let i = c.in_ok-c.ensures in
-    (sound_solvable c.args.page.now c.requires, c.in_ok-check_run.ensures, rw i.0 i.1, c.if-not-waits.false)
+    (c.in_ok-check_run.ensures, rw i.0 i.1, c.if-not-waits.false)
 
 pub returns : goal.returns
 returns c =

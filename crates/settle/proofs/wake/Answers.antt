@@ -1,16 +1,15 @@
--- `wake` inserts the heads of the group of the literal.
+-- `wake` inserts the heads of the rules that have the literal (`woken_by`), or does nothing (`woken_none`).
 use native.Mathlib.Omega.{arith}
-use Rattle.settle.proofs.Waking.{joined_next, heads_inside, heads_small, woken_by}
+use Rattle.settle.proofs.Waking.{joined_next, heads_small, woken_by}
 use Rattle.settle.proofs.wake.Goals as goal
 
-pub slice_bounds-group-end : goal.slice_bounds-group-end
-slice_bounds-group-end c = omega (arith, heads_inside _ c.requires.0 _ c.requires.1 _ c.requires.2)
-
 pub insert-requires : goal.insert-requires
-insert-requires c = heads_small _ c.requires.0 _ c.requires.1 _ c.requires.2 c.loop-h.h-index (omega arith)
+insert-requires c = heads_small _ c.in-Some.ensures.sound _ c.in-Some.ensures.found.1 c.loop-h.h-index (omega arith)
 
 pub loop-h-preserved : goal.loop-h-preserved
-loop-h-preserved c = joined_next (λ j l. heads_small _ c.requires.0 _ c.requires.1 _ c.requires.2 j (omega (arith, l))) c.loop-h.invariant c.insert.ensures.set
+loop-h-preserved c =
+    joined_next (λ j l. heads_small _ c.in-Some.ensures.sound _ c.in-Some.ensures.found.1 j (omega (arith, l))) c.loop-h.invariant c.insert.ensures.set
 
-pub returns : goal.returns
-returns c = woken_by _ c.requires.0 _ c.requires.1 _ c.requires.2 (omega arith) c.requires.3 c.loop-h.invariant
+pub returns-after-loop-h : goal.returns-after-loop-h
+returns-after-loop-h c =
+    woken_by _ c.in-Some.ensures.sound _ c.in-Some.ensures.found.1 c.in-Some.ensures.found.0 (omega arith) c.requires.1 c.loop-h.invariant

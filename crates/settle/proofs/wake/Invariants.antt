@@ -3,4 +3,4 @@ use Rattle.settle.proofs.Waking.{Joined}
 use Rattle.settle.proofs.wake.Given as goal
 
 abbrev pub invariant-loop-h : goal.invariant-loop-h
-invariant-loop-h l = Joined l.group l.h-index l.initial.words.words l.words.words
+invariant-loop-h l = Joined l.heads l.h-index l.initial.words.words l.words.words

@@ -3,5 +3,5 @@ use mathlib.Core.Path.{◌≡◌}
 use Rattle.solve.proofs.Noting.{Noting}
 use Rattle.solve.proofs.note_queries.Given as goal
 
-abbrev pub invariant-loop-line : goal.invariant-loop-line
-invariant-loop-line l = (l.line-iterator.numbers.now ≡ l.page) × Noting l.page l.line-iterator.at l.line-iterator.passed l.queries l.k
+abbrev pub invariant-loop-at : goal.invariant-loop-at
+invariant-loop-at l = (l.at-iterator.numbers.now ≡ l.page) × Noting l.page l.at-iterator.at l.at-iterator.passed l.queries l.k

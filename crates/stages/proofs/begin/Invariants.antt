@@ -3,4 +3,4 @@ use Rattle.stages.proofs.Beginning.{Beginning}
 use Rattle.stages.proofs.begin.Given as goal
 
 abbrev pub invariant-loop-c : goal.invariant-loop-c
-invariant-loop-c l = Beginning l.a l.marks l.initial.scratch l.scratch l.c
+invariant-loop-c l = Beginning l.page l.marks l.initial.scratch l.scratch l.c

@@ -1,6 +1,10 @@
 -- `next_lows` takes the index, if there is one.
+use Rattle.index.proofs.Lookup.{area_is}
 use Rattle.stages.proofs.Notes.{page_noted}
 use Rattle.stages.proofs.next_lows.Goals as goal
 
-pub returns-then-is_empty : goal.returns-then-is_empty
-returns-then-is_empty c = (page_noted c.requires.0.page_solvable c.note_all.ensures, c.requires.2)
+pub returns-then-not-is_indexed : goal.returns-then-not-is_indexed
+returns-then-not-is_indexed c =
+    let e = area_is c.source.view_is in
+    let v = c.note_all.ensures in
+    (page_noted (rw e at v.sound) (rw e at v.noted), c.requires.1)

@@ -5,4 +5,4 @@ use Rattle.stages.proofs.note_all.Given as goal
 
 abbrev pub invariant-loop-at : goal.invariant-loop-at
 invariant-loop-at l =
-    (l.at-iterator.numbers.now ≡ l.a) × NotingPage l.a l.marks l.initial.scratch l.scratch l.initial.moved.words l.moved.words l.at-iterator.at l.at-iterator.passed
+    (l.at-iterator.numbers.now ≡ l.page) × NotingPage l.page l.marks l.initial.scratch l.scratch l.initial.moved.words l.moved.words l.at-iterator.at l.at-iterator.passed

@@ -5,5 +5,5 @@ use Rattle.stages.proofs.note_waiting.Given as goal
 
 abbrev pub invariant-loop-c : goal.invariant-loop-c
 invariant-loop-c l =
-    NotingWaiting l.a l.marks l.first l.places l.initial.scratch l.scratch l.initial.moved.words l.moved.words l.c-iterator.set.now.words
+    NotingWaiting l.source.area l.marks l.initial.scratch l.scratch l.initial.moved.words l.moved.words l.c-iterator.set.now.words
     × (l.c-iterator.set.ghost_name ≡ l.initial.c-iterator.set.ghost_name)

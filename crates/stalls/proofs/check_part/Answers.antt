@@ -2,11 +2,7 @@
 use mathlib.Core.Path.{refl, sym, ◌∙◌}
 use Rattle.stalls.specs.Answers.{stall_of}
 use Rattle.stalls.proofs.Lent.{lent_sound}
-use Rattle.page.proofs.Solvable.{sound_solvable}
 use Rattle.stalls.proofs.check_part.Goals as goal
-
-pub run_sound-requires : goal.run_sound-requires
-run_sound-requires c = sound_solvable c.args.page.now c.requires.0
 
 pub returns-then-run_sound : goal.returns-then-run_sound
 returns-then-run_sound c =

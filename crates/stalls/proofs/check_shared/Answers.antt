@@ -1,19 +1,18 @@
 -- `stalls::check_shared` meets its contract. Assumes nothing.
-use mathlib.Core.Path.{sym, ◌∙◌}
 use native.Mathlib.Omega.{arith}
-use Rattle.page.proofs.Solvable.{sound_solvable}
-use Rattle.page.proofs.Head.{head_of, conditions_is}
+use Rattle.page.proofs.Head.{conditions_is}
 use Rattle.stalls.proofs.Refusals.{refuses_10, refuses_60}
 use Rattle.stalls.proofs.check_shared.Goals as goal
 
-pub returns-then-not-page_sound : goal.returns-then-not-page_sound
-returns-then-not-page_sound c = refuses_10 _ _ (sym c.page_sound.ensures ∙ c.if-not-page_sound.true)
+pub returns-in_default : goal.returns-in_default
+returns-in_default c = refuses_10 _ _ c.in_default.ensures
 
-pub bounds-page-1 : goal.bounds-page-1
-bounds-page-1 c = omega (arith, head_of c.args.page.now (sound_solvable c.args.page.now (sym c.page_sound.ensures ∙ c.if-not-page_sound.false)))
-
-pub returns-then-area-page : goal.returns-then-area-page
-returns-then-area-page c = refuses_60 _ _ (sym c.page_sound.ensures ∙ c.if-not-page_sound.false) c.if-area-page.true
+pub returns-then-area-conditions : goal.returns-then-area-conditions
+returns-then-area-conditions c =
+    let p = c.in-Some.ensures in
+    refuses_60 _ _ p.0 (omega (arith, rw p.1 at c.conditions.ensures.value, c.if-area-conditions.true))
 
 pub returns : goal.returns
-returns c = (sym c.page_sound.ensures ∙ c.if-not-page_sound.false, omega (arith, conditions_is c.args.page.now, c.if-area-page.false))
+returns c =
+    let p = c.in-Some.ensures in
+    (p.1, p.0, omega (arith, rw p.1 at c.conditions.ensures.value, conditions_is c.args.page.now, c.if-area-conditions.false))

@@ -3,8 +3,12 @@ use Rattle.stalls.specs.Answers.{stall_of}
 use Rattle.stalls.proofs.Lent.{opens_lent}
 use Rattle.stalls.proofs.open_stall.Goals as goal
 
+pub open_sound-requires : goal.open_sound-requires
+open_sound-requires c = let p = c.in_ok-page.ensures in rw p.0 p.1
+
 pub returns : goal.returns
 returns c =
-    let p = c.in_ok-at.ensures in
-    let t = opens_lent c.args.page.now (stall_of c.args.stall) c.args.area.now p.1 p.2 p.0 c.args.queries.now (c.open_sound.ensures.answer, c.open_sound.ensures.left) in
+    let p = c.in_ok-page.ensures in
+    let o = rw p.0 at c.open_sound.ensures in
+    let t = opens_lent c.args.page.now (stall_of c.args.stall) c.args.area.now p.2 p.3 p.1 c.args.queries.now (o.answer, o.left) in
     record { answer = t.0; left = t.1 }

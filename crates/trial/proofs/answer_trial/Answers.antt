@@ -1,5 +1,5 @@
 -- `trial::answer_trial` meets its contract: the trial's page, both readings, the answers behind its number (`Changing`). Assumes nothing.
-use mathlib.Core.Path.{refl, ap}
+use mathlib.Core.Path.{ap}
 use mathlib.Core.List.{List}
 use Prim.Native.Nat.{ℕ}
 use native.Mathlib.Omega.{arith}
@@ -9,16 +9,13 @@ use Rattle.print.proofs.Writing.{puts_fits}
 use Rattle.trial.proofs.Changing.{lead_is, lead_few, area_solvable, room_for, trial_put}
 use Rattle.trial.proofs.answer_trial.Goals as goal
 
-pub solve-requires : goal.solve-requires
-solve-requires c = (area_solvable c.args.page.now c.requires.0 c.args.lines.now c.requires.1 _ _ c.change.ensures, refl, refl)
+pub invariant_of-changed : goal.invariant_of-changed
+invariant_of-changed c = area_solvable c.args.page.now c.requires.0 c.args.lines.now c.requires.1 _ _ c.change.ensures
 
 pub put_field-requires : goal.put_field-requires
 put_field-requires c =
     let n = c.new-lead.ensures in
     omega (arith, n.place, ap (λ (l : List ℕ). length l) n.bytes, number_short (get_or c.args.lines.now 0 0) (c.requires.1.number 0 (omega (arith, c.requires.2))))
-
-pub invariant_of-solved : goal.invariant_of-solved
-invariant_of-solved c = record { solvable = area_solvable c.args.page.now c.requires.0 c.args.lines.now c.requires.1 _ _ c.change.ensures; figures = c.solve.ensures }
 
 pub written-requires : goal.written-requires
 written-requires c = puts_fits c.put_field.ensures

@@ -8,4 +8,4 @@ use Rattle.value.proofs.Defaults.{bodyless_in}
 use Rattle.unknowns.proofs.high_from.Goals as goal
 
 pub overflow_cast-result : goal.overflow_cast-result
-overflow_cast-result c = omega (arith, ap (λ (p : Interval). p.high) c.bodyless-body.ensures, bodyless_in c.args.a.now c.args.c upper, (head_of _ c.requires.0).top_most)
+overflow_cast-result c = omega (arith, ap (λ (p : Interval). p.high) c.bodyless-body.ensures, bodyless_in c.args.page.now c.args.c upper, (head_of _ c.recall.ensures).top_most)

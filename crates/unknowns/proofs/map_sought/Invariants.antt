@@ -5,4 +5,4 @@ use Rattle.unknowns.proofs.Storing.{Storing}
 use Rattle.unknowns.proofs.map_sought.Given as goal
 
 abbrev pub invariant-loop-c : goal.invariant-loop-c
-invariant-loop-c g l = (f : ℕ → ℕ → ℕ) → Computes f (goal.F-post g l.made) → Storing l.a l.marks f l.initial.next l.next l.c
+invariant-loop-c g l = (f : ℕ → ℕ → ℕ) → Computes f (goal.F-post g l.made) → Storing l.page l.marks f l.initial.next l.next l.c

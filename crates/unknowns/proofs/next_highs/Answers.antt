@@ -10,10 +10,13 @@ use Rattle.unknowns.proofs.Closing.{part_grades, next_highs}
 use Rattle.unknowns.proofs.next_highs.Goals as goal
 
 pub sweep-requires : goal.sweep-requires
-sweep-requires c = (places_on _ _ c.requires.0 (c.map_sought.ensures (λ d x. 0) (λ p q r z. search rules)).steady, part_grades _ _ c.requires.1 (2 * conditions_of c.args.a.now) refl)
+sweep-requires c =
+    rw c.conditions-n.ensures.value
+    (places_on _ _ c.requires.0 (c.map_sought.ensures (λ d x. 0) (λ p q r z. search rules)).steady, part_grades _ _ c.requires.1 (2 * conditions_of c.args.page.now) refl)
 
 pub returns : goal.returns
 returns c =
-    let high : ℕ → ℕ → ℕ = λ d x. high_from (bodyless (page_of c.args.a.now) d).high x in
-    next_highs _ _ c.requires.1 (2 * conditions_of c.args.a.now) refl c.requires.0.page_solvable (c.map_sought.ensures (λ d x. 0) (λ p q r z. search rules)) c.sweep.ensures
+    let e = c.conditions-n.ensures in
+    let high : ℕ → ℕ → ℕ = λ d x. high_from (bodyless (page_of c.args.page.now) d).high x in
+    next_highs _ _ c.requires.1 (2 * conditions_of c.args.page.now) refl e.sound (c.map_sought.ensures (λ d x. 0) (λ p q r z. search rules)) (rw e.value at c.sweep.ensures)
     (c.map_sought-2.ensures high (λ p q r z. search rules))

@@ -1,12 +1,7 @@
 -- `sweep` looks at one line after the other (`Sweeping`).
 use Rattle.page.proofs.Steps.{stepped, passed_all}
-use Rattle.unknowns.proofs.Sweeping.{sweeping_first, sweeping_next, sweeping_last}
+use Rattle.unknowns.proofs.Sweeping.{sweeping_next, sweeping_last}
 use Rattle.unknowns.proofs.sweep.Goals as goal
-
-pub loop-at-init : goal.loop-at-init
-loop-at-init c =
-    let b = c.of-at-items.ensures in
-    rw c.into_iter-at-iterator.ensures.into_iter_gives (b.same, sweeping_first _ _ _ _ c.requires.0 (b.place, b.count))
 
 pub loop-at-preserved : goal.loop-at-preserved
 loop-at-preserved c =

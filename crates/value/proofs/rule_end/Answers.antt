@@ -6,14 +6,18 @@ use Rattle.value.proofs.RuleEnds.{foldable, fold_in, rule_end_is}
 use Rattle.value.proofs.rule_end.Goals as goal
 
 pub fold_by_op-r-requires : goal.fold_by_op-r-requires
-fold_by_op-r-requires c = (c.requires.2, foldable _ _ _ c.requires.2 c.requires.0 c.requires.1, c.requires.3, c.requires.4, adds_small (head_of c.args.a.now c.requires.0).top_least c.requires.5)
+fold_by_op-r-requires c =
+    let r = rw (← c.page.view_is) at c.requires in (r.1, foldable _ _ _ r.1 c.page.invariant r.0, r.2, r.3, adds_small (head_of _ c.page.invariant).top_least r.4)
 
 pub product-requires : goal.product-requires
 product-requires c =
-    let h = head_of c.args.a.now c.requires.0 in
-    let x = fold_in _ _ _ c.requires.2 _ c.requires.0 c.requires.1 c.requires.3 c.requires.4 (c.fold_by_op-r.ensures _ c.requires.5.1) in (h.top_most, x, c.requires.2.weight, adds_small h.top_least c.requires.5)
+    let r = rw (← c.page.view_is) at c.requires in
+    let h = head_of c.page.inside.numbers.now c.page.invariant in
+    let x = fold_in _ _ _ r.1 _ c.page.invariant r.0 r.2 r.3 (c.fold_by_op-r.ensures _ r.4.1) in (h.top_most, x, r.1.weight, adds_small h.top_least r.4)
 
 pub returns : goal.returns
 unfolding divided
 returns c =
-    λ e q. rule_end_is _ _ _ c.requires.2 e c.requires.0 c.requires.1 c.requires.3 c.requires.4 (c.fold_by_op-r.ensures e q) (rw q at c.product.ensures.value)
+    let r = rw (← c.page.view_is) at c.requires in
+    rw (← c.page.view_is)
+    (λ e q. rule_end_is _ _ _ r.1 e c.page.invariant r.0 r.2 r.3 (c.fold_by_op-r.ensures e q) (rw q at c.product.ensures.value))

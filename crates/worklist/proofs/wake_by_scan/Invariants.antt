@@ -7,5 +7,5 @@ use Rattle.worklist.proofs.wake_by_scan.Given as goal
 
 abbrev pub invariant-loop-at : goal.invariant-loop-at
 invariant-loop-at l =
-    (l.at-iterator.numbers.now ≡ l.a) × Marking l.a l.c l.initial.run l.run l.at-iterator.at l.at-iterator.passed
-    × StillMatches (conditions_of l.a) l.initial.run l.initial.waiting.words l.run l.waiting.words
+    (l.at-iterator.numbers.now ≡ l.page) × Marking l.page l.c l.initial.run l.run l.at-iterator.at l.at-iterator.passed
+    × StillMatches (conditions_of l.page) l.initial.run l.initial.waiting.words l.run l.waiting.words

@@ -1,6 +1,12 @@
 -- `worklist::wake_head` meets its contract: a head that wakes is put into the set. Assumes nothing.
+use native.Mathlib.Omega.{arith}
 use Rattle.worklist.proofs.Matching.{still_inserted}
 use Rattle.worklist.proofs.wake_head.Goals as goal
 
+pub insert-requires : goal.insert-requires
+insert-requires c = omega (arith, c.entry-line.ensures.inside)
+
 pub returns-then-line_names-clause-set : goal.returns-then-line_names-clause-set
-returns-then-line_names-clause-set c n l = still_inserted c.args.run.now c.requires.1 l c.insert.ensures.set
+returns-then-line_names-clause-set c =
+    let l = c.entry-line.ensures.inside.0 in
+    still_inserted c.args.run.now (omega (arith, l, c.requires.1)) l c.insert.ensures.set

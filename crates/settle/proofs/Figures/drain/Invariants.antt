@@ -5,7 +5,7 @@ use Rattle.settle.proofs.Draining.{left, Draining}
 use Rattle.settle.proofs.Figures.drain.Given as goal
 
 abbrev pub invariant-loop-c : goal.invariant-loop-c
-invariant-loop-c l = (l.last < 512) × Draining (side l.self.end) l.a l.marks l.first l.places l.initial.scratch l.scratch l.words.words l.changed
+invariant-loop-c l = (l.last < 512) × Draining (side l.self.end) l.source.area l.marks l.initial.scratch l.scratch l.words.words l.changed
 
 abbrev pub decreases-loop-c : goal.decreases-loop-c
-decreases-loop-c l = left (side l.self.end) l.a l.scratch l.words.words
+decreases-loop-c l = left (side l.self.end) l.source.area l.scratch l.words.words

@@ -3,4 +3,7 @@ use Rattle.settle.proofs.Settling.{settling_last, swept}
 use Rattle.settle.proofs.Figures.settle_sweeping.Goals as goal
 
 pub returns : goal.returns
-returns c = let w = swept _ _ _ (rw c.loop-changed-test.false at c.sweep.ensures) in rw w.0 (settling_last _ _ _ c.loop-changed.invariant w.1)
+returns c =
+    let s = c.sweep.ensures in
+    let w = swept _ _ _ s.sound (rw c.loop-changed-test.false at s.looked) in
+    rw w.0 (settling_last _ _ _ s.sound c.loop-changed.invariant w.1)

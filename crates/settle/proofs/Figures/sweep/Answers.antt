@@ -1,12 +1,9 @@
 -- `sweep` raises the ends of the heads line by line, in page order (`Sweeping`).
 use Rattle.page.proofs.Steps.{stepped}
-use Rattle.settle.proofs.Looking.{sweeping_first, sweeping_next}
+use Rattle.settle.proofs.Looking.{sweeping_next}
 use Rattle.settle.proofs.Figures.sweep.Goals as goal
-
-pub loop-at-init : goal.loop-at-init
-loop-at-init c = let b = c.of-at-items.ensures in rw c.into_iter-at-iterator.ensures.into_iter_gives (b.same, sweeping_first c.requires.0 b.place b.count)
 
 pub loop-at-preserved : goal.loop-at-preserved
 loop-at-preserved c =
     let s = stepped c.loop-at.invariant.0 c.in-Some.ensures.steps in
-    (s.same, sweeping_next c.loop-at.invariant.1 s.more s.next (rw s.here at c.raise-rose.ensures))
+    (s.same, sweeping_next c.loop-at.invariant.1 s.more s.next (rw s.here at c.raise-rose.ensures.raised))

@@ -6,4 +6,4 @@ use Rattle.settle.proofs.Figures.sweep.Given as goal
 
 abbrev pub invariant-loop-at : goal.invariant-loop-at
 invariant-loop-at l =
-    (l.at-iterator.numbers.now ≡ l.a) × Sweeping (side l.self.end) l.a l.marks l.initial.scratch l.scratch l.at-iterator.at l.at-iterator.passed l.rose
+    (l.at-iterator.numbers.now ≡ l.page) × Sweeping (side l.self.end) l.page l.marks l.initial.scratch l.scratch l.at-iterator.at l.at-iterator.passed l.rose

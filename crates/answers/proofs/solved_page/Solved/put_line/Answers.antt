@@ -1,13 +1,11 @@
 -- `Solved::put_line` meets its contract. Assumes nothing.
-use mathlib.Core.Path.{ap}
+use mathlib.Core.Path.{◌≡◌, ap}
 use mathlib.Core.List.{[], ◌∷◌}
-use Prim.Native.Nat.{◌-◌}
+use Prim.Native.Nat.{◌+◌}
 use native.Mathlib.Omega.{arith}
+use lib.ListN.{get_or}
 use Rattle.fixpoint.specs.Interval.{Interval}
-use Rattle.semantics.specs.Area.{top_of, conditions_of, used_of}
 use Rattle.semantics.specs.Output.{answer_fields, printed}
-use Rattle.page.proofs.Head.{head_of}
-use Rattle.page.proofs.Scan.{entry_head}
 use Rattle.print.proofs.Writing.{puts_as, puts_room}
 use Rattle.answers.specs.Printing.{query_at}
 use Rattle.answers.proofs.Printing.{put_one}
@@ -15,12 +13,11 @@ use Rattle.answers.proofs.solved_page.Solved.put_line.Goals as goal
 
 pub put_answer-requires : goal.put_answer-requires
 put_answer-requires c =
-    let a = c.args.self.now.page.now in
-    let at = c.args.at in
-    let k = c.requires.2 c.if-page-at-ne6.false in
+    let e = c.entry-line.ensures in
+    let k = rw (← e.value.x_is) at (c.requires.1 (omega (arith, e.value.kind_is, c.if-line-ne6.false))) in
     let f = c.ends.ensures in (
-      puts_room _ c.put_bytes.ensures (omega (arith, c.requires.3)),
-      omega (arith, entry_head (top_of a) (conditions_of a) (used_of a - at) a at c.requires.1, (head_of a c.args.self.now.solvable).few),
+      puts_room _ c.put_bytes.ensures (omega (arith, c.requires.2)),
+      omega (arith, e.inside),
       omega (arith, ap (λ (p : Interval). p.low) f, k.low),
       omega (arith, ap (λ (p : Interval). p.high) f, k.high),
     )
@@ -28,10 +25,9 @@ put_answer-requires c =
 pub returns : goal.returns
 returns c =
     let v = c.args.self.now in
-    let a = v.page.now in
-    let at = c.args.at in
-    let e = c.if-page-at-ne6.false in
-    put_one a v.plain.now v.closed.now c.args.lead.now at c.args.count c.args.text.now
-    (omega (arith, entry_head (top_of a) (conditions_of a) (used_of a - at) a at c.requires.1, (head_of a v.solvable).few))
-    (c.requires.2 e) e c.put_bytes.ensures
-    (puts_as (ap (λ (p : Interval). printed (answer_fields (query_at a at) p ∷ [])) c.ends.ensures) c.put_answer.ensures)
+    let e = c.entry-line.ensures in
+    let kind : get_or v.page.now (c.args.at + 1) 0 ≡ 6 = omega (arith, e.value.kind_is, c.if-line-ne6.false) in
+    let ends = rw e.value.x_is at c.ends.ensures in
+    put_one v.page.now v.plain.now v.closed.now c.args.lead.now c.args.at c.args.count c.args.text.now
+    (omega (arith, e.value.condition_is, e.inside)) (c.requires.1 kind) kind c.put_bytes.ensures
+    (puts_as (ap (λ (p : Interval). printed (answer_fields (query_at v.page.now c.args.at) p ∷ [])) ends) (rw (e.value.x_is, e.value.condition_is) at c.put_answer.ensures))

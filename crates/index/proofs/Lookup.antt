@@ -1,0 +1,130 @@
+-- A look-up in a part of an index finds the groups of its keys. Assumes nothing.
+use mathlib.Core.Path.{◌≡◌, sym, ◌∙◌, subst, ap}
+use mathlib.Core.Logic.{◌⊎◌, ⊎_elim}
+use mathlib.Core.Bool.{Bool, true, ◌||◌, or-true}
+use mathlib.Core.List.{List}
+use Prim.Native.Nat.{ℕ, zero, suc, ◌+◌, ◌*◌, ◌-◌, ◌≤◌, ◌<◌}
+use native.Mathlib.Decide.{dec_lt, ℕ_discrete}
+use native.Mathlib.Omega.{arith}
+use lib.ListN.{length, get_or, take, drop, length-drop}
+use lib.Seq.{length-take-le}
+use Rattle.std.proofs.lemmas.List.{get_or-take, get_or-drop}
+use Rattle.semantics.specs.Area.{page_of, conditions_of}
+use Rattle.semantics.proofs.Table.{or_cases}
+use Rattle.page.specs.Places.{LineOf}
+use Rattle.index.specs.By.{keys_by, HasBy}
+use Rattle.index.specs.Groups.{Groups}
+use Rattle.index.specs.Lookup.{Sourced, Lists, LinesAre, HeadsAre, DependantsAre, Between, items_between}
+use Rattle.index.specs.Parts.{Part, Lines, Users}
+use Rattle.index.specs.Readers.{lines_read}
+use Rattle.index.specs.declared.By.{By}
+use Rattle.index.specs.declared.By.TheVariants.{Head, Literal}
+use Rattle.index.proofs.Grouped.{group_order, group_within}
+use Rattle.index.proofs.Readers.{names_codes}
+
+-- the page of an opened source is the one that clauses name
+pub area_is : {a : List ℕ} {b : Bool} {s : Sourced} → record { area = a; indexed = b } ≡ s → a ≡ s.area
+area_is e = ap (λ (s : Sourced). s.area) e
+
+module _ (by : By) (a part : List ℕ) {n t t' : ℕ} (p : Part by a part) (is : n ≡ keys_by by a) (o : t ≤ t') (l : t' ≤ n) where
+  abbrev m : ℕ
+  m = keys_by by a
+
+  -- the group of a key from t up to t' has it
+  abbrev pub Found : ℕ → Type 0
+  Found q = (k : ℕ) × (t ≤ k) × (k < t') × HasBy by a k q
+
+  g : Groups m (HasBy by a) (take (m + 1) part) (drop (m + 1) part)
+  g = p.groups
+
+  start_at : (k : ℕ) → k ≤ m → get_or (take (m + 1) part) k 0 ≡ get_or part k 0
+  start_at k h = get_or-take (m + 1) part k 0 (omega arith)
+
+  order : (k j : ℕ) → k + j ≤ m → get_or part k 0 ≤ get_or part (k + j) 0
+  order k j h = omega (arith, group_order g j k h, start_at k (omega arith), start_at (k + j) h)
+
+  ordered : get_or part t 0 ≤ get_or part t' 0
+  ordered = let e : t + (t' - t) ≡ t' = omega arith in rw e at (order t (t' - t) (omega (arith, is)))
+
+  inside : m + 1 + get_or part t' 0 ≤ length part
+  inside = omega (arith, group_within g t' (omega (arith, is)), start_at t' (omega (arith, is)), length-drop (m + 1) part, p.long)
+
+  pub part_between : Between n t t' part
+  part_between = record { first = omega arith; last = l; ordered = ordered; inside = omega (arith, inside, is) }
+
+  size : length (items_between n t t' part) ≡ get_or part t' 0 - get_or part t 0
+  size =
+      let s = get_or part t' 0 - get_or part t 0 in
+      let d = drop (n + 1 + get_or part t 0) part in
+      length-take-le s d (omega (arith, length-drop (n + 1 + get_or part t 0) part, inside, ordered, is))
+
+  item_at : (j : ℕ) → j < get_or part t' 0 - get_or part t 0 → get_or (items_between n t t' part) j 0 ≡ get_or (drop (m + 1) part) (get_or part t 0 + j) 0
+  item_at j h =
+      let z : n + 1 + get_or part t 0 + j ≡ m + 1 + (get_or part t 0 + j) = omega (arith, is) in
+      rw (get_or-take (get_or part t' 0 - get_or part t 0) (drop (n + 1 + get_or part t 0) part) j 0 h, get_or-drop (n + 1 + get_or part t 0) part j 0, get_or-drop (m + 1) part (get_or part t 0 + j) 0, z)
+
+  -- the key in whose group a place is
+  key_of : (d j : ℕ) → t + d ≤ m → get_or part t 0 ≤ j → j < get_or part (t + d) 0 → (k : ℕ) × (t ≤ k) × (k < t + d) × (get_or part k 0 ≤ j) × (j < get_or part (k + 1) 0)
+  key_of zero j h u v = let z : t + 0 ≡ t = omega arith in absurd (omega (arith, u, rw z at v))
+  key_of (suc d) j h u v =
+      elim (dec_lt j (get_or part (t + d) 0)) [
+        | yes y ↦ let f = key_of d j (omega arith) u y in (f.0, f.1, omega (arith, f.2), f.3, f.4)
+        | no y ↦ let z : t + suc d ≡ t + d + 1 = omega arith in (t + d, omega arith, omega arith, omega (arith, y), rw z at v)
+      ]
+
+  pub part_lists : Lists Found (items_between n t t' part)
+  part_lists =
+      record {
+        only = λ j h.
+            let k : j < get_or part t' 0 - get_or part t 0 = rw size at h in
+            let e : t + (t' - t) ≡ t' = omega arith in
+            let f = key_of (t' - t) (get_or part t 0 + j) (omega (arith, is)) (omega arith) (rw e (omega (arith, k))) in (
+              f.0,
+              f.1,
+              omega (arith, f.2, e),
+              subst (HasBy by a f.0) (sym (item_at j k))
+                  (g.only f.0 (get_or part t 0 + j) (omega (arith, f.2, is)) (omega (arith, f.3, start_at f.0 (omega (arith, f.2, is)))) (omega (arith, f.4, start_at (f.0 + 1) (omega (arith, f.2, is))))),
+            );
+        every = λ q h.
+            let f = g.every h.0 q (omega (arith, h.2, is)) h.3 in
+            let ea : t + (h.0 - t) ≡ h.0 = omega (arith, h.1) in
+            let eb : h.0 + 1 + (t' - (h.0 + 1)) ≡ t' = omega (arith, h.2) in
+            let low : get_or part t 0 ≤ f.0 = omega (arith, f.1, start_at h.0 (omega (arith, h.2, is)), rw ea at (order t (h.0 - t) (omega (arith, h.1, h.2, is)))) in
+            let high : f.0 < get_or part t' 0 = omega (arith, f.2, start_at (h.0 + 1) (omega (arith, h.2, is)), rw eb at (order (h.0 + 1) (t' - (h.0 + 1)) (omega (arith, h.2, is)))) in
+            let k : f.0 - get_or part t 0 < get_or part t' 0 - get_or part t 0 = omega (arith, low, high) in
+            let z : get_or part t 0 + (f.0 - get_or part t 0) ≡ f.0 = omega (arith, low) in
+            (f.0 - get_or part t 0, rw size k, item_at (f.0 - get_or part t 0) k ∙ rw z f.3);
+      }
+
+-- the same list, told otherwise
+lists_as : {Has Has' : ℕ → Type 0} {items : List ℕ} → ((q : ℕ) → Has q → Has' q) → ((q : ℕ) → Has' q → Has q) → Lists Has items → Lists Has' items
+lists_as f h s = record { only = λ j l. f _ (s.only j l); every = λ q w. s.every q (h q w) }
+
+module _ (a part : List ℕ) {n : ℕ} where
+  pub lines_listed : {c : ℕ} → Lines a part → n ≡ conditions_of a → c < n → LinesAre a c (items_between n c (c + 1) part)
+  lines_listed {c} p e l =
+      lists_as (λ q w. let z : w.0 ≡ c = omega (arith, w.1, w.2) in subst (λ k. LineOf a k q) z w.3) (λ q w. (c, omega arith, omega arith, w))
+      (part_lists Head a part p e (omega arith) (omega arith))
+
+  pub heads_listed : {code : ℕ} → Users a part → n ≡ 2 * conditions_of a → code < n → HeadsAre a code (items_between n code (code + 1) part)
+  heads_listed {code} p e l =
+      lists_as (λ q w. let z : w.0 ≡ code = omega (arith, w.1, w.2) in rw z at w.3) (λ q w. (code, omega arith, omega arith, w))
+      (part_lists Literal a part p e (omega arith) (omega arith))
+
+  pub dependants_listed : (c : ℕ) {t : ℕ} → Users a part → n ≡ 2 * conditions_of a → t ≡ 2 * c → t + 2 ≤ n → DependantsAre a c (items_between n t (t + 2) part)
+  dependants_listed c {t} p e s l =
+      lists_as (λ q w. names_codes (page_of a).lines q c ∙ either q w) (λ q w. found q (or_cases _ _ (sym (names_codes (page_of a).lines q c) ∙ w)))
+      (part_lists Literal a part p e (omega arith) l)
+    where
+      One : ℕ → Type 0
+      One q = (k : ℕ) × (t ≤ k) × (k < t + 2) × HasBy Literal a k q
+
+      either : (q : ℕ) → One q → (lines_read (2 * c) (page_of a).lines q || lines_read (2 * c + 1) (page_of a).lines q) ≡ true
+      either q w =
+          elim (ℕ_discrete w.0 (2 * c)) [
+            | yes y ↦ rw (rw y at w.3)
+            | no y ↦ let z : w.0 ≡ 2 * c + 1 = omega (arith, w.1, w.2, s) in rw (rw z at w.3, or-true)
+          ]
+
+      found : (q : ℕ) → (lines_read (2 * c) (page_of a).lines q ≡ true) ⊎ (lines_read (2 * c + 1) (page_of a).lines q ≡ true) → One q
+      found q w = ⊎_elim (λ r. (2 * c, omega (arith, s), omega (arith, s), r)) (λ r. (2 * c + 1, omega (arith, s), omega (arith, s), r)) w

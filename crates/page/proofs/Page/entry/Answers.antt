@@ -1,0 +1,12 @@
+-- `entry` reads the entry of a line, which lies in the area.
+use Rattle.page.proofs.Head.{head_of}
+use Rattle.page.proofs.LineNumbers.{entry_of, head_in}
+use Rattle.page.proofs.Page.entry.Goals as goal
+
+pub entry_at-requires : goal.entry_at-requires
+entry_at-requires c = entry_of c.self.inside.numbers.now c.self.invariant (rw (← c.self.view_is) at c.requires)
+
+pub returns-clause-inside : goal.returns-clause-inside
+returns-clause-inside c =
+    let l = rw (← c.self.view_is) at c.requires in
+    rw (← c.self.view_is) (rw c.entry_at.ensures.condition_is (head_in c.self.inside.numbers.now c.self.invariant l), (head_of c.self.inside.numbers.now c.self.invariant).few)
