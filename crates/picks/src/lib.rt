@@ -104,7 +104,7 @@ fn figures_held(page: &Page, queries: &[u16], figures: &[u16], values: &[u8]) ->
     true
 }
 
-// Why picks or figures are not accepted: the cause that refuses the queries; 50 with the place of the pick; 51; 52.
+// Why picks or figures are not accepted: the page or the queries are refused; a pick is not waiting, with its place; not at rest; wrong figures.
 #[derive(Clone, Copy)]
 pub enum PickError {
     Refused(Refusal),

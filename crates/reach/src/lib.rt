@@ -259,7 +259,7 @@ pub fn all_below(queries: &[u16], n: u16) -> bool
     queries.iter().all(|&c| c < n)
 }
 
-// Whether a list has 1 to 16 queries, and every query is below n.
+// A list has 1 to 16 queries, and every query is below n; else why not.
 pub fn check_queries(queries: &[u16], n: u16) -> Result<(), Refusal>
     ensures { QueriesChecked n queries.now result }
 {

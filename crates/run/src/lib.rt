@@ -64,7 +64,7 @@ fn condition_in(page: &Page, condition: u32) -> Result<u16, Refusal>
     Ok(condition as u16)
 }
 
-// An evaluation that nothing refuses. The set of those that wait is not asked for, so it is left empty.
+// An evaluation that nothing refuses. The set of those that wait is not asked for, so it begins empty.
 fn evaluate_waiting(page: &Page, run: &mut [u16], c: u16) -> Told
     requires { (run_sound (page_of page.now) run.old ≡ true) × (c < conditions_of page.now) × (mark_at run.old c ≡ 2) }
     ensures { Evaluated (page_of page.now) c run.old run.new result.changed × (result.line ≡ holder (page_of page.now) (worklist_of (page_of page.now) run.old) c) }

@@ -1,4 +1,4 @@
-// Both readings of a page for all of its Q lines at once: one plain and one closed solving, however many Q lines there are.
+// Both readings of a page for all of its Q lines: one closed solving, and one plain run or one for each Q line.
 #![tactic(auto)]
 
 ghost use Rattle.std.specs.Prelude.{◌≡◌, true, ◌*◌, ◌≤◌, ◌<◌, length};
