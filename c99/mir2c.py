@@ -69,8 +69,8 @@ ONCE = '''#ifdef __GNUC__
 # functions of the reader are parts for the same reason: what they answer is locals then.
 PARTS = {'page::defaults_ok', 'stages::support', 'stages::advance', 'stages::follow', 'stages::take_highs', 'settle::Figures::raise',
          'rounds::round', 'page::Page::of', 'page::Page::lines', 'page::Page::entry', 'page::entry_at', 'page::Lines::checked',
-         'page::LinesIterator::next', 'reach::follow', 'reach::pass', 'picks::judge', 'run::check_areas', 'stalls::part_at',
-         'stalls::check_shared', 'fields::digits', 'fields::digits_from', 'lines::parse_pair', 'reader::write::checked_pair'}
+         'page::LinesIterator::next', 'reach::follow', 'reach::pass', 'picks::judge', 'run::check_areas', 'run::reached',
+         'stalls::part_at', 'stalls::check_shared', 'fields::digits', 'fields::digits_from', 'lines::parse_pair', 'reader::write::checked_pair'}
 BESIDE = {'page::page_sound', 'reach::mark_closure', 'settle::settle', 'settle::wake', 'rounds::all_waiting', 'stages::begin',
           'stages::lower_tops', 'stages::note_all', 'stages::note_waiting', 'stages::take_all', 'stages::look_again'}
 

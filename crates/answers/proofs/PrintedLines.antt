@@ -1,14 +1,25 @@
 -- A printed line, from the bytes that are written for it. Assumes nothing.
 use mathlib.Core.Path.{◌≡◌, sym, ◌∙◌, ap}
 use mathlib.Core.List.{List, [], ◌∷◌, ◌++◌, append_assoc, append-nil}
-use Prim.Native.Nat.{ℕ}
+use Prim.Native.Nat.{ℕ, ◌+◌, ◌<◌}
+use native.Mathlib.Omega.{arith}
+use lib.ListN.{length-append}
 use Rattle.fixpoint.specs.Interval.{Interval}
 use Rattle.semantics.specs.Fields.{number_text, reading_letter}
+use Rattle.semantics.proofs.TextNumbers.{number_short}
+use Rattle.print.specs.declared.Text.{Text}
+use Rattle.print.specs.Texts.{Room, Puts}
+use Rattle.print.proofs.Writing.{puts_room}
 use Rattle.semantics.specs.Output.{Query, top_fields, answer_fields, end_fields, refusal_fields, printed}
 
 -- a number that ends a field or a line
 abbrev ended : ℕ → ℕ → List ℕ
 ended n b = number_text n ++ (b ∷ [])
+
+-- the room behind one of three digits
+module _ {n : ℕ} (few : n < 1000) where
+  pub field_passed : {t t' : Text} (b k : ℕ) → Puts t (ended n b) t' → Room t (4 + k) → Room t' k
+  field_passed b k w r = puts_room k w (omega (arith, number_short n few, length-append (number_text n) (b ∷ [])))
 
 -- a field behind others
 field_on : (n : ℕ) (more : List ℕ) → ended n 44 ++ more ≡ number_text n ++ (44 ∷ more)

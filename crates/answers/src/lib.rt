@@ -43,7 +43,8 @@ pub fn put_refusal(text: &mut Text<'_>, number: u16, line: usize)
     text.put_field(line as u32, b'\n');
 }
 
-// The letter of a reading.
+// The letter of a reading. A reading is a number, 0 for K and 1 for W, as it stands in the area that C reads (document 01, "Areas"): an enum would be
+// made of it and matched at once.
 fn letter(reading: u16) -> u8
     ensures { result ≡ reading_letter (reading_of reading) }
 {

@@ -32,6 +32,7 @@ pub fn put_output(text: &[u8], output: &mut Text<'_>)
     ensures { PutOutput text.now output.old output.new }
 {
     let mut area = [0u16; 12804];
+    // what is read is a sound page, so `Page::of` need not test it
     match reader::read_page(text, &mut area) {
         Ok(_) => put_page(&Page { numbers: &area }, output),
         Err(refusal) => put_refusal(output, refusal.cause.number(), refusal.line),

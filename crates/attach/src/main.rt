@@ -9,6 +9,7 @@ use input::read_input;
 use std::io;
 
 fn main(rt: HostRuntime) -> io::Result<()> {
+    // there is no heap: what is read, and what is printed, is the front of an array
     let mut text = [0u8; 65536];
     let n = read_input(&mut rt.stdin(), &mut text);
     let mut output = [0u8; 14353];

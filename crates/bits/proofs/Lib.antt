@@ -4,3 +4,5 @@ pub mod Bits
 pub mod Sets
 -- the ones of words
 pub mod Ones
+-- one is taken out of a set
+pub mod Members

@@ -9,11 +9,11 @@ use native.Mathlib.Omega.{arith}
 use lib.ListN.{length, get_or, drop}
 use Rattle.fixpoint.specs.Interval.{Interval, Assign}
 use Rattle.fixpoint.proofs.KnowledgeOrder.{pair_eq}
-use Rattle.semantics.specs.Area.{page_of, top_of, conditions_of, count_of, used_of, line_at}
+use Rattle.semantics.specs.Area.{page_of, top_of, conditions_of, count_of, line_at}
 use Rattle.semantics.specs.Body.{line_body, bodyless, T}
 use Rattle.semantics.specs.Grade.{End, lower, upper}
 use Rattle.page.specs.Places.{place_of, LineIn, LineOf}
-use Rattle.page.proofs.LineNumbers.{scanning_at, entry_of, shape, line_of, adds_one}
+use Rattle.page.proofs.LineNumbers.{shape, line_of, adds_one}
 use Rattle.std.specs.Prelude.{Option, None, Some}
 use Rattle.value.specs.declared.Ends.{Ends}
 use Rattle.value.specs.Table.{end_of, EndTable}
@@ -24,7 +24,6 @@ use Rattle.ends.specs.Mirror.{mirrored}
 use Rattle.index.specs.Lookup.{LinesAre}
 use Rattle.body.specs.Body.{so_far, Taken, Largest, BestOf, Body}
 use Rattle.page.specs.Solvable.{solvable}
-use Rattle.page.proofs.Solvable.{solvable_used}
 
 -- an F or R line is one of its head
 pub here_line : {a : List ℕ} {c at : ℕ} → LineIn a at → get_or a at 0 ≡ c → get_or a (at + 1) 0 ≤ 5 → LineOf a c at
@@ -37,9 +36,6 @@ module _ (e : End) (a values : List ℕ) (c : ℕ) where
     pub reached : (I : Assign) → EndTable e (top_of a) (conditions_of a) I values → best ≤ end_of e (T (page_of a) I c)
     pub covers : (I : Assign) → EndTable e (top_of a) (conditions_of a) I values → (p : ℕ) → Seen p → LineOf a c p → (q : Interval)
         → line_body (top_of a) I c (line_at (drop p a)) ≡ q ∷ [] → end_of e q ≤ best
-
-  seeing_none : (Seen : ℕ → Type 0) → ((p : ℕ) → Seen p → ⊥) → Seeing Seen 0
-  seeing_none Seen s = record { grade = omega arith; reached = λ I t. omega arith; covers = λ I t p h o q z. absurd (s p h) }
 
   module _ {Seen : ℕ → Type 0} {best : ℕ} (b : Seeing Seen best) where
     -- a line that is not one of c, and one that is
@@ -85,9 +81,6 @@ module _ (a values : List ℕ) (c : ℕ) where
     pub high_end : Seeing upper a (mirrored (top_of a) values) c Seen (so_far best).high
     pub none : best ≡ None → (p : ℕ) → Seen p → LineOf a c p → ⊥
     pub some : {e : Ends} → best ≡ Some e → (p : ℕ) × LineOf a c p
-
-  pub gathering_none : (Seen : ℕ → Type 0) → ((p : ℕ) → Seen p → ⊥) → Gathering Seen None
-  gathering_none Seen s = record { low_end = seeing_none _ _ _ _ Seen s; high_end = seeing_none _ _ _ _ Seen s; none = λ e p h o. s p h; some = λ {e} q. cc }
 
   -- a line that is not looked at, since it is of another head
   pub gathering_skip : {Seen : ℕ → Type 0} (Seen' : ℕ → Type 0) {best : Option Ends} → Gathering Seen best → {at : ℕ} → (get_or a at 0 ≡ c → ⊥)

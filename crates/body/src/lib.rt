@@ -1,4 +1,6 @@
 // Both ends of the body value T of a condition, over its lines: by the index, or by a scan where there is none. Which line holds the low end.
+// The table `values` stands beside the page in each contract: an operation has it on its stack, and an evaluation that changes something writes it
+// while the page stays as it is, so a struct of both would be made and taken apart at each evaluation (`step::step`).
 #![tactic(auto)]
 
 ghost use Rattle.std.specs.Prelude.{◌≡◌, true, ◌<◌, get_or, drop};

@@ -13,8 +13,6 @@ ghost use Rattle.stalls.specs.Answers.{turn_answer_of};
 ghost use Rattle.closed.specs.Answer.{closing_told};
 ghost use Rattle.capi.specs.Codes.{minus, status_code, answer_code, taken_or, line_or, interval_or, open_code, counts_or, read_code, line_told, place_told, closed_code, rounds_or, ClosedCall, LayersCall, PicksCall, rest_told, turn_code, stall_told, first_or, second_or, FollowersCall, small_code, season_code, pair_told, figures_or};
 
-use layers::LayersError;
-use picks::PickError;
 use reach::Opened;
 use refusal::Refusal;
 use run::{Drove, Told};
@@ -31,7 +29,7 @@ fn minus(number: u8) -> i32
 fn rest_code(rest: bool) -> i32
     ensures { result ≡ status_code (status_if rest) }
 {
-    if rest { 1 } else { 0 }
+    i32::from(rest)
 }
 
 // Read a page: the used length, or minus 1, 2, 5, 3, 4, 21, 22, 23, 24 or 6.
@@ -121,8 +119,7 @@ fn evaluate_code(answer: Result<Told, Refusal>) -> i32
     ensures { result ≡ answer_code (evaluate_answer_of answer) }
 {
     match answer {
-        Ok(told) if told.changed => 1,
-        Ok(_) => 0,
+        Ok(told) => i32::from(told.changed),
         Err(no_evaluation) => minus(no_evaluation.number()),
     }
 }
@@ -278,10 +275,9 @@ pub extern "C" fn simjorad_layers(page: &[u16], layers: &mut [u16], condition: &
     *condition = 0;
     match layers::check_layers(page, layers) {
         Ok(()) => 0,
-        Err(LayersError::Refused(refusal)) => minus(refusal.number()),
-        Err(LayersError::Loop(c)) => {
-            *condition = c as u32;
-            minus(30)
+        Err(no_layers) => {
+            *condition = no_layers.condition() as u32;
+            minus(no_layers.number())
         }
     }
 }
@@ -300,13 +296,10 @@ pub extern "C" fn simjorad_check_picks(
     *place = 0;
     match picks::check_picks(page, queries, picks, figures) {
         Ok(()) => 0,
-        Err(PickError::Refused(refusal)) => minus(refusal.number()),
-        Err(PickError::NotWaiting(bad)) => {
-            *place = bad;
-            minus(50)
+        Err(not_accepted) => {
+            *place = not_accepted.place();
+            minus(not_accepted.number())
         }
-        Err(PickError::NotAtRest) => minus(51),
-        Err(PickError::WrongFigures) => minus(52),
     }
 }
 
@@ -372,10 +365,7 @@ pub extern "C" fn simjorad_evaluate_second(page: &[u16], area: &mut [u16], condi
 fn rest_told(rest: bool) -> u32
     ensures { result ≡ rest_told (status_if rest) }
 {
-    if rest {
-        return 1;
-    }
-    0
+    u32::from(rest)
 }
 
 // What a turn answers: 0, or minus a refusal with the stall, 0 where there is none; the counts are told unless it is refused.

@@ -12,7 +12,7 @@ use Rattle.semantics.specs.Trials.{TrialLine, interval_for, tried}
 use Rattle.std.specs.Prelude as code
 use Rattle.std.specs.Prelude.{None, Some, is_some}
 use Rattle.std.specs.Option.{option_or}
-use Rattle.change.specs.declared.Ends.{Ends}
+use Rattle.value.specs.declared.Ends.{Ends}
 use Rattle.change.specs.Trial.{trial_at, lines_at, lines_in, given_of, is_given}
 
 -- a line of another condition gives nothing, one of the condition its interval

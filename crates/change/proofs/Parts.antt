@@ -8,11 +8,6 @@ use lib.Seq.{length-take-le}
 use Rattle.semantics.specs.Trials.{TrialLine}
 use Rattle.change.specs.Trial.{lines_at, lines_in}
 
--- a line and those behind it
-pub lines_cons : (t : TrialLine) (k : ℕ) (p : List ℕ) → lines_at (suc k) (t.trial ∷ t.condition ∷ t.low ∷ t.high ∷ p) ≡ t ∷ lines_at k p
-unfolding lines_at
-lines_cons t k p = refl
-
 -- the lines of a part are the first ones of the whole
 part_lines : (k : ℕ) (p : List ℕ) → 4 * k ≤ length p → lines_at k (take (4 * k) p) ≡ lines_at k p
 unfolding lines_at

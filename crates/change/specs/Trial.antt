@@ -7,7 +7,7 @@ use Rattle.fixpoint.specs.Interval.{Interval}
 use Rattle.semantics.specs.Page.{Line, fact, rule, query, default}
 use Rattle.semantics.specs.Area.{page_of, area_of}
 use Rattle.semantics.specs.Trials.{TrialLine, tried, changed_page}
-use Rattle.change.specs.declared.Ends.{Ends}
+use Rattle.value.specs.declared.Ends.{Ends}
 
 -- the line at the front: trial, condition, low, high
 abbrev pub trial_at : List ℕ → TrialLine

@@ -13,15 +13,9 @@ ghost use Rattle.change.specs.Written.{PutsEntry, PutsLines, FactsFit, LinesKept
 
 use page::{Page, span_of};
 use print::put_all;
+use value::Ends;
 
-// The interval that a line of a trial gives a condition. Not the `Ends` of `value`: this crate stands on page and print alone.
-#[derive(Clone, Copy)]
-struct Ends {
-    low: u16,
-    high: u16,
-}
-
-// What a line of the trial gives c.
+// What a line of the trial gives c. A line is four numbers, and no struct: `list` promises what the slice of lines holds as numbers.
 fn line_gives(line: &[u16], c: u16) -> Option<Ends>
     requires { 4 ≤ length line.now }
     ensures { given_of result ≡ interval_for (trial_at line.now) c }

@@ -8,7 +8,7 @@ use native.Mathlib.Numerals.{add-one}
 use native.Mathlib.Omega.{arith}
 use lib.Dec.{leb}
 use lib.ListN.{length, get_or, set, take, drop, length-append, length-take}
-use lib.Seq.{drop-cons, take-suc, take-length, set_at}
+use lib.Seq.{drop-cons, take-suc, set_at}
 use borrow.Author.Tests.{le-leb, lt-leb, leb-true, not-false}
 use Rattle.fixpoint.specs.ChaoticIteration.{DependencyClosed}
 use Rattle.fixpoint.specs.Interval.{Assign}
@@ -159,31 +159,38 @@ module _ (a qs s w : List ℕ) where
   abbrev behind : List Cause
   behind = cause (not (leb (scratch_length (page_of a)) (length s))) 18 ∷ cause (not (leb (2 * length qs) (length w))) 19 ∷ []
 
-  module _ (ok : sound a ≡ true) where
+  -- p is the page and n its number of conditions
+  module _ {p : List ℕ} (e : (sound a ≡ true) × (p ≡ a)) {n : ℕ} (z : n ≡ conditions_of p) where
+    size : n ≡ conditions_of a
+    size = z ∙ ap conditions_of e.1
+
     -- past 10 the causes of the list come first
-    causes_are : first_of (closed_causes a qs s w) ≡ first_of (list_causes (conditions_of a) qs ++ behind)
+    causes_are : first_of (closed_causes a qs s w) ≡ first_of (list_causes n qs ++ behind)
     unfolding page_of
-    causes_are = rw ok
+    causes_are = rw (e.0, size)
 
-    pub causes_list : {k : ℕ} → some k ≡ first_of (list_causes (conditions_of a) qs) → FirstCause (some k) a qs s w
-    causes_list {k} f = record { is = sym (causes_are ∙ first_before (list_causes (conditions_of a) qs) behind (sym f)) }
+    pub causes_list : {k : ℕ} → some k ≡ first_of (list_causes n qs) → FirstCause (some k) a qs s w
+    causes_list {k} f = record { is = sym (causes_are ∙ first_before (list_causes n qs) behind (sym f)) }
 
-    module _ (f : none ≡ first_of (list_causes (conditions_of a) qs)) where
+    module _ (f : none ≡ first_of (list_causes n qs)) where
       past_list : first_of (closed_causes a qs s w) ≡ first_of behind
-      past_list = causes_are ∙ first_after (list_causes (conditions_of a) qs) behind (sym f)
+      past_list = causes_are ∙ first_after (list_causes n qs) behind (sym f)
 
-      pub causes_18 : length s < 4 * conditions_of a → FirstCause (some 18) a qs s w
+      pub causes_18 : length s < 4 * n → FirstCause (some 18) a qs s w
       unfolding page_of
-      causes_18 l = record { is = sym (past_list ∙ rw (lt-leb (4 * conditions_of a) (length s) l)) }
+      causes_18 l = record { is = sym (past_list ∙ rw (lt-leb (4 * conditions_of a) (length s) (omega (arith, size, l)))) }
 
-      module _ (long : 4 * conditions_of a ≤ length s) where
+      module _ (long : 4 * n ≤ length s) where
+        long_is : leb (4 * conditions_of a) (length s) ≡ true
+        long_is = le-leb (4 * conditions_of a) (length s) (omega (arith, size, long))
+
         pub causes_19 : length w < 2 * length qs → FirstCause (some 19) a qs s w
         unfolding page_of
-        causes_19 l = record { is = sym (past_list ∙ rw (le-leb (4 * conditions_of a) (length s) long, lt-leb (2 * length qs) (length w) l)) }
+        causes_19 l = record { is = sym (past_list ∙ rw (long_is, lt-leb (2 * length qs) (length w) l)) }
 
         pub causes_none : 2 * length qs ≤ length w → FirstCause none a qs s w
         unfolding page_of
-        causes_none l = record { is = sym (past_list ∙ rw (le-leb (4 * conditions_of a) (length s) long, le-leb (2 * length qs) (length w) l)) }
+        causes_none l = record { is = sym (past_list ∙ rw (long_is, le-leb (2 * length qs) (length w) l)) }
 
   -- a refusal
   pub refused_by : {k : ℕ} → FirstCause (some k) a qs s w → ClosedOf (refused_closing k) a qs s w s w

@@ -2,6 +2,7 @@
 #![tactic(auto)]
 
 ghost use Rattle.std.specs.Prelude.{◌≡◌, ◌++◌, ℕ, ◌≤◌, ◌+◌, ◌<◌, ◌*◌, length, get_or, drop, IfOk};
+ghost use Rattle.semantics.specs.Area.{top_of, conditions_of};
 ghost use Rattle.semantics.specs.Operation.{ends, zeros, used_workspace, closed_workspace, ClosedOf};
 ghost use Rattle.closed.specs.Solving.{ends_at, Begun, SolveReady, Solved};
 ghost use Rattle.reach.specs.Queries.{refused_with};
@@ -12,12 +13,14 @@ use page::Page;
 use refusal::Refusal;
 
 // Nothing is known: the low ends are 0 and the high ends top.
-fn begin(scratch: &mut [u16], n: u16, top: u16)
-    requires { (4 * n ≤ length scratch.old) × (n ≤ 512) }
-    ensures { Begun n top scratch.old scratch.new }
+fn begin(page: &Page, scratch: &mut [u16])
+    requires { 4 * conditions_of page.now ≤ length scratch.old }
+    ensures { Begun (conditions_of page.now) (top_of page.now) scratch.old scratch.new }
 {
-    let base = 2 * n as usize;
-    for c in 0..n as usize {
+    let top = page.top();
+    let n = page.conditions() as usize;
+    let base = 2 * n;
+    for c in 0..n {
         scratch[2 * c] = 0;
         scratch[base + 2 * c] = top;
     }
@@ -36,7 +39,8 @@ pub fn write_ends(table: &[u16], step: usize, gap: usize, queries: &[u16], answe
 }
 
 // The closed reading of every condition reached from the queries, in the scratch; its answers; and the count of rounds if it is asked for, which
-// leaves other numbers in the scratch. `counting` stays a switch: a second function would repeat this one and its contract.
+// leaves other numbers in the scratch. `counting` stays a switch: a second function would repeat this one and its contract. Without a count it
+// answers 0, which nobody reads: `solve_over` is public and answers a number, so it would have to make one of an `Option`.
 fn solve(
     source: &Source,
     queries: &[u16],
@@ -51,7 +55,7 @@ fn solve(
     let n = page.conditions();
     let mut marks = [false; 512];
     reach::mark_closure(page, queries, &mut marks);
-    begin(scratch, n, page.top());
+    begin(page, scratch);
     let free = unknowns::any_free(page, &marks);
     let mut next = [0u8; 512];
     rounds::alternate(source, &marks, scratch, &mut next, free);
@@ -94,7 +98,8 @@ fn clear(scratch: &mut [u16], n: u16)
     index::erase(scratch, 4 * n as usize);
 }
 
-// Closed reading: low and high of each query in the closed reading of the page, and its count of rounds.
+// Closed reading: low and high of each query in the closed reading of the page, and its count of rounds. Without a workspace and with one are two
+// calls, since C has both.
 pub fn closed_reading(
     page: &[u16],
     queries: &[u16],
@@ -110,7 +115,7 @@ pub fn closed_reading(
     Ok(rounds)
 }
 
-// The same as `solve`, with an index if the workspace has room for it.
+// The same as `solve`, with an index if the workspace has room for it. There is no heap: the index lies in the front of what is lent.
 pub fn solve_over(
     page: &Page,
     queries: &[u16],

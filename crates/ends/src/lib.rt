@@ -45,7 +45,8 @@ fn high_of(values: &[u8], code: u16, top: u16) -> u16
     top - values[(code ^ 1) as usize] as u16
 }
 
-// What the op of the kind k makes of two grades, at one end: 1 to 5 are M, X, L, B, P.
+// What the op of the kind k makes of two grades, at one end: the numbers 1 to 5 of the area are M, X, L, B, P. Beside `value::fold_by_op`, which
+// chooses the op once for one end of a rule: here both ends go on at once, so a closure of it would be two.
 #[tactic(auto, unfolding(semantics::specs::Area::kind, semantics::specs::Grade::combine))]
 fn combine(k: u16, p: u16, q: u16, top: u16, end: End) -> u16
     requires { (1 ≤ k) × (k ≤ 5) × (1 ≤ top) × (top ≤ 200) × (p ≤ top) × (q ≤ top) }
@@ -79,7 +80,7 @@ fn fold_ends(codes: &[u16], k: u16, values: &[u8], top: u16, first: Ends) -> End
 // Both ends of the value of the rule at `at`: its op over its literals, then its weight.
 #[tactic(auto, using(crate::proofs::Rules::first_in, crate::proofs::Rules::first_grade, page::proofs::Head::head_of, page::proofs::Entries::small_product, value::proofs::Dividing::product_divides))]
 fn rule_ends(page: &Page, at: usize, values: &[u8]) -> Ends
-    requires { Mirrored (top_of page.now) (conditions_of page.now) values.now × RuleAt (top_of page.now) (conditions_of page.now) page.now at × (1 ≤ get_or page.now (at + 1) 0) × (get_or page.now (at + 1) 0 ≤ 5) }
+    requires { Mirrored (top_of page.now) (conditions_of page.now) values.now × RuleAt (top_of page.now) (conditions_of page.now) page.now at }
     ensures { RuleEnd lower page.now values.now at result.low × RuleEnd upper page.now (mirrored (top_of page.now) values.now) at result.high }
 {
     let a = page.numbers;

@@ -4,7 +4,7 @@ use mathlib.Core.Bool.{false≢true}
 use native.Mathlib.Decide.{ℕ_discrete, dec_lt}
 use Rattle.semantics.specs.Text.{is_number}
 use Rattle.semantics.proofs.TextNumbers.{digit_range}
-use Rattle.fields.specs.Cursor.{InText, field_at, class_of, DigitIs, FirstDigit, Digits, NumberTo}
+use Rattle.fields.specs.Cursor.{InText, field_at, class_of, DigitIs, FirstDigit, Digits}
 use Rattle.fields.proofs.Places.{byte_here, within_next}
 use Rattle.fields.proofs.Numbers.{class_most, class_digit, class_value, none_first, one_number, none_second, none_leading, two_number, none_third, three_number, none_longer}
 
@@ -125,10 +125,3 @@ module _ (s : List ℕ) (at : ℕ) (w : InText s at) (n : is_number (field_at s 
       let b = get_or s at 0 in
       let v = class_value b (class_digit b first_class) in
       record { place = w; digit = record { is = sym v; most = omega (arith, first_class) }; leads = inr n }
-
-  pub number_to : {v e : ℕ} → Digits s at v e → NumberTo s at v e
-  number_to {v} {e} d = record { numbered = d.ends (go (ℕ_discrete (class_of (get_or s e 10)) 10)); most = d.most; ahead = d.ahead; place = d.place }
-    where
-      go : Dec (class_of (get_or s e 10) ≡ 10) → class_of (get_or s e 10) ≡ 10
-      go (yes t) = t
-      go (no t) = absurd (false≢true (sym (d.other t) ∙ n))

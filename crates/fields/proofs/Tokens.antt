@@ -236,10 +236,3 @@ module _ (s : List ℕ) (at : ℕ) (w : InText s at) where
     literal_code_lem {v} {e} n =
         let l = literal_is n.numbered in
         record { is = l.1; end = l.0.end; ahead = omega (arith, n.ahead); place = n.place }
-
-    pub sign_most : k ≤ 1
-    sign_most = go g
-      where
-        go : SignIs (get_or s at 0) k → k ≤ 1
-        go (inl h) = omega (arith, h.1)
-        go (inr h) = omega (arith, h.1)

@@ -1,5 +1,7 @@
 // The fields of a line: numbers and literals. A place is an index into a text that ends with byte 10, so a byte that is not 10 has a
-// byte behind it, and no length is tested.
+// byte behind it, and no length is tested. A text and a place are two parameters: each function answers the place behind what it reads, so a
+// struct of both would be made anew at every field, and a slice from the place on loses the place, by which `list` tells that a line holds byte
+// 65,536.
 #![tactic(auto)]
 
 ghost use Rattle.std.specs.Prelude.{◌≡◌, true};

@@ -6,7 +6,7 @@ ghost use Rattle.semantics.specs.Area.{line_at, literal_of, page_of, conditions_
 ghost use Rattle.semantics.specs.Followers.{FollowersOf};
 ghost use Rattle.semantics.specs.Page.{mentions};
 ghost use Rattle.page.specs.Lines.{line_names};
-ghost use Rattle.page.specs.Places.{LineIn};
+ghost use Rattle.page.specs.Places.{LineIn, RuleIn};
 ghost use Rattle.followers.specs.Rows.{meets, Covers, LineFollowed, PageFollowed, FollowerRow};
 ghost use Rattle.followers.specs.Answers.{count_answer_of};
 
@@ -16,7 +16,7 @@ use refusal::Refusal;
 
 // Whether some literal of the rule at `at`, plain or negated, is of a condition of the set.
 fn literals_meet(page: &Page, at: usize, set: &Set) -> bool
-    requires { LineIn page.now at × (1 ≤ get_or page.now (at + 1) 0) × (get_or page.now (at + 1) 0 ≤ 5) }
+    requires { RuleIn page.now at }
     ensures { result ≡ meets set.now.words (mentions (map literal_of (take (get_or page.now (at + 3) 0) (drop (at + 4) page.now)))) }
 {
     page.literals(at).iter().any(|&code| set.contains(code / 2))

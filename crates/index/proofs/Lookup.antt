@@ -1,5 +1,5 @@
 -- A look-up in a part of an index finds the groups of its keys. Assumes nothing.
-use mathlib.Core.Path.{◌≡◌, sym, ◌∙◌, subst, ap}
+use mathlib.Core.Path.{◌≡◌, refl, sym, ◌∙◌, subst, ap}
 use mathlib.Core.Logic.{◌⊎◌, ⊎_elim}
 use mathlib.Core.Bool.{Bool, true, ◌||◌, or-true}
 use mathlib.Core.List.{List}
@@ -8,17 +8,20 @@ use native.Mathlib.Decide.{dec_lt, ℕ_discrete}
 use native.Mathlib.Omega.{arith}
 use lib.ListN.{length, get_or, take, drop, length-drop}
 use lib.Seq.{length-take-le}
+use Rattle.std.specs.Prelude.{Option, Some, MatchOption, is_some}
 use Rattle.std.proofs.lemmas.List.{get_or-take, get_or-drop}
 use Rattle.semantics.specs.Area.{page_of, conditions_of}
+use Rattle.semantics.specs.Page.{names}
 use Rattle.semantics.proofs.Table.{or_cases}
 use Rattle.page.specs.Places.{LineOf}
 use Rattle.index.specs.By.{keys_by, HasBy}
 use Rattle.index.specs.Groups.{Groups}
-use Rattle.index.specs.Lookup.{Sourced, Lists, LinesAre, HeadsAre, DependantsAre, Between, items_between}
+use Rattle.index.specs.Lookup.{Sourced, Lists, Between, items_between}
 use Rattle.index.specs.Parts.{Part, Lines, Users}
 use Rattle.index.specs.Readers.{lines_read}
 use Rattle.index.specs.declared.By.{By}
 use Rattle.index.specs.declared.By.TheVariants.{Head, Literal}
+use Rattle.index.specs.declared.source.Parts.{Parts as Opened}
 use Rattle.index.proofs.Grouped.{group_order, group_within}
 use Rattle.index.proofs.Readers.{names_codes}
 
@@ -26,13 +29,13 @@ use Rattle.index.proofs.Readers.{names_codes}
 pub area_is : {a : List ℕ} {b : Bool} {s : Sourced} → record { area = a; indexed = b } ≡ s → a ≡ s.area
 area_is e = ap (λ (s : Sourced). s.area) e
 
+-- the group of a key from t up to t' has q
+abbrev Among : By → List ℕ → ℕ → ℕ → ℕ → Type 0
+Among by a t t' q = (k : ℕ) × (t ≤ k) × (k < t') × HasBy by a k q
+
 module _ (by : By) (a part : List ℕ) {n t t' : ℕ} (p : Part by a part) (is : n ≡ keys_by by a) (o : t ≤ t') (l : t' ≤ n) where
   abbrev m : ℕ
   m = keys_by by a
-
-  -- the group of a key from t up to t' has it
-  abbrev pub Found : ℕ → Type 0
-  Found q = (k : ℕ) × (t ≤ k) × (k < t') × HasBy by a k q
 
   g : Groups m (HasBy by a) (take (m + 1) part) (drop (m + 1) part)
   g = p.groups
@@ -49,7 +52,7 @@ module _ (by : By) (a part : List ℕ) {n t t' : ℕ} (p : Part by a part) (is :
   inside : m + 1 + get_or part t' 0 ≤ length part
   inside = omega (arith, group_within g t' (omega (arith, is)), start_at t' (omega (arith, is)), length-drop (m + 1) part, p.long)
 
-  pub part_between : Between n t t' part
+  part_between : Between n t t' part
   part_between = record { first = omega arith; last = l; ordered = ordered; inside = omega (arith, inside, is) }
 
   size : length (items_between n t t' part) ≡ get_or part t' 0 - get_or part t 0
@@ -72,7 +75,7 @@ module _ (by : By) (a part : List ℕ) {n t t' : ℕ} (p : Part by a part) (is :
         | no y ↦ let z : t + suc d ≡ t + d + 1 = omega arith in (t + d, omega arith, omega arith, omega (arith, y), rw z at v)
       ]
 
-  pub part_lists : Lists Found (items_between n t t' part)
+  part_lists : Lists (Among by a t t') (items_between n t t' part)
   part_lists =
       record {
         only = λ j h.
@@ -96,35 +99,44 @@ module _ (by : By) (a part : List ℕ) {n t t' : ℕ} (p : Part by a part) (is :
             (f.0 - get_or part t 0, rw size k, item_at (f.0 - get_or part t 0) k ∙ rw z f.3);
       }
 
--- the same list, told otherwise
-lists_as : {Has Has' : ℕ → Type 0} {items : List ℕ} → ((q : ℕ) → Has q → Has' q) → ((q : ℕ) → Has' q → Has q) → Lists Has items → Lists Has' items
-lists_as f h s = record { only = λ j l. f _ (s.only j l); every = λ q w. s.every q (h q w) }
+-- a look-up in an index that is there: clauses name the source as s, and the code counted the n conditions of its page. The groups of the keys
+-- lie in the part that is read, and have what is asked for
+module _ {a : List ℕ} {index : Option Opened} {i : Opened} {s : Sourced} {n : ℕ} (seen : record { area = a; indexed = is_some index } ≡ s)
+    (parts : MatchOption index (Unit {0}) (λ x. Lines a x.lines.now × Users a x.users.now)) (was : index ≡ Some i) (is : n ≡ conditions_of a) where
+  abbrev Looked : ℕ → ℕ → ℕ → List ℕ → (ℕ → Type 0) → Type 0
+  Looked m t t' part Has = Between m t t' part × ((s.indexed ≡ true) × Lists Has (items_between m t t' part))
 
-module _ (a part : List ℕ) {n : ℕ} where
-  pub lines_listed : {c : ℕ} → Lines a part → n ≡ conditions_of a → c < n → LinesAre a c (items_between n c (c + 1) part)
-  lines_listed {c} p e l =
-      lists_as (λ q w. let z : w.0 ≡ c = omega (arith, w.1, w.2) in subst (λ k. LineOf a k q) z w.3) (λ q w. (c, omega arith, omega arith, w))
-      (part_lists Head a part p e (omega arith) (omega arith))
+  there : (s.indexed ≡ true) × Lines s.area i.lines.now × Users s.area i.users.now × (n ≡ conditions_of s.area)
+  there = let p = rw was at parts in rw (← seen, was) (refl, p.0, p.1, is)
 
-  pub heads_listed : {code : ℕ} → Users a part → n ≡ 2 * conditions_of a → code < n → HeadsAre a code (items_between n code (code + 1) part)
-  heads_listed {code} p e l =
-      lists_as (λ q w. let z : w.0 ≡ code = omega (arith, w.1, w.2) in rw z at w.3) (λ q w. (code, omega arith, omega arith, w))
-      (part_lists Literal a part p e (omega arith) (omega arith))
+  looked : (by : By) {part : List ℕ} {m t t' : ℕ} {Has : ℕ → Type 0} → Part by s.area part → m ≡ keys_by by s.area → t ≤ t' → t' ≤ m
+      → ((q : ℕ) → Among by s.area t t' q → Has q) → ((q : ℕ) → Has q → Among by s.area t t' q) → Looked m t t' part Has
+  looked by {part} p e o l f h =
+      let x = part_lists by s.area part p e o l in
+      (part_between by s.area part p e o l, (there.0, record { only = λ j k. f _ (x.only j k); every = λ q w. x.every q (h q w) }))
 
-  pub dependants_listed : (c : ℕ) {t : ℕ} → Users a part → n ≡ 2 * conditions_of a → t ≡ 2 * c → t + 2 ≤ n → DependantsAre a c (items_between n t (t + 2) part)
-  dependants_listed c {t} p e s l =
-      lists_as (λ q w. names_codes (page_of a).lines q c ∙ either q w) (λ q w. found q (or_cases _ _ (sym (names_codes (page_of a).lines q c) ∙ w)))
-      (part_lists Literal a part p e (omega arith) l)
+  pub lines_found : {c : ℕ} → c < conditions_of s.area → Looked n c (c + 1) i.lines.now (LineOf s.area c)
+  lines_found {c} l =
+      looked Head there.1 (omega (arith, there.3)) (omega arith) (omega (arith, l, there.3)) (λ q w. let z : w.0 ≡ c = omega (arith, w.1, w.2) in subst (λ k. LineOf s.area k q) z w.3) (λ q w. (c, omega arith, omega arith, w))
+
+  abbrev reads : ℕ → ℕ → Bool
+  reads code q = lines_read code (page_of s.area).lines q
+
+  pub heads_found : {code : ℕ} → code < 2 * conditions_of s.area → Looked (2 * n) code (code + 1) i.users.now (λ h. reads code h ≡ true)
+  heads_found {code} l =
+      looked Literal there.2 (omega (arith, there.3)) (omega arith) (omega (arith, l, there.3)) (λ q w. let z : w.0 ≡ code = omega (arith, w.1, w.2) in rw z at w.3) (λ q w. (code, omega arith, omega arith, w))
+
+  pub dependants_found : {c : ℕ} → c < conditions_of s.area → Looked (2 * n) (2 * c) (2 * c + 2) i.users.now (λ h. names (page_of s.area) h c ≡ true)
+  dependants_found {c} l =
+      looked Literal there.2 (omega (arith, there.3)) (omega arith) (omega (arith, l, there.3))
+      (λ q w. names_codes (page_of s.area).lines q c ∙ either q w) (λ q w. found q (or_cases _ _ (sym (names_codes (page_of s.area).lines q c) ∙ w)))
     where
-      One : ℕ → Type 0
-      One q = (k : ℕ) × (t ≤ k) × (k < t + 2) × HasBy Literal a k q
-
-      either : (q : ℕ) → One q → (lines_read (2 * c) (page_of a).lines q || lines_read (2 * c + 1) (page_of a).lines q) ≡ true
+      either : (q : ℕ) → Among Literal s.area (2 * c) (2 * c + 2) q → (reads (2 * c) q || reads (2 * c + 1) q) ≡ true
       either q w =
           elim (ℕ_discrete w.0 (2 * c)) [
             | yes y ↦ rw (rw y at w.3)
-            | no y ↦ let z : w.0 ≡ 2 * c + 1 = omega (arith, w.1, w.2, s) in rw (rw z at w.3, or-true)
+            | no y ↦ let z : w.0 ≡ 2 * c + 1 = omega (arith, w.1, w.2) in rw (rw z at w.3, or-true)
           ]
 
-      found : (q : ℕ) → (lines_read (2 * c) (page_of a).lines q ≡ true) ⊎ (lines_read (2 * c + 1) (page_of a).lines q ≡ true) → One q
-      found q w = ⊎_elim (λ r. (2 * c, omega (arith, s), omega (arith, s), r)) (λ r. (2 * c + 1, omega (arith, s), omega (arith, s), r)) w
+      found : (q : ℕ) → (reads (2 * c) q ≡ true) ⊎ (reads (2 * c + 1) q ≡ true) → Among Literal s.area (2 * c) (2 * c + 2) q
+      found q w = ⊎_elim (λ r. (2 * c, omega arith, omega arith, r)) (λ r. (2 * c + 1, omega arith, omega arith, r)) w

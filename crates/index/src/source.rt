@@ -49,7 +49,7 @@ impl<'a> Source<'a> {
         Source { page, index: None }
     }
 
-    // A page with the index that was built in w.
+    // A page with the index that was built in w. There is no heap, so its parts are the front and the rest of the slice that is lent.
     pub fn built(page: &'a Page<'a>, w: &'a [u16]) -> Self
         requires { Index page.now w.now }
         ensures { result ≡ record { area = page.now; indexed = true } }

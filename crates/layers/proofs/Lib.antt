@@ -13,5 +13,3 @@ pub mod Paths
 pub mod Beginning
 -- the outcome of the check
 pub mod Checking
--- a copy of one list to the front of another
-pub mod Copying

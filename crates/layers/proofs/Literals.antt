@@ -3,7 +3,7 @@ use mathlib.Core.Path.{◌≡◌, refl, sym, ◌∙◌, subst}
 use mathlib.Core.Logic.{⊎_elim}
 use mathlib.Core.Bool.{Bool, true, false, not, cond, ◌&&◌, ◌||◌, and-false, false≢true}
 use mathlib.Core.List.{List, ◌∷◌, map}
-use Prim.Native.Nat.{ℕ, zero, suc, ◌+◌, ◌/◌, ◌%◌, ◌≤◌, ◌<◌}
+use Prim.Native.Nat.{ℕ, zero, suc, ◌+◌, ◌*◌, ◌/◌, ◌%◌, ◌≤◌, ◌<◌}
 use native.Mathlib.Decide.{ℕ_discrete}
 use native.Mathlib.Numerals.{add-one}
 use native.Mathlib.Omega.{arith}
@@ -12,12 +12,17 @@ use lib.ListN.{length, get_or, take, drop}
 use Rattle.std.proofs.lemmas.List.{length-take, length-drop, get_or-take, get_or-drop}
 use lib.Seq.{drop-cons}
 use borrow.Author.Tests.{eq-eqb, ne_eqb, eqb-true}
-use Rattle.semantics.specs.Area.{Kind, fact_kind, rule_kind, query_kind, default_kind, no_kind, kind, literal_of, line_as, line_at}
+use Rattle.semantics.specs.Area.{Kind, fact_kind, rule_kind, query_kind, default_kind, no_kind, kind, literal_of, line_as, line_at, top_of, conditions_of}
 use Rattle.semantics.specs.Layers.{denies, lines_negate}
 use Rattle.semantics.specs.Page.{Literal, positive, negative, condition_of, mentions, Line}
 use Rattle.semantics.proofs.Layers.{or_right}
 use Rattle.semantics.proofs.Soundness.{both_true, subject_of}
 use Rattle.semantics.proofs.Table.{or_cases}
+use Rattle.page.specs.Graded.{RuleAt}
+use Rattle.page.specs.Places.{RuleIn}
+use Rattle.page.specs.Solvable.{solvable}
+use Rattle.page.proofs.Entries.{code_in}
+use Rattle.page.proofs.LineNumbers.{rule_in}
 use Rattle.page.proofs.Scan.{rule_kind_lem, fact_kind_lem, over_five, line_at_lem}
 use Rattle.layers.specs.Raising.{line_negates}
 
@@ -92,13 +97,23 @@ module _ (a : List ℕ) where
       (suc f.0, omega (arith, f.1), subst (λ (j : ℕ). get_or a j 0 % 2 ≡ 1) q f.2, subst (λ (j : ℕ). get_or a j 0 / 2 ≡ b) q f.3))
       (or_cases (eqb (get_or a x 0 % 2) 1 && eqb (get_or a x 0 / 2) b) (denies (lits (x + 1) r) b) (sym (denies_cons (get_or a x 0) (lits (x + 1) r) b) ∙ rw (part_suc x r (omega arith)) at e))
 
--- the literals of the rule at a place, by their place among them
-module _ (a : List ℕ) (at : ℕ) (fits : at + 4 + get_or a (at + 3) 0 ≤ length a) {codes : List ℕ} (e : codes ≡ take (get_or a (at + 3) 0) (drop (at + 4) a)) where
-  pub codes_length : length codes ≡ get_or a (at + 3) 0
-  codes_length = rw e (omega (arith, length-take {A = ℕ}, length-drop {A = ℕ}))
+-- the literals of a rule of a page, as `literals` gives them, by their place among them
+module _ (a : List ℕ) (ok : solvable a ≡ true) {at : ℕ} (h : RuleIn a at) {codes : List ℕ} (e : codes ≡ take (get_or a (at + 3) 0) (drop (at + 4) a)) where
+  rule : RuleAt (top_of a) (conditions_of a) a at
+  rule = rule_in a ok h
 
-  pub code_at : (i : ℕ) → i < get_or a (at + 3) 0 → get_or codes i 0 ≡ get_or a (at + 4 + i) 0
-  code_at i l = rw e (get_or-take (get_or a (at + 3) 0) (drop (at + 4) a) i 0 l ∙ get_or-drop (at + 4) a i 0)
+  pub codes_length : length codes ≡ get_or a (at + 3) 0
+  codes_length = rw e (omega (arith, rule.fits, length-take {A = ℕ}, length-drop {A = ℕ}))
+
+  module _ (i : ℕ) (l : i < length codes) where
+    in_count : i < get_or a (at + 3) 0
+    in_count = omega (arith, codes_length)
+
+    pub code_at : get_or codes i 0 ≡ get_or a (at + 4 + i) 0
+    code_at = rw e (get_or-take (get_or a (at + 3) 0) (drop (at + 4) a) i 0 in_count ∙ get_or-drop (at + 4) a i 0)
+
+    pub code_below : get_or codes i 0 < 2 * conditions_of a
+    code_below = omega (arith, code_at, code_in (top_of a) (conditions_of a) a at rule i in_count)
 
 -- the line at a place negates c if it is a rule whose literals do
 module _ (a : List ℕ) (at c : ℕ) where

@@ -71,23 +71,23 @@ module _ (a : List ℕ) (at : ℕ) (levels : List ℕ) (level : ℕ) where
   looking_last s l = record { within = λ i m. s.passed i (omega arith); clear = λ e i m. s.clear e i (omega arith); denied = s.denied }
 
   -- a rule whose head is of the part
-  module _ {top n : ℕ} (z : RuleAt top n a at) (k : 1 ≤ get_or a (at + 1) 0) (k' : get_or a (at + 1) 0 ≤ 5) (h : level_in levels (get_or a at 0) ≡ level) where
+  module _ {top n : ℕ} (z : RuleAt top n a at) (h : level_in levels (get_or a at 0) ≡ level) where
     line_inside : {negated : Bool} → RuleInside a at levels level negated → LineInside a at levels level negated
     line_inside s =
         record {
           within = λ g b q.
-              let f = named_code a y (at + 4) b z.fits (sym (line_rule a at b k k') ∙ q) in
+              let f = named_code a y (at + 4) b z.fits (sym (line_rule a at b z.least z.most) ∙ q) in
               subst (λ (c : ℕ). inside level (level_in levels c) ≡ true) f.2 (s.within f.0 f.1);
           clear = λ l g b q.
-              let f = negated_code a y (at + 4) b z.fits (sym (line_denies a at b k k') ∙ q) in
+              let f = negated_code a y (at + 4) b z.fits (sym (line_denies a at b z.least z.most) ∙ q) in
               subst (λ (c : ℕ). level_in levels c ≢ level) f.3 (s.clear l f.0 f.1 f.2);
           denied = λ l.
               let f = s.denied l in
-              (h, (code f.0 / 2, line_denies a at (code f.0 / 2) k k' ∙ code_negated a y (at + 4) f.0 (at + 4 + f.0) z.fits f.1 refl f.2, f.3));
+              (h, (code f.0 / 2, line_denies a at (code f.0 / 2) z.least z.most ∙ code_negated a y (at + 4) f.0 (at + 4 + f.0) z.fits f.1 refl f.2, f.3));
         }
 
     line_leaves : (r : ℕ) → RuleLeaves a at levels level r → LineLeaves a at levels level r
-    line_leaves r f = (h, subst (λ (c : ℕ). line_names (line_at (drop at a)) c ≡ true) f.2 (line_rule a at (code f.0 / 2) k k' ∙ code_named a y (at + 4) f.0 (at + 4 + f.0) z.fits f.1 refl), f.3)
+    line_leaves r f = (h, subst (λ (c : ℕ). line_names (line_at (drop at a)) c ≡ true) f.2 (line_rule a at (code f.0 / 2) z.least z.most ∙ code_named a y (at + 4) f.0 (at + 4 + f.0) z.fits f.1 refl), f.3)
 
     pub line_looked : (r : Result Bool ℕ) → RuleLooked a at levels level r → LineLooked a at levels level r
     line_looked (Ok negated) s = line_inside s

@@ -37,12 +37,12 @@ module _ (a : List ℕ) (at : ℕ) (layers : List ℕ) where
   y = get_or a (at + 3) 0
 
   -- a rule
-  module _ {top n : ℕ} (z : RuleAt top n a at) (k : 1 ≤ get_or a (at + 1) 0) (k' : get_or a (at + 1) 0 ≤ 5) where
+  module _ {top n : ℕ} (z : RuleAt top n a at) where
     names_code : (i : ℕ) → i < y → line_names (line_at (drop at a)) (code i / 2) ≡ true
-    names_code i l = line_rule a at (code i / 2) k k' ∙ code_named a y (at + 4) i (at + 4 + i) z.fits l refl
+    names_code i l = line_rule a at (code i / 2) z.least z.most ∙ code_named a y (at + 4) i (at + 4 + i) z.fits l refl
 
     negates_code : (i : ℕ) → i < y → code i % 2 ≡ 1 → line_negates (line_at (drop at a)) (code i / 2) ≡ true
-    negates_code i l o = line_denies a at (code i / 2) k k' ∙ code_negated a y (at + 4) i (at + 4 + i) z.fits l refl o
+    negates_code i l o = line_denies a at (code i / 2) z.least z.most ∙ code_negated a y (at + 4) i (at + 4 + i) z.fits l refl o
 
     pub line_raised : {layers' : List ℕ} {r : Option ℕ} → Raised a at layers layers' r → LineRaised a at layers layers' r
     line_raised {layers'} {r} s =
@@ -50,10 +50,10 @@ module _ (a : List ℕ) (at : ℕ) (layers : List ℕ) where
           size = s.size;
           others = s.others;
           named = λ b q.
-              let f = named_code a y (at + 4) b z.fits (sym (line_rule a at b k k') ∙ q) in
+              let f = named_code a y (at + 4) b z.fits (sym (line_rule a at b z.least z.most) ∙ q) in
               omega (arith, s.asked f.0 f.1, same_layer layers f.2);
           negated = λ b q.
-              let f = negated_code a y (at + 4) b z.fits (sym (line_denies a at b k k') ∙ q) in
+              let f = negated_code a y (at + 4) b z.fits (sym (line_denies a at b z.least z.most) ∙ q) in
               omega (arith, s.asked f.0 f.1, f.2, same_layer layers f.3);
           told = told_lem r s.told;
         }

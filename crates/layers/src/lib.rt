@@ -5,17 +5,18 @@
 ghost use Rattle.std.specs.Prelude.{◌≡◌, ◌+◌, ◌≤◌, ◌<◌, ◌++◌, length, get_or, drop};
 ghost use Rattle.semantics.specs.Area.{page_of, conditions_of};
 ghost use Rattle.semantics.specs.Layers.{LayersOf};
-ghost use Rattle.page.specs.Places.{LineIn};
+ghost use Rattle.page.specs.Places.{LineIn, RuleIn};
 ghost use Rattle.layers.specs.Raising.{Low, Zero, Asked, Raised, LineRaised, PassRaised, Settled};
 ghost use Rattle.layers.specs.Levels.{lower, RuleLooked, LineLooked, PartLooked, Relabelled, LowestAt, Entered, Finished, Open, Explored, HeadOpened, Begun, LoopFound};
-ghost use Rattle.layers.specs.Verdict.{verdict_of, Worked};
+ghost use Rattle.layers.specs.Verdict.{number_of, condition_of, verdict_of, Worked};
 
 use page::Page;
+use print::put_all;
 use refusal::Refusal;
 
 // The largest layer that the literals of the rule at `at` ask for: that of the condition, and one more for a negation.
 fn asked(page: &Page, at: usize, layers: &[u16]) -> u16
-    requires { LineIn page.now at × (1 ≤ get_or page.now (at + 1) 0) × (get_or page.now (at + 1) 0 ≤ 5) × (length layers.now ≡ conditions_of page.now) × Low 65534 layers.now }
+    requires { RuleIn page.now at × (length layers.now ≡ conditions_of page.now) × Low 65534 layers.now }
     ensures { Asked page.now at layers.now result }
 {
     let codes = page.literals(at);
@@ -25,7 +26,7 @@ fn asked(page: &Page, at: usize, layers: &[u16]) -> u16
 
 // The head of the rule at `at` gets the layer that its literals ask for, if that is higher. Answers that layer, if so.
 fn raise_rule(page: &Page, at: usize, layers: &mut [u16]) -> Option<u16>
-    requires { LineIn page.now at × (1 ≤ get_or page.now (at + 1) 0) × (get_or page.now (at + 1) 0 ≤ 5) × (length layers.old ≡ conditions_of page.now) × Low 65534 layers.old }
+    requires { RuleIn page.now at × (length layers.old ≡ conditions_of page.now) × Low 65534 layers.old }
     ensures { Raised page.now at layers.old layers.new result }
 {
     let head = page.entry(at).condition as usize;
@@ -80,7 +81,7 @@ fn settle(page: &Page, layers: &mut [u16]) -> bool
 
 // Whether the rule at `at` negates a condition of the part at `level`; as an error the first condition that it names outside of the part.
 fn look_rule(page: &Page, at: usize, levels: &[u16], level: u16) -> Result<bool, u16>
-    requires { LineIn page.now at × (1 ≤ get_or page.now (at + 1) 0) × (get_or page.now (at + 1) 0 ≤ 5) × (length levels.now ≡ conditions_of page.now) }
+    requires { RuleIn page.now at × (length levels.now ≡ conditions_of page.now) }
     ensures { RuleLooked page.now at levels.now level result }
 {
     let mut negated = false;
@@ -157,7 +158,7 @@ fn enter(levels: &mut [u16], level: u16, c: u16) -> u16
     l
 }
 
-// The lower of two conditions, where either may be none.
+// The lower of two conditions, where either may be none: not `min` of the library, which takes none to be below every condition.
 fn lower(one: Option<u16>, other: Option<u16>) -> Option<u16>
     ensures { result ≡ lower one other }
 {
@@ -252,13 +253,25 @@ pub enum LayersError {
     Loop(u16),
 }
 
-// Copies `from` to the front of `to`, one by one: a copy of slices asks the host for memmove, which the C interface does not.
-fn copy(from: &[u16], to: &mut [u16])
-    requires { length from.now ≤ length to.old }
-    ensures { to.new ≡ from.now ++ drop (length from.now) to.old }
-{
-    for i in 0..from.len() {
-        to[i] = from[i];
+impl LayersError {
+    // The number of the refusal.
+    pub fn number(self) -> u8
+        ensures { result ≡ number_of self }
+    {
+        match self {
+            LayersError::Refused(refusal) => refusal.number(),
+            LayersError::Loop(_) => 30,
+        }
+    }
+
+    // The condition that is told with it, 0 for none, as C is told it.
+    pub fn condition(self) -> u16
+        ensures { result ≡ condition_of self }
+    {
+        match self {
+            LayersError::Refused(_) => 0,
+            LayersError::Loop(c) => c,
+        }
     }
 }
 
@@ -268,7 +281,7 @@ fn work(page: &Page, layers: &mut [u16], table: &mut [u16]) -> Result<(), Layers
     ensures { Worked (verdict_of result) (page_of page.now) layers.old layers.new }
 {
     if settle(page, table) {
-        copy(table, layers);
+        put_all(layers, 0, table);
         return Ok(());
     }
     Err(LayersError::Loop(lowest_loop(page, table).unwrap()))
@@ -285,6 +298,7 @@ pub fn check_layers(page: &[u16], layers: &mut [u16]) -> Result<(), LayersError>
     if layers.len() < n {
         return Err(LayersError::Refused(Refusal::LayersShort));
     }
+    // there is no heap: the table is the front of an array
     let mut table = [0u16; 512];
     work(&page, layers, &mut table[..n])
 }

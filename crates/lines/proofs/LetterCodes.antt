@@ -8,7 +8,6 @@ use mathlib.Core.Logic.{⊎_elim}
 use Prim.Native.Nat.{ℕ}
 use lib.Dec.{eqb}
 use lib.ListN.{length, get_or, drop}
-use borrow.Author.Tests.{ne_eqb}
 use Rattle.semantics.specs.Area.{kind_of, line_code}
 use Rattle.semantics.specs.Grade.{M, X, L, B, P}
 use Rattle.semantics.specs.Page.{K, W, query}

@@ -25,9 +25,6 @@ pub record Passed (s : List ℕ) (at k i : ℕ) : Type 0 where
   pub all : all_literals (fields_at (drop at s)) ≡ all_literals (fields_at (drop i s))
   pub lines : lines_after (drop at s) ≡ lines_after (drop i s)
 
-pub passed_none : (s : List ℕ) (at : ℕ) → InText s at → Passed s at 0 at
-passed_none s at w = record { ahead = omega arith; place = w; size = omega arith; all = refl; lines = refl }
-
 module _ (s : List ℕ) (at : ℕ) {k i : ℕ} (w : Passed s at k i) where
   -- more than eight
   pub too_many : 8 ≤ k → are_literals (fields_at (drop at s)) ≡ false
@@ -85,9 +82,6 @@ far_last (Some f) = refl
 pub record Counting (s : List ℕ) (at n k : ℕ) (far : Option ℕ) (i : ℕ) : Type 0 where
   pub passed : Passed s at k i
   pub first : far_in n 0 (map literal_in (fields_at (drop at s))) ≡ option_or far (far_in n k (map literal_in (fields_at (drop i s))))
-
-pub counting_none : (s : List ℕ) (at n : ℕ) → InText s at → Counting s at n 0 None at
-counting_none s at n w = record { passed = passed_none s at w; first = refl }
 
 module _ (s : List ℕ) (at n : ℕ) {k : ℕ} {far : Option ℕ} {i : ℕ} (w : Counting s at n k far i) {c e : ℕ} (q : LiteralTo s i c e) where
   pub byte_behind : get_or s e 0 ≡ get_or s e 10

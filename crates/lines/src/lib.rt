@@ -79,7 +79,8 @@ fn parse_fact(bytes: &[u8], at: usize) -> Option<Line>
     })
 }
 
-// The kind of a rule by its op letter; none for another letter.
+// The kind of a rule by its op letter; none for another letter. Kinds are numbers, and so are readings: an area is numbers that C reads
+// (document 01, "Areas"), and an enum would be turned into the same number at the one place that writes it.
 #[tactic(auto, using(std::proofs::lemmas::Bool::Decides::nat_tests), unfolding(crate::specs::Lines::kind_at))]
 pub fn op_kind(letter: u8) -> Option<u16>
     ensures { result ≡ kind_at letter }
@@ -120,9 +121,8 @@ fn parse_literals(bytes: &[u8], at: usize, conditions: u16) -> Option<Literals>
 {
     let mut far = None;
     let mut i = at;
-    for before in 0..8 {
+    for count in 1..=8 {
         let literal = read_literal(bytes, i)?;
-        let count = before + 1;
         far = far_with(far, count, literal.value, conditions);
         i = literal.end + 1;
         match bytes[literal.end] {
@@ -162,7 +162,7 @@ fn parse_rule(bytes: &[u8], at: usize, conditions: u16) -> Option<Line>
     })
 }
 
-// The number of a reading letter; none for another letter.
+// The number of a reading letter, a number as at `op_kind`; none for another letter.
 #[tactic(auto, using(std::proofs::lemmas::Bool::Decides::nat_tests), unfolding(crate::specs::Lines::reading_at))]
 pub fn reading_code(letter: u8) -> Option<u16>
     ensures { result ≡ reading_at letter }

@@ -1,5 +1,5 @@
 -- The lines of an ended text, one after the other. Assumes nothing.
-use mathlib.Core.Path.{◌≡◌, refl, ◌∙◌, ap}
+use mathlib.Core.Path.{◌≡◌, ◌∙◌, ap}
 use mathlib.Core.List.{List, [], ◌∷◌, ◌++◌}
 use mathlib.Core.Option.{some}
 use Prim.Native.Nat.{ℕ, suc, ◌+◌, ◌-◌, ◌≤◌, ◌<◌}
@@ -23,9 +23,6 @@ pub record Checking (s : List ℕ) (top n at k before : ℕ) : Type 0 where
   pub most : k ≤ 1025
   pub near : at ≤ 65535
   pub inside : at ≤ length s
-
-pub checking_first : (s : List ℕ) (top n : ℕ) → Checking s top n 0 1 0
-checking_first s top n = record { bad = λ size ls m. refl; count = refl; least = omega arith; most = omega arith; near = omega arith; inside = omega arith }
 
 module _ (s : List ℕ) (top n : ℕ) {at k before : ℕ} (w : Checking s top n at k before) where
   pub checking_done : length s ≤ at → LinesGood s top n (k - 1)

@@ -1,7 +1,6 @@
 -- What reading a list answers and leaves, by what the two passes come to. Assumes nothing.
 use mathlib.Core.Path.{◌≡◌, refl, sym, ◌∙◌, ap}
 use mathlib.Core.List.{List, ◌++◌}
-use mathlib.Core.Option.{some}
 use Prim.Native.Nat.{ℕ, ◌+◌, ◌*◌, ◌≤◌}
 use native.Mathlib.Omega.{arith}
 use lib.ListN.{length, drop}
@@ -9,8 +8,8 @@ use lib.Seq.{sets, sets-eq}
 use Rattle.semantics.specs.Page.{Page}
 use Rattle.semantics.specs.Text.{text_lines}
 use Rattle.semantics.specs.Trials.{list_refusal, trial_lines_in}
-use Rattle.list.specs.Checks.{refusal, bad_in, Accepted, codes_from, LinesFit}
-use Rattle.list.specs.Answers.{ListRefused, ListRead}
+use Rattle.list.specs.Checks.{bad_in, Accepted, codes_from, LinesFit}
+use Rattle.list.specs.Answers.{ListRead}
 use Rattle.list.proofs.GoodLines.{all_trials}
 use Rattle.list.proofs.Codes.{length_trials, length_codes}
 
@@ -20,9 +19,6 @@ unfolding list_refusal
 refusal_for page bytes = refl
 
 module _ (s : List ℕ) (top n : ℕ) (list : List ℕ) where
-  pub list_refused : {number line : ℕ} → bad_in s top n ≡ some (refusal number line) → ListRefused s top n number line list list
-  list_refused e = record { told = e; same = refl }
-
   module _ {k : ℕ} (accepted : Accepted s top n k) (room : 4096 ≤ length list) where
     count_is : k ≡ length (trial_lines_in (text_lines s))
     count_is = accepted.count ∙ sym (length_trials (text_lines s))

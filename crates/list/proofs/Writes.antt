@@ -1,5 +1,5 @@
 -- The numbers that the second pass writes, line by line. Assumes nothing.
-use mathlib.Core.Path.{◌≡◌, refl, sym, ◌∙◌, ap, subst}
+use mathlib.Core.Path.{◌≡◌, sym, ◌∙◌, ap, subst}
 use mathlib.Core.Bool.{true}
 use mathlib.Core.List.{List, ◌∷◌, ◌++◌}
 use Prim.Native.Nat.{ℕ, ◌+◌, ◌≤◌, ◌<◌}
@@ -21,9 +21,6 @@ pub record Writing (s list₀ list : List ℕ) (at end : ℕ) : Type 0 where
   pub written : sets list₀ 0 (codes_from s 0) ≡ sets list end (codes_from s at)
   pub same : length list ≡ length list₀
   pub fits : LinesFit s at list end
-
-pub writing_first : (s list : List ℕ) → LinesFit s 0 list 0 → Writing s list list 0 0
-writing_first s list f = record { written = refl; same = refl; fits = f }
 
 module _ (s list₀ : List ℕ) {list : List ℕ} {at end : ℕ} (w : Writing s list₀ list at end) where
   pub writing_done : length s ≤ at → list ≡ sets list₀ 0 (codes_from s 0)

@@ -10,11 +10,18 @@ ghost use Rattle.list.specs.Checks.{range_causes, order_causes, Ended, EndedPart
 use crate::parse::{Known, Trial, parse_trial};
 use crate::{Cause, Refusal};
 
+// The top and the number of conditions of the page, in which the numbers of a line lie.
+#[derive(Clone, Copy)]
+pub struct Limits {
+    pub top: u16,
+    pub conditions: u16,
+}
+
 // The condition and the ends of a line are in range.
-fn check_range(line: Trial, top: u16, conditions: u16) -> Result<(), Cause>
-    ensures { told result ≡ first_of (range_causes top conditions (line_of line)) }
+fn check_range(line: Trial, limits: Limits) -> Result<(), Cause>
+    ensures { told result ≡ first_of (range_causes limits.top limits.conditions (line_of line)) }
 {
-    if line.condition < conditions && line.low <= line.high && line.high <= top {
+    if line.condition < limits.conditions && line.low <= line.high && line.high <= limits.top {
         return Ok(());
     }
     Err(Cause::Range)
@@ -31,30 +38,24 @@ fn check_order(trial: u16, before: u16) -> Result<(), Cause>
 }
 
 // The line at a place: its form first, then whether it holds byte 65,536 of the list, then its numbers.
-fn check_line(
-    bytes: &[u8],
-    at: usize,
-    before: u16,
-    top: u16,
-    conditions: u16,
-) -> Result<Known, Cause>
+fn check_line(bytes: &[u8], at: usize, before: u16, limits: Limits) -> Result<Known, Cause>
     requires { InText bytes.now at × (at ≤ 65535) }
-    ensures { CheckedLine bytes.now at before top conditions result }
+    ensures { CheckedLine bytes.now at before limits.top limits.conditions result }
 {
     let known = parse_trial(bytes, at).ok_or(Cause::Form)?;
     if 65536 <= known.next {
         return Err(Cause::Form);
     }
-    check_range(known.line, top, conditions)?;
+    check_range(known.line, limits)?;
     check_order(known.line.trial, before)?;
     Ok(known)
 }
 
 // The lines of a list that ends with byte 10 or is empty; answers how many there are. The parser says where the next line begins, so the
 // place and the line's number go on by hand.
-fn check_lines(bytes: &[u8], top: u16, conditions: u16) -> Result<usize, Refusal>
+fn check_lines(bytes: &[u8], limits: Limits) -> Result<usize, Refusal>
     requires { Ended bytes.now }
-    ensures { LinesAs bytes.now top conditions result }
+    ensures { LinesAs bytes.now limits.top limits.conditions result }
 {
     let mut at: usize = 0;
     let mut line: usize = 1;
@@ -63,7 +64,7 @@ fn check_lines(bytes: &[u8], top: u16, conditions: u16) -> Result<usize, Refusal
         if line == 1025 {
             return Err(Cause::Form.at(line));
         }
-        let known = check_line(bytes, at, before, top, conditions).map_err(|cause| cause.at(line))?;
+        let known = check_line(bytes, at, before, limits).map_err(|cause| cause.at(line))?;
         before = known.line.trial;
         at = known.next;
         line += 1;
@@ -75,21 +76,19 @@ fn check_lines(bytes: &[u8], top: u16, conditions: u16) -> Result<usize, Refusal
 fn ended_length(bytes: &[u8]) -> usize
     ensures { EndedPart bytes.now result }
 {
-    for at in (0..bytes.len()).rev() {
-        if bytes[at] == b'\n' {
-            return at + 1;
-        }
-    }
-    0
+    bytes
+        .iter()
+        .rposition(|&b| b == b'\n')
+        .map_or(0, |at| at + 1)
 }
 
 // The list as a whole: its ended lines, and then the line that is not ended. Answers how many lines there are.
-pub fn check_list(bytes: &[u8], top: u16, conditions: u16) -> Result<usize, Refusal>
-    ensures { CheckedAs bytes.now top conditions result }
+pub fn check_list(bytes: &[u8], limits: Limits) -> Result<usize, Refusal>
+    ensures { CheckedAs bytes.now limits.top limits.conditions result }
 {
-    let end = ended_length(bytes);
-    let count = check_lines(&bytes[0..end], top, conditions)?;
-    if end < bytes.len() {
+    let (ended, rest) = bytes.split_at(ended_length(bytes));
+    let count = check_lines(ended, limits)?;
+    if !rest.is_empty() {
         return Err(Cause::Form.at(count + 1));
     }
     Ok(count)

@@ -10,7 +10,7 @@ ghost use Rattle.std.specs.Prelude.{◌≡◌, ◌≤◌, length};
 ghost use Rattle.list.specs.Answers.{ListAs};
 ghost use Rattle.list.specs.Causes.{number_of};
 
-use crate::check::check_list;
+use crate::check::{Limits, check_list};
 use crate::write::write_trials;
 
 // Why a list is refused.
@@ -59,7 +59,7 @@ pub fn read_list(
     requires { 4096 ≤ length list.old }
     ensures { ListAs bytes.now top conditions list.old list.new result }
 {
-    let count = check_list(bytes, top, conditions)?;
+    let count = check_list(bytes, Limits { top, conditions })?;
     write_trials(bytes, list);
     Ok(count)
 }

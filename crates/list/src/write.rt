@@ -8,7 +8,7 @@ ghost use Rattle.list.specs.Checks.{LinesFit, codes_from};
 
 use crate::parse::{Trial, checked_trial};
 
-// The numbers of a line, from a place on.
+// The numbers of a line, from a place on. Numbers, and no array of structs: `read_list` promises what the slice holds as numbers, four a line.
 fn put_trial(list: &mut [u16], at: usize, line: Trial)
     requires { at + 4 ≤ length list.old }
     ensures { list.new ≡ sets list.old at (trial_code (line_of line)) }

@@ -64,6 +64,8 @@ module _ (top n left : ℕ) (a : List ℕ) (at : ℕ) (fits : at + left ≤ leng
       let s : span_as t (get_or a (at + 3) 0) ≡ 4 + get_or a (at + 3) 0 = rw r.1 in
       let w : Every (field_tests top n (rule_kind r.0) (get_or a (at + 2) 0) (get_or a (at + 3) 0) codes) = rw r.1 at tested in
       record {
+        least = l;
+        most = u;
         fits = omega (arith, entry_fits top n left a at ok);
         some = omega (arith, leb-true);
         few = omega (arith, leb-true);

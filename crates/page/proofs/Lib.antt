@@ -17,3 +17,5 @@ pub mod Entries
 pub mod LineNumbers
 -- the D lines and the D numbers
 pub mod Defaults
+-- a test of all numbers below one
+pub mod Searching

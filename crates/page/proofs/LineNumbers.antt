@@ -19,7 +19,7 @@ use Rattle.page.proofs.Scan.{line_at_lem, entry_head, fact_kind_lem, rule_kind_l
 use Rattle.page.proofs.Scanning.{lines_left, scanning_first, scanning_next, entry_here, entry_sound, lines_on}
 use Rattle.page.proofs.Entries.{rule_at}
 use Rattle.page.specs.Lines.{step_at, Next, Scanning, EntryIn}
-use Rattle.page.specs.Places.{place_of, LineIn, LineOf}
+use Rattle.page.specs.Places.{place_of, LineIn, LineOf, RuleIn}
 use Rattle.page.specs.Solvable.{solvable}
 
 -- a scan stands where the next line begins
@@ -59,8 +59,8 @@ module _ (a : List ℕ) (ok : solvable a ≡ true) where
   pub rule_of : {c at : ℕ} → LineOf a c at → 1 ≤ get_or a (at + 1) 0 → RuleAt (top_of a) (conditions_of a) a at
   rule_of {c} {at} s l = let e = entry_at s in rule_at (top_of a) (conditions_of a) (used_of a - at) a at e.fits e.tests l s.body
 
-  pub rule_in : {at : ℕ} → LineIn a at → 1 ≤ get_or a (at + 1) 0 → get_or a (at + 1) 0 ≤ 5 → RuleAt (top_of a) (conditions_of a) a at
-  rule_in h l u = rule_of (record { number = h.number; in_count = h.in_count; place = h.place; head = refl; body = u }) l
+  pub rule_in : {at : ℕ} → RuleIn a at → RuleAt (top_of a) (conditions_of a) a at
+  rule_in r = let h = r.line in rule_of (record { number = h.number; in_count = h.in_count; place = h.place; head = refl; body = r.most }) r.least
 
   -- and lies in the area
   pub entry_of : {at : ℕ} → LineIn a at → EntryIn a at

@@ -13,8 +13,10 @@ pub record Graded (top n : ℕ) (run : List ℕ) : Type 0 where
   pub long : 3 * n ≤ length run
   pub within : (c : ℕ) → c < n → Within top (interval_at run c)
 
--- A rule's entry stands at a place, every field in range.
+-- A rule's entry stands at a place, every field in range; its kind is 1 to 5.
 pub record RuleAt (top n : ℕ) (a : List ℕ) (at : ℕ) : Type 0 where
+  pub least : 1 ≤ get_or a (at + 1) 0
+  pub most : get_or a (at + 1) 0 ≤ 5
   pub fits : at + 4 + get_or a (at + 3) 0 ≤ length a
   pub some : 1 ≤ get_or a (at + 3) 0
   pub few : get_or a (at + 3) 0 ≤ 8

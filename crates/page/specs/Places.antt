@@ -14,6 +14,12 @@ pub record LineIn (a : List ℕ) (at : ℕ) : Type 0 where
   pub in_count : number < count_of a
   pub place : at ≡ place_of a number
 
+-- an R line begins at a place
+pub record RuleIn (a : List ℕ) (at : ℕ) : Type 0 where
+  pub line : LineIn a at
+  pub least : 1 ≤ get_or a (at + 1) 0
+  pub most : get_or a (at + 1) 0 ≤ 5
+
 -- an F or R line of the condition c begins at a place
 pub record LineOf (a : List ℕ) (c at : ℕ) : Type 0 where
   pub number : ℕ

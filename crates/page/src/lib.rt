@@ -8,7 +8,7 @@ ghost use Rattle.semantics.specs.Body.{unknown_by_default};
 ghost use Rattle.semantics.specs.Table.{all_below};
 ghost use Rattle.semantics.specs.Area.{sound, page_of, top_of, conditions_of, count_of, used_of, defaults_ok, lines_ok, field_tests, every, kind, span_as, first_line, literal_of, line_at};
 ghost use Rattle.page.specs.Lines.{EntryIn, Scanning, BeginsAt, line_names};
-ghost use Rattle.page.specs.Places.{place_of, LineIn, Proceeds, EntryIs};
+ghost use Rattle.page.specs.Places.{place_of, LineIn, RuleIn, Proceeds, EntryIs};
 ghost use Rattle.page.specs.Checks.{rule_tests, head_ok, rule_ok, Lined, CollectedAt, number_tells};
 ghost use Rattle.page.specs.Solvable.{solvable};
 
@@ -118,7 +118,7 @@ fn rule_passes(a: &[u16], at: usize, used: usize, y: u16, top: u16) -> bool
 }
 
 // Whether the numbers from where the lines begin up to `used` are exactly `count` entries. What is not in range ends the scan of the lines,
-// a literal too: from inside the scan of literals, by the label.
+// a literal too: from inside the scan of literals, by the label, as document 01 asks.
 fn lines_ok(a: &[u16], used: usize, count: u16, top: u16, n: u16) -> bool
     requires { (used ≤ length a.now) × (first_line a.now ≤ used) × (n ≤ 512) }
     ensures { result ≡ lines_ok top n count (used - first_line a.now) (drop (first_line a.now) a.now) }
@@ -179,12 +179,7 @@ fn numbers_tell(a: &[u16], seen: &Set) -> bool
     requires { Lined a.now }
     ensures { result ≡ all_below (conditions_of a.now) (number_tells a.now seen.now.words) }
 {
-    for c in 0..a[1] {
-        if !number_tells(a, seen, c) {
-            return false;
-        }
-    }
-    true
+    (0..a[1]).all(|c| number_tells(a, seen, c))
 }
 
 // Whether the D numbers tell the D lines: 1 with exactly one, 0 with none.
@@ -227,7 +222,9 @@ fn literals_name(a: &[u16], from: usize, m: u16, c: u16) -> bool
     a[from..from + m as usize].iter().any(|&code| code / 2 == c)
 }
 
-// A page area that passes its tests, but may have 1,536 lines. A clause sees the list of its numbers.
+// A page area that passes its tests, but may have 1,536 lines. A clause sees the list of its numbers. What only a sound area has is asked beside it,
+// as `sound page.now`: a page that a trial changes can have more lines than a sound one. A second type for sound pages would have all methods of
+// this one again, or hand out a `Page` at each call.
 #[derive(Drop)]
 pub struct Page<'a> {
     pub numbers: &'a [u16],
@@ -241,7 +238,8 @@ impl<'a> Model for Page<'a> {
     ghost invariant = { λ p. solvable p.numbers.now ≡ true };
 }
 
-// The four numbers with which the entry of a line begins: its condition, its kind, and two that the kind gives a meaning.
+// The four numbers with which the entry of a line begins: its condition, its kind, and two that the kind gives a meaning. The kind is matched on as
+// the number that it is, as document 01 asks: an area is numbers that C reads, and an enum would name each of 0 to 7 once more.
 #[derive(Clone, Copy)]
 pub struct Entry {
     pub condition: u16,
@@ -357,7 +355,7 @@ impl<'a> Page<'a> {
 
     // The literals of the rule at `at`.
     pub fn literals(&self, at: usize) -> &'a [u16]
-        requires { LineIn self.now at × (1 ≤ get_or self.now (at + 1) 0) × (get_or self.now (at + 1) 0 ≤ 5) }
+        requires { RuleIn self.now at }
         ensures value { result.now ≡ take (get_or self.now (at + 3) 0) (drop (at + 4) self.now) }
         ensures sound { solvable self.now ≡ true }
     {

@@ -1,85 +1,109 @@
--- The loop that compares figures with the intervals held, in the code's own terms. Assumes nothing.
-use mathlib.Core.Path.{◌≡◌, refl, sym, ◌∙◌, ap}
+-- Figures compared with the intervals held, pair by pair, in the code's own terms. Assumes nothing.
+use mathlib.Core.Path.{◌≡◌, refl, sym, ◌∙◌, ap, ap₂, subst}
 use mathlib.Core.Logic.{◌≢◌}
-use mathlib.Core.Bool.{Bool, true, false, not, true≢false}
+use mathlib.Core.Bool.{Bool, true, false, true≢false}
 use mathlib.Core.List.{List, [], ◌∷◌, ◌++◌}
-use Prim.Native.Nat.{ℕ, ◌*◌, ◌<◌}
+use Prim.Native.Nat.{ℕ, zero, suc, ◌*◌, ◌/◌, ◌<◌}
 use native.Mathlib.Omega.{arith}
 use lib.Dec.{ltb}
-use lib.ListN.{length, get_or}
-use borrow.Author.Tests.{not-false, ltb-true}
-use Rattle.fixpoint.specs.Interval.{Interval, same, Assign}
-use Rattle.fixpoint.proofs.Evaluation.{same_true}
+use lib.ListN.{length, get_or, take, drop, length-append}
+use lib.Seq.{take_at, drop_at}
+use borrow.Author.Tests.{ltb-true}
+use Rattle.std.specs.List.{list_all, zip}
+use Rattle.std.proofs.iter.Yields.{fronts}
+use Rattle.std.specs.Iterator.Adapters.{zip_first, zip_second}
+use Rattle.std.specs.Slice.Iter.{iter_rest, chunks_exact_rest, chunks_exact_size, chunks_exact_steps}
+use Rattle.std.proofs.lemmas.Iterator.{YieldsList, zips, YieldsList-from_slice, YieldsList-from_zip}
+use Rattle.std.proofs.lemmas.Iterator.Splits.{YieldsList-from_shown_while}
+use Rattle.fixpoint.specs.Interval.{same, Assign}
+use Rattle.fixpoint.proofs.Evaluation.{same_true, same_refl}
 use Rattle.semantics.specs.Area.{all_under}
 use Rattle.semantics.proofs.Soundness.{both_true}
 use Rattle.semantics.specs.Operation.{ends}
 use Rattle.semantics.proofs.Keeps.{length_ends}
 use Rattle.picks.specs.Figures.{table_at, Compared}
 
-two_are : (xs : List ℕ) → length xs ≡ 2 → xs ≡ get_or xs 0 0 ∷ get_or xs 1 0 ∷ []
-two_are [] e = absurd (omega arith)
-two_are (x ∷ []) e = absurd (omega arith)
-two_are (x ∷ y ∷ []) e = refl
-two_are (x ∷ y ∷ z ∷ xs) e = absurd (omega arith)
+-- the first k pairs of a list
+unfoldable pub pairs : ℕ → List ℕ → List (List ℕ)
+pairs zero p = []
+pairs (suc k) p = take 2 p ∷ pairs k (drop 2 p)
+
+pairs_length : (k : ℕ) (p : List ℕ) → length (pairs k p) ≡ k
+unfolding pairs
+pairs_length zero p = refl
+pairs_length (suc k) p = ap suc (pairs_length k (drop 2 p))
+
+-- a pair before others
+pairs_on : (p pair rest : List ℕ) → p ≡ pair ++ rest → length pair ≡ 2 → pairs (length p / 2) p ≡ pair ∷ pairs (length rest / 2) rest
+unfolding pairs
+pairs_on p pair rest e l =
+    let n : length p / 2 ≡ suc (length rest / 2) = omega (arith, ap length e, length-append pair rest) in
+    ap₂ {C = List (List ℕ)} pairs n e
+    ∙ ap₂ {C = List (List ℕ)} (λ (x q : List ℕ). x ∷ pairs (length rest / 2) q) (take_at pair rest 2 l) (drop_at pair rest 2 l)
+
+-- what the pairs of a list of 2 × k figures give
+gives_pairs : {s : _} (k : ℕ) (figures : List ℕ) → chunks_exact_size s ≡ 2 → chunks_exact_rest s ≡ figures → length figures ≡ 2 * k → YieldsList chunks_exact_steps (λ x. x.now) s (pairs k figures)
+gives_pairs {s} k figures f e l =
+    let h : length figures / 2 ≡ k = omega arith in
+    subst (λ (j : ℕ). YieldsList chunks_exact_steps (λ x. x.now) s (pairs j figures)) h
+    (subst (λ (q : List ℕ). YieldsList chunks_exact_steps (λ x. x.now) s (pairs (length q / 2) q)) e
+    (YieldsList-from_shown_while chunks_exact_steps (λ x. x.now) (λ s. pairs (length (chunks_exact_rest s) / 2) (chunks_exact_rest s)) (λ s. chunks_exact_size s ≡ 2)
+    (λ s t p h. pairs_length _ _ ∙ omega (arith, p, h.1.0))
+    (λ s x t p h. (h.0 ∙ p, pairs_on _ _ _ h.1.0 (h.1.1 ∙ p)))
+    s f))
+
+-- each query beside its figures
+abbrev pub beside : List ℕ → List ℕ → List (ℕ × List ℕ)
+beside qs figures = zip qs (pairs (length qs) figures)
+
+pub gives_beside : {s : _} (qs figures : List ℕ) → iter_rest (zip_first s) ≡ qs → chunks_exact_size (zip_second s) ≡ 2 → chunks_exact_rest (zip_second s) ≡ figures → length figures ≡ 2 * length qs
+    → YieldsList (zips fronts chunks_exact_steps) (λ p. (p.0.now, p.1.now)) s (beside qs figures)
+gives_beside qs figures q f e l = YieldsList-from_zip (YieldsList-from_slice qs q) (gives_pairs (length qs) figures f e l)
+
+-- the query is a condition, and the figures are two
+pub record Pair (n : ℕ) (p : ℕ × List ℕ) : Type 0 where
+  pub query : p.0 < n
+  pub figures : length p.1 ≡ 2
+
+pub pair_at : (n : ℕ) (qs figures : List ℕ) → all_under n qs ≡ true → length figures ≡ 2 * length qs → (k : ℕ) (d : ℕ × List ℕ) → k < length (beside qs figures) → Pair n (get_or (beside qs figures) k d)
+unfolding pairs all_under
+pair_at n [] figures u e k d l = absurd (omega arith)
+pair_at n (q ∷ qs) [] u e k d l = absurd (omega arith)
+pair_at n (q ∷ qs) (x ∷ []) u e k d l = absurd (omega arith)
+pair_at n (q ∷ qs) (x ∷ y ∷ figures) u e zero d l = record { query = ltb-true q n (both_true (ltb q n) (all_under n qs) u).0; figures = refl }
+pair_at n (q ∷ qs) (x ∷ y ∷ figures) u e (suc k) d l = pair_at n qs figures (both_true (ltb q n) (all_under n qs) u).1 (omega arith) k d (omega arith)
+
+-- the code's test of a query and its figures
+abbrev pub agrees : Assign → ℕ × List ℕ → Bool
+agrees I p = same (record { low = get_or p.1 0 0; high = get_or p.1 1 0 }) (I p.0)
+
+module _ (I : Assign) where
+  all_equal : (qs figures : List ℕ) → length figures ≡ 2 * length qs → list_all (agrees I) (beside qs figures) ≡ true → figures ≡ ends I qs
+  unfolding pairs
+  all_equal [] [] e t = refl
+  all_equal [] (x ∷ figures) e t = absurd (omega arith)
+  all_equal (q ∷ qs) [] e t = absurd (omega arith)
+  all_equal (q ∷ qs) (x ∷ []) e t = absurd (omega arith)
+  all_equal (q ∷ qs) (x ∷ y ∷ figures) e t =
+      let b = both_true (same (record { low = x; high = y }) (I q)) (list_all (agrees I) (beside qs figures)) t in
+      let h : record { low = x; high = y } ≡ I q = same_true _ _ b.0 in
+      let g : figures ≡ ends I qs = all_equal qs figures (omega arith) b.1 in
+      λ i. (h i).low ∷ (h i).high ∷ g i
+
+  all_agree : (qs : List ℕ) → list_all (agrees I) (beside qs (ends I qs)) ≡ true
+  unfolding pairs
+  all_agree [] = refl
+  all_agree (q ∷ qs) = rw (same_refl (I q)) (all_agree qs)
 
 module _ (top : ℕ) (qs figures values : List ℕ) where
-  abbrev I : Assign
-  I = table_at top values
-
   -- figures of another length
   pub compared_length : length figures ≢ 2 * length qs → Compared top qs figures values false
-  compared_length n = record { equal = λ e. absurd (true≢false (sym e)); differ = λ e q. n (ap length q ∙ length_ends I qs) }
+  compared_length n = record { equal = λ e. absurd (true≢false (sym e)); differ = λ e q. n (ap length q ∙ length_ends (table_at top values) qs) }
 
-  -- the figures are right exactly if those still to come are those of the queries still to come
-  pub record Comparing (n : ℕ) (left rest : List ℕ) : Type 0 where
-    pub under : all_under n left ≡ true
-    pub size : length rest ≡ 2 * length left
-    pub right : rest ≡ ends (table_at top values) left → figures ≡ ends (table_at top values) qs
-    pub ahead : figures ≡ ends (table_at top values) qs → rest ≡ ends (table_at top values) left
-
-  -- a query, and the two figures for it
-  module _ {n : ℕ} {left rest : List ℕ} (s : Comparing n left rest) (query : ℕ) (left' figure rest' : List ℕ) (e : left ≡ query ∷ left') (f : rest ≡ figure ++ rest') (g : length figure ≡ 2) where
-    abbrev low : ℕ
-    low = get_or figure 0 0
-
-    abbrev high : ℕ
-    high = get_or figure 1 0
-
-    figures_on : rest ≡ low ∷ high ∷ rest'
-    figures_on = f ∙ ap (λ (l : List ℕ). l ++ rest') (two_are figure g)
-
-    queries_on : ends I left ≡ (I query).low ∷ (I query).high ∷ ends I left'
-    queries_on = ap (ends I) e
-
-    under_both : (ltb query n ≡ true) × (all_under n left' ≡ true)
-    unfolding all_under
-    under_both = both_true (ltb query n) (all_under n left') (sym (ap (all_under n) e) ∙ s.under)
-
-    pub query_under : query < n
-    query_under = ltb-true query n under_both.0
-
-    -- the code's test of this query, where [p; q] is what it holds
-    module _ {p q : ℕ} (h : record { low = p; high = q } ≡ I query) {t : Bool} (d : t ≡ not (same (record { low = low; high = high }) (record { low = p; high = q }))) where
-      alike : Bool
-      alike = same (record { low = low; high = high }) (I query)
-
-      test : t ≡ not alike
-      test = unfold alike in d ∙ ap (λ (x : Interval). not (same (record { low = low; high = high }) x)) h
-
-      pub comparing_next : t ≡ false → Comparing n left' rest'
-      comparing_next z =
-          record {
-            under = under_both.1;
-            size = omega (arith, s.size, ap length e, ap length figures_on);
-            right = λ r. s.right (cc (figures_on, queries_on, low_is, high_is));
-            ahead = λ r. let y : low ∷ high ∷ rest' ≡ (I query).low ∷ (I query).high ∷ ends I left' = sym figures_on ∙ s.ahead r ∙ queries_on in cc;
-          }
-        where
-          equal : record { low = low; high = high } ≡ I query
-          equal = unfold alike in same_true _ _ (not-false alike (sym test ∙ z))
-
-          low_is : low ≡ (I query).low
-          low_is = ap (λ (x : Interval). x.low) equal
-
-          high_is : high ≡ (I query).high
-          high_is = ap (λ (x : Interval). x.high) equal
+  -- figures of the right one
+  pub compared_pairs : length figures ≡ 2 * length qs → {r : Bool} → r ≡ list_all (agrees (table_at top values)) (beside qs figures) → Compared top qs figures values r
+  compared_pairs e {r} t =
+      record {
+        equal = λ z. all_equal (table_at top values) qs figures e (sym t ∙ z);
+        differ = λ z q. absurd (true≢false (sym (all_agree (table_at top values) qs) ∙ sym (ap (λ (l : List ℕ). list_all (agrees (table_at top values)) (beside qs l)) q) ∙ sym t ∙ z));
+      }

@@ -14,7 +14,7 @@ ghost use Rattle.page.specs.Lines.{line_names};
 ghost use Rattle.page.specs.Places.{LineIn};
 ghost use Rattle.reach.specs.Sets.{Joins};
 ghost use Rattle.value.specs.Table.{Grades};
-ghost use Rattle.picks.specs.Answer.{checked_of, Judged};
+ghost use Rattle.picks.specs.Answer.{number_of, place_of, checked_of, Judged};
 ghost use Rattle.picks.specs.declared.PickError.TheVariants.{Refused};
 ghost use Rattle.picks.specs.Book.{HoldSome, Evaluates};
 ghost use Rattle.picks.specs.Figures.{table_at, Compared};
@@ -92,16 +92,14 @@ fn figures_held(page: &Page, queries: &[u16], figures: &[u16], values: &[u8]) ->
         return false;
     }
     let top = page.top();
-    for (&query, figure) in queries.iter().zip(figures.chunks_exact(2)) {
+    let mut pairs = queries.iter().zip(figures.chunks_exact(2));
+    pairs.all(|(&query, figure)| {
         let told = Ends {
             low: figure[0],
             high: figure[1],
         };
-        if told != held(values, query, top) {
-            return false;
-        }
-    }
-    true
+        told == held(values, query, top)
+    })
 }
 
 // Why picks or figures are not accepted: the page or the queries are refused; a pick is not waiting, with its place; not at rest; wrong figures.
@@ -111,6 +109,30 @@ pub enum PickError {
     NotWaiting(u32),
     NotAtRest,
     WrongFigures,
+}
+
+impl PickError {
+    // The number of the refusal.
+    pub fn number(self) -> u8
+        ensures { result ≡ number_of self }
+    {
+        match self {
+            PickError::Refused(refusal) => refusal.number(),
+            PickError::NotWaiting(_) => 50,
+            PickError::NotAtRest => 51,
+            PickError::WrongFigures => 52,
+        }
+    }
+
+    // The place that is told with it, 0 for none, as C is told it.
+    pub fn place(self) -> u32
+        ensures { result ≡ place_of self }
+    {
+        match self {
+            PickError::NotWaiting(place) => place,
+            _ => 0,
+        }
+    }
 }
 
 impl From<Refusal> for PickError {

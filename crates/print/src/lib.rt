@@ -6,13 +6,14 @@ ghost use Rattle.semantics.specs.Fields.{digit, number_text};
 ghost use Rattle.print.specs.Wrote.{Wrote};
 ghost use Rattle.print.specs.Texts.{Room, Puts};
 
-// The items of a slice, at a place; the place behind them. One by one: a copy of slices asks the host for memmove, which the C interface does not.
+// The items of a slice, at a place; the place behind them. One by one: a copy of slices asks the host for memmove, which the C interface does not;
+// of what a `zip` of `iter_mut` writes a proof knows the length alone.
 pub fn put_all<T: Copy>(out: &mut [T], at: usize, items: &[T]) -> usize
     requires { at + length items.now ≤ length out.old }
     ensures { Wrote out.old at items.now out.new result }
 {
-    for i in 0..items.len() {
-        out[at + i] = items[i];
+    for (i, &item) in items.iter().enumerate() {
+        out[at + i] = item;
     }
     at + items.len()
 }

@@ -40,7 +40,7 @@ impl Conditions for Set {
     }
 }
 
-// A mark for each condition.
+// A mark for each condition, beside the sets: document 01 asks for the closure of the queries as a [false; 512] array.
 impl Conditions for [bool; 512] {
     ghost holds = { λ s. member s };
 
@@ -118,8 +118,7 @@ struct Counts {
     edges: u32,
 }
 
-// A pass: it follows the conditions of `fresh`, takes them from that set, and puts what it adds into the empty set `new`. A `while let`, since
-// the set is emptied on the way.
+// A pass: it follows the conditions of `fresh`, takes them from that set, and puts what it adds into the empty set `new`.
 fn pass(page: &Page, fresh: &mut Set, found: &mut Set, new: &mut Set) -> Counts
     requires { Inside (conditions_of page.now) fresh.old.words × Nobody new.old.words }
     ensures passed { Passed (page_of page.now) fresh.old.words found.old.words found.new.words new.new.words }
@@ -128,8 +127,7 @@ fn pass(page: &Page, fresh: &mut Set, found: &mut Set, new: &mut Set) -> Counts
     page.recall();
     let mut reached: u32 = 0;
     let mut edges: u32 = 0;
-    while let Some(c) = fresh.lowest() {
-        fresh.remove(c);
+    for c in fresh.drain() {
         edges += follow(page, c, found, new);
         reached += 1;
     }
@@ -227,7 +225,7 @@ fn bound_of(reached: u32, top: u16, edges: u32) -> u32
     reached + top as u32 * edges
 }
 
-// The mark of a condition at the start: it waits if it is reached.
+// The mark of a condition at the start, a number of the run area, as in `worklist`: it waits if it is reached.
 fn first_mark(reached: bool) -> u16
     ensures { result ≡ mark_of reached reached }
 {

@@ -1,5 +1,5 @@
 -- The entries that the second pass writes, one after the other. Assumes nothing.
-use mathlib.Core.Path.{◌≡◌, refl, sym, ◌∙◌, ap}
+use mathlib.Core.Path.{◌≡◌, sym, ◌∙◌, ap}
 use mathlib.Core.Bool.{true}
 use mathlib.Core.List.{List, [], ◌∷◌, ◌++◌}
 use Prim.Native.Nat.{ℕ, suc, ◌+◌, ◌≤◌, ◌<◌}
@@ -22,9 +22,6 @@ pub record Writing (s : List ℕ) (from : ℕ) (area₀ : List ℕ) (start : ℕ
   pub written : sets area₀ start (entries_of s from) ≡ sets area e (entries_of s i)
   pub same : length area ≡ length area₀
   pub fits : LinesFit s i area e
-
-pub writing_first : (s : List ℕ) (from : ℕ) (area : List ℕ) (start : ℕ) → LinesFit s from area start → Writing s from area start area from start
-writing_first s from area start f = record { written = refl; same = refl; fits = f }
 
 module _ (s : List ℕ) (from : ℕ) (area₀ : List ℕ) (start : ℕ) {area : List ℕ} {i e : ℕ} (w : Writing s from area₀ start area i e) where
   pub writing_done : length s ≤ i → area ≡ sets area₀ start (entries_of s from)

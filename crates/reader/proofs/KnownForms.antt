@@ -195,11 +195,8 @@ pub put_line : {s : List ℕ} {at : ℕ} {line : Line} {next : ℕ} → Says s a
     → Put area start (line_code line) area' end → LinePut s at area start area' next end
 put_line h p = record { entry = rw h.is p; ends = h.ends }
 
--- its four numbers have their places, and so have its literals
+-- its literals have their places behind its four numbers
 module _ (s : List ℕ) (at : ℕ) {area : List ℕ} {end : ℕ} (f : LineFits s at area end) where
-  pub four_room : end + 4 ≤ length area
-  four_room = omega (arith, f.room, (form_size (fields_at (drop at s)) f.formed.form).0)
-
   pub literals_room : (x : get_or s at 10 ≡ 82) {v u b : ℕ} (k : PairThen s at v u b) → end + 4 + length (fields_at (drop (b + 2) s)) ≤ length area
   literals_room x k =
       omega (arith, f.room, (form_size (fields_at (drop at s)) f.formed.form).0, ap length (literals_rest s at f.formed x k))

@@ -1,11 +1,15 @@
 -- Where a line ends, and which line is reached. Assumes nothing.
 use mathlib.Core.Path.{◌≡◌, refl, sym, ◌∙◌, ap}
+use mathlib.Core.Logic.{◌≢◌}
 use mathlib.Core.List.{List, [], ◌∷◌, ◌++◌, append_assoc, append-nil}
 use Prim.Native.Nat.{ℕ, zero, suc, ◌+◌, ◌-◌, ◌≤◌, ◌<◌}
 use native.Mathlib.Omega.{arith}
 use native.Mathlib.Nat.{sub_self}
 use lib.ListN.{length, get_or, take, drop, length-drop, drop_of_length-le}
-use lib.Seq.{take-suc, get_or-drop, length-take-le}
+use lib.Seq.{take-suc, get_or-drop}
+use Rattle.std.specs.Prelude.{Option, None, Some, MatchOption}
+use Rattle.std.specs.List.{AllWithin, HoldsAt}
+use Rattle.std.specs.Option.{unwrap_or}
 use Rattle.semantics.specs.Text.{text_lines}
 use Rattle.semantics.specs.ReadPage.{line_of, start_from, start_of}
 use Rattle.fields.specs.Cursor.{lines_after}
@@ -14,18 +18,18 @@ use Rattle.fields.proofs.Places.{byte_here}
 use Rattle.reader.proofs.LinePlaces.{byte_past, line_here, newline_front, newline_lines, other_front, other_lines, other_start, newline_start, end_start, first_start}
 
 -- The line at a place has been followed as far as the place i.
-pub record Following (s : List ℕ) (at i : ℕ) : Type 0 where
+record Following (s : List ℕ) (at i : ℕ) : Type 0 where
   pub line : get_or (text_lines (drop at s)) 0 [] ≡ take (i - at) (drop at s) ++ get_or (text_lines (drop i s)) 0 []
   pub lines : lines_after (drop at s) ≡ lines_after (drop i s)
   pub ahead : at ≤ i
   pub inside : i ≤ length s
   pub starts : (k : ℕ) → start_from (drop at s) (suc k) ≡ i - at + start_from (drop i s) (suc k)
 
-pub following_first : (s : List ℕ) (at : ℕ) → at ≤ length s → Following s at at
+following_first : (s : List ℕ) (at : ℕ) → at ≤ length s → Following s at at
 following_first s at h = record { line = rw sub_self; lines = refl; ahead = omega arith; inside = h; starts = λ k. omega arith }
 
 module _ (s : List ℕ) (at i : ℕ) (w : Following s at i) where
-  pub following_next : i < length s → (get_or s i 0 ≡ 10 → ⊥) → Following s at (i + 1)
+  following_next : i < length s → (get_or s i 0 ≡ 10 → ⊥) → Following s at (i + 1)
   following_next h n =
       let b = byte_here s i h in
       let m : get_or s i 10 ≡ 10 → ⊥ = λ e. n (b ∙ e) in
@@ -52,11 +56,31 @@ module _ (s : List ℕ) (at i : ℕ) (w : Following s at i) where
         starts = w.starts;
       }
 
-  pub at_newline : i < length s → get_or s i 0 ≡ 10 → LineStop s at i
+  at_newline : i < length s → get_or s i 0 ≡ 10 → LineStop s at i
   at_newline h e = line_ends (sym (byte_here s i h) ∙ e)
 
-  pub at_end : length s ≤ i → LineStop s at i
+  at_end : length s ≤ i → LineStop s at i
   at_end h = line_ends (sym (byte_past s i h))
+
+-- n bytes from the place `at` on are not 10
+module _ (s : List ℕ) (at : ℕ) (h : at ≤ length s) where
+  following_to : (n : ℕ) → n ≤ length (drop at s) → AllWithin (λ b. b ≢ 10) (drop at s) 0 n → Following s at (at + n)
+  following_to zero l a = let e : at + 0 ≡ at = omega arith in rw e (following_first s at h)
+  following_to (suc n) l a =
+      let w = following_to n (omega arith) (λ k d x y. a k d x (omega arith)) in
+      let b : get_or s (at + n) 0 ≢ 10 = λ e. a n 0 (omega arith) (omega arith) (get_or-drop at s n 0 ∙ e) in
+      let e : at + n + 1 ≡ at + suc n = omega arith in
+      rw e at (following_next s at (at + n) w (omega (arith, length-drop at s)) b)
+
+  -- the bytes from the place on, and the first byte 10 among them, or their end
+  module _ {rest : List ℕ} (is : rest ≡ drop at s) where
+    pub line_stops : (r : Option ℕ) → MatchOption r (AllWithin (λ b. b ≢ 10) rest 0 (length rest)) (λ n. (n < length rest) × HoldsAt (λ b. b ≡ 10) rest n × AllWithin (λ b. b ≢ 10) rest 0 n)
+        → LineStop s at (at + unwrap_or r (length rest))
+    line_stops None a =
+        rw is (at_end s at (at + length (drop at s)) (following_to (length (drop at s)) (omega arith) (rw is at a)) (omega (arith, length-drop at s)))
+    line_stops (Some n) p =
+        let q = rw is at p in
+        at_newline s at (at + n) (following_to n (omega (arith, q.0)) q.2) (omega (arith, q.0, length-drop at s)) (sym (get_or-drop at s n 0) ∙ q.1 0)
 
 module _ (s : List ℕ) (at e : ℕ) (w : LineStop s at e) where
   pub next_line : e < length s → NextLine s at (e + 1)
@@ -126,8 +150,3 @@ module _ (s : List ℕ) (number at left : ℕ) (w : Seeking s number at left) wh
         ahead = q.ahead;
         inside = q.inside;
       }
-
--- a part that stands inside is as long as its line
-pub line_span : {s : List ℕ} {number start end : ℕ} → LineAt s number start end → end - start ≡ length (line_of s number)
-line_span {s} {number} {start} {end} w =
-    sym (length-take-le (end - start) (drop start s) (omega (arith, w.ahead, w.inside, length-drop start s))) ∙ ap length w.line

@@ -15,7 +15,7 @@ use bits::Set;
 use fields::number_before;
 use lines::{Parsed, parse_line};
 
-// What is wrong with a line: the cause, and the place of the leftmost field that is not in range, from 1, or 0 where no field is told.
+// What is wrong with a line: the cause, and the place of the leftmost field that is not in range, from 1; 0 where none is told, as C is told it.
 #[derive(Clone, Copy)]
 pub struct Fault {
     cause: Cause,
@@ -122,7 +122,7 @@ fn check_line(bytes: &[u8], at: usize, head: &Head, seen: &mut Set) -> Result<En
     requires { InText bytes.now at × (head.now.conditions ≤ 512) }
     ensures { CheckedLine bytes.now at head.now.top head.now.conditions seen.old.words seen.new.words result }
 {
-    // with `ok_or` and `?` reading a page takes 160 bytes of stack more in C
+    // with `ok_or` and `?` reading a page takes 160 bytes of stack more in C, and the header states its stack
     let Some(line) = parse_line(bytes, at, head.conditions) else {
         return Err(FORMLESS);
     };

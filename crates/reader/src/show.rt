@@ -7,12 +7,8 @@ pub fn line_end(bytes: &[u8], at: usize) -> usize
     requires { at ≤ length bytes.now }
     ensures { LineStop bytes.now at result }
 {
-    for i in at..bytes.len() {
-        if bytes[i] == b'\n' {
-            return i;
-        }
-    }
-    bytes.len()
+    let rest = &bytes[at..];
+    at + rest.iter().position(|&b| b == b'\n').unwrap_or(rest.len())
 }
 
 // The place behind the line at a place.

@@ -136,13 +136,13 @@ module _ (a : List ℕ) (ok : solvable a ≡ true) (m : List Bool) where
     abbrev H : Half lower a m s
     H = F.half
 
-    pub same₁ : SameIntervals a s s₁
+    same₁ : SameIntervals a s s₁
     same₁ c l = pair_eq (h.under (2 * c) (omega arith)) (h.highs c l)
 
-    pub kept₁ : FloorKept a m s s₁
+    kept₁ : FloorKept a m s s₁
     kept₁ = kept_intervals s s₁ same₁ h.same_length h.beyond
 
-    pub half₁ : FloorHalf a m s₁
+    half₁ : FloorHalf a m s₁
     half₁ =
         record {
           half = record {
@@ -165,7 +165,7 @@ module _ (a : List ℕ) (ok : solvable a ≡ true) (m : List Bool) where
           };
         }
 
-    pub rests₁ : AllRest a m s → AllRest a m s₁
+    rests₁ : AllRest a m s → AllRest a m s₁
     rests₁ = rests_same s s₁ same₁
 
   -- high ends of conditions that are unknown by default fall
@@ -180,7 +180,7 @@ module _ (a : List ℕ) (ok : solvable a ≡ true) (m : List Bool) where
     unfolding room
     room₂ = sum_eq n _ _ (λ c l. ap (λ (i : ℕ). top_of a - i) (g.lows c l))
 
-    pub kept₂ : FloorKept a m s s₂
+    kept₂ : FloorKept a m s s₂
     kept₂ =
         record {
           same_length = g.same_length;
@@ -190,7 +190,7 @@ module _ (a : List ℕ) (ok : solvable a ≡ true) (m : List Bool) where
           beyond = g.beyond;
         }
 
-    pub less₂ : fell ≡ true → to_learn a s₂ < to_learn a s
+    less₂ : fell ≡ true → to_learn a s₂ < to_learn a s
     less₂ z =
         let p = g.moves z in
         let f : free p.0 ≡ true = sought_free a m p.0 p.2.0 in
@@ -208,7 +208,7 @@ module _ (a : List ℕ) (ok : solvable a ≡ true) (m : List Bool) where
         (λ e. omega (arith, e.1, x.each c l e.0.0, highs_over (S a ok) free (held n s) F.half.shut (held n s) (goal_mix F) c l r f))
         (g.falls c l)
 
-    pub half₂ : FloorHalf a m s₂
+    half₂ : FloorHalf a m s₂
     half₂ =
         let H = F.half in
         record {
@@ -244,11 +244,11 @@ module _ (a : List ℕ) (ok : solvable a ≡ true) (m : List Bool) where
                 ]),
           )
 
-      pub waiting₂ : MaybeWaiting lower a m indexed s₂ words
+      waiting₂ : MaybeWaiting lower a m indexed s₂ words
       waiting₂ = by_bool indexed (λ u. inr (record { set = g.set_in; rests = rests₂ u })) (λ z. inl z)
 
       -- none fell
-      pub step_still : fell ≡ false → {s₀ : List ℕ} → SameIntervals a s₀ s → FloorKept a m s₀ s → FloorStep a m s₀ s₂ false
+      step_still : fell ≡ false → {s₀ : List ℕ} → SameIntervals a s₀ s → FloorKept a m s₀ s → FloorStep a m s₀ s₂ false
       step_still z same k =
           let e : SameIntervals a s s₂ = λ c l. pair_eq (g.lows c l) (g.still z c l) in
           record {
@@ -261,7 +261,7 @@ module _ (a : List ℕ) (ok : solvable a ≡ true) (m : List Bool) where
           }
 
     -- some fell, and the low ends are settled again
-    pub step_fell : fell ≡ true → {s₀ s₃ : List ℕ} {t : Bool} → FloorKept a m s₀ s → Settled lower a m s₂ s₃ t → FloorStep a m s₀ s₃ true
+    step_fell : fell ≡ true → {s₀ s₃ : List ℕ} {t : Bool} → FloorKept a m s₀ s → Settled lower a m s₂ s₃ t → FloorStep a m s₀ s₃ true
     step_fell z k w =
         record {
           kept = kept_on k (kept_on kept₂ (settled_kept half₂ w));
@@ -271,6 +271,18 @@ module _ (a : List ℕ) (ok : solvable a ≡ true) (m : List Bool) where
           down = λ y. absurd (true≢false y);
           moves = λ y. omega (arith, less₂ z, k.less, (settled_kept half₂ w).less);
         }
+
+  -- the whole step
+  module _ {indexed : Bool} {next₀ next words s s₁ s₂ : List ℕ} {fell : Bool} (F : FloorHalf a m s) (q : AllRest a m s) (h : Refreshed a s s₁) (x : NextHighs a m s₁ next₀ next)
+      (g : Fell a m indexed next s₁ s₂ words fell) where
+    pub lows_again : Half lower a m s₂ × MaybeWaiting lower a m indexed s₂ words × WaitSet n words
+    lows_again = ((half₂ (half₁ F h) x g).half, waiting₂ (half₁ F h) x g (rests₁ F h q), g.set_in)
+
+    pub floor_still : fell ≡ false → FloorStep a m s s₂ false
+    floor_still z = step_still (half₁ F h) x g (rests₁ F h q) z (same₁ F h) (kept₁ F h)
+
+    pub floor_fell : fell ≡ true → {s₃ : List ℕ} {t : Bool} → Settled lower a m s₂ s₃ t → FloorStep a m s s₃ true
+    floor_fell z w = step_fell (half₁ F h) x g z (kept₁ F h) w
 
   pub flooring_first : {s s₁ words next : List ℕ} {t : Bool} → FloorHalf a m s → Settled lower a m s s₁ t → WaitSet n words → Flooring a m s₁ s₁ words next next t t
   flooring_first F w q =

@@ -86,7 +86,7 @@ module _ (a : List ℕ) (ok : solvable a ≡ true) (m : List Bool) (s : List ℕ
       apart₃ : (c : ℕ) → c < n → member m c ≡ false → (held n s₃ c).low ≡ 0
       apart₃ c l r = lows₃ c l ∙ b.apart c l r
 
-      pub lows_half : FloorHalf a m s₃
+      lows_half : FloorHalf a m s₃
       lows_half =
           record {
             half = record {
@@ -134,15 +134,19 @@ module _ (a : List ℕ) (ok : solvable a ≡ true) (m : List Bool) (s : List ℕ
                   ])),
             )
 
-        pub lows_waiting : MaybeWaiting lower a m indexed s₃ lows'
+        lows_waiting : MaybeWaiting lower a m indexed s₃ lows'
         lows_waiting = by_bool indexed (λ u. inr (record { set = o.set_in; rests = rests₃ u })) (λ z. inl z)
+
+        -- what settling the floor asks
+        pub lows_ready : FloorHalf a m s₃ × MaybeWaiting lower a m indexed s₃ lows' × WaitSet n lows'
+        lows_ready = (lows_half, lows_waiting, o.set_in)
 
       module _ {s₄ : List ℕ} {changed : Bool} (w : Floored a m s₃ s₄ changed) where
         turned₄ : TurnedAt a (member m) (suc b.round) (held n s₄)
         turned₄ = turned_by (S a ok) free b.shut topped₃ w.ends
 
         -- everybody rests, over the high ends held
-        pub lows_wait : {indexed : Bool} {lows : List ℕ} → WaitSet n lows → LowsWait a m indexed s₄ lows
+        lows_wait : {indexed : Bool} {lows : List ℕ} → WaitSet n lows → LowsWait a m indexed s₄ lows
         unfolding page_of
         lows_wait q =
             record {
@@ -182,8 +186,11 @@ module _ (a : List ℕ) (ok : solvable a ≡ true) (m : List Bool) (s : List ℕ
             (turned_same (S a ok) free b.shut (λ c l r. pair_eq (low_eq (e c l)) (ap (λ (p : Interval). cond (free c) p.high (top_of a)) (e c l))) turned₃)
             (topped_same (S a ok) free b.shut (λ c l r f. high_eq (e c l)) topped₃) turned₄
 
-        pub rounded_told : Rounded a m s s₄ changed
-        rounded_told = rounded ended (λ y. y)
+        all_told : Rounded a m s s₄ changed
+        all_told = rounded ended (λ y. y)
+
+        pub rounded_told : {indexed : Bool} {lows : List ℕ} → WaitSet n lows → Rounded a m s s₄ changed × LowsWait a m indexed s₄ lows
+        rounded_told q = (all_told, lows_wait q)
 
         -- no reached condition is unknown by default, and the low ends are as before wherever a rule of a reached condition negates them
         module _ (numbers : (c : ℕ) → c < n → get_or s₄ (2 * n + (2 * c + 1)) 0 ≡ get_or s₃ (2 * n + (2 * c + 1)) 0) (none : (c : ℕ) → c < n → member m c ≡ true → free c ≡ false)
@@ -211,16 +218,17 @@ module _ (a : List ℕ) (ok : solvable a ≡ true) (m : List Bool) (s : List ℕ
 
       -- no reached condition is unknown by default
       module _ {s₄ : List ℕ} {changed : Bool} (none : (c : ℕ) → c < n → member m c ≡ true → free c ≡ false) (w : Settled lower a m s₃ s₄ changed) where
-        pub plain : Floored a m s₃ s₄ changed
+        plain : Floored a m s₃ s₄ changed
         plain = floored_plain a ok m none lows_half w
 
-        -- no low end rose
-        pub rounded_still : changed ≡ false → Rounded a m s s₄ false
-        rounded_still z = subst (Rounded a m s s₄) z (rounded_told plain)
+        module _ {indexed : Bool} {lows : List ℕ} (q : WaitSet n lows) where
+          -- no low end rose
+          pub rounded_still : changed ≡ false → Rounded a m s s₄ false × LowsWait a m indexed s₄ lows
+          rounded_still z = (subst (Rounded a m s s₄) z (all_told plain), lows_wait plain q)
 
-        -- some low end rose; perhaps none that is negated
-        pub rounded_rose : {moved : Bool} → changed ≡ true → Searched a s₄ (LinesHave (page_of a).lines) moved → Rounded a m s s₄ moved
-        rounded_rose z q = rounded plain (λ y. fresh_ended plain w.steady.negations none (q.all y)) (λ y. z)
+          -- some low end rose; perhaps none that is negated
+          pub rounded_rose : {moved : Bool} → changed ≡ true → Searched a s₄ (LinesHave (page_of a).lines) moved → Rounded a m s s₄ moved × LowsWait a m indexed s₄ lows
+          rounded_rose z h = (rounded plain (λ y. fresh_ended plain w.steady.negations none (h.all y)) (λ y. z), lows_wait plain q)
 
 -- the loop over the rounds
 module _ (a : List ℕ) (m : List Bool) (s₀ : List ℕ) where

@@ -1,5 +1,6 @@
 // Rounds of two halves: the least high ends over the floor held, then the least floor over the high ends held. The floor is the low ends, and the
-// high ends of the conditions that are unknown by default.
+// high ends of the conditions that are unknown by default. `source`, `marks` and `scratch` go from call to call together, and `marks` is a slice, as
+// in `settle`.
 #![tactic(auto)]
 
 ghost use Rattle.std.specs.Prelude.{◌≡◌, false, ◌⊎◌, [], ◌∷◌, ◌≤◌, ◌<◌, ◌+◌, ◌*◌, length, get_or, drop};
@@ -112,15 +113,10 @@ fn line_stale(page: &Page, at: usize, scratch: &[u16]) -> bool
     ensures { Searched page.now scratch.now (LinesHave (line_at (drop at page.now) ∷ [])) result }
 {
     match page.entry(at).kind {
-        1..=5 => {
-            let codes = page.literals(at);
-            for &code in codes {
-                if literal_stale(page, scratch, code) {
-                    return true;
-                }
-            }
-            false
-        }
+        1..=5 => page
+            .literals(at)
+            .iter()
+            .any(|&code| literal_stale(page, scratch, code)),
         _ => false,
     }
 }
@@ -130,12 +126,7 @@ pub fn negation_stale(page: &Page, scratch: &[u16]) -> bool
     requires { Comparable page.now scratch.now }
     ensures { Searched page.now scratch.now (LinesHave (page_of page.now).lines) result }
 {
-    for at in page.lines() {
-        if line_stale(page, at, scratch) {
-            return true;
-        }
-    }
-    false
+    page.lines().any(|at| line_stale(page, at, scratch))
 }
 
 // If d is reached and unknown by default and its high end is above the next one, it falls to that, and whoever negates d waits; whether it fell.

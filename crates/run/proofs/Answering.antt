@@ -4,9 +4,8 @@ use mathlib.Core.Logic.{◌≢◌}
 use mathlib.Core.Bool.{Bool, true, false, not, cond, true≢false}
 use mathlib.Core.List.{List}
 use mathlib.Core.Option.{none, some}
-use Prim.Native.Nat.{ℕ, ◌*◌, ◌≤◌, ◌<◌}
+use Prim.Native.Nat.{ℕ, ◌≤◌, ◌<◌}
 use native.Mathlib.Omega.{arith}
-use lib.ListN.{length}
 use Rattle.fixpoint.specs.Interval.{Interval, Within, Assign}
 use Rattle.semantics.specs.Area.{sound, page_of, top_of, conditions_of}
 use Rattle.semantics.specs.Call.{Call, evaluate, value, line_held, Answer, refused, changed, unchanged, valued, held_by}
@@ -24,13 +23,12 @@ use Rattle.worklist.specs.Cells.{LowestAt, Lowest}
 use Rattle.worklist.specs.Evaluation.{Evaluated}
 use Rattle.worklist.proofs.Evaluation.{graded_of}
 use Rattle.value.specs.Table.{EndTable}
-use Rattle.ends.specs.Mirror.{Mirrored}
-use Rattle.ends.proofs.Mirrors.{high_table, both_grades}
+use Rattle.ends.proofs.Mirrors.{high_table}
 use Rattle.ends.proofs.Stores.{table_agrees}
 use Rattle.body.specs.Body.{Body}
+use Rattle.step.specs.Beside.{Beside}
 use Rattle.body.specs.FirstLine.{FirstLine}
 use Rattle.page.proofs.Head.{conditions_is}
-use Rattle.refusal.specs.declared.Refusal.{Refusal}
 use Rattle.refusal.specs.declared.Refusal.TheVariants.{PageNotSound, RunNotSound}
 use Rattle.semantics.proofs.Workspaces.{drive_kept_10, drive_kept_14}
 use Rattle.run.specs.Answers.{Answered, status_if}
@@ -94,7 +92,7 @@ pub refuses_14 : (a r : List ℕ) → sound a ≡ true → run_sound (page_of a)
 refuses_14 a r ok e = record { answers = refused_14 a r ok e; workspace = λ w. drive_kept_14 a r w ok e }
 
 -- the line that holds the low end of T of the intervals held
-module _ (a r values : List ℕ) (ok : solvable a ≡ true) (rs : run_sound (page_of a) r ≡ true) (long : 2 * conditions_of a ≤ length values) (t : EndTable lower (top_of a) (conditions_of a) (interval_at r) values) where
+module _ {a r values : List ℕ} (ok : solvable a ≡ true) (rs : run_sound (page_of a) r ≡ true) (s : Beside a r values) where
   abbrev I : Assign
   I = interval_of (worklist_of (page_of a) r).intervals
 
@@ -105,16 +103,13 @@ module _ (a r values : List ℕ) (ok : solvable a ≡ true) (rs : run_sound (pag
   grades d l = rw (same_held d l) ((graded_of a r ok rs).within d l)
 
   table_held : EndTable lower (top_of a) (conditions_of a) I values
-  table_held = table_agrees lower (top_of a) (conditions_of a) (interval_at r) I values same_held t
-
-  pub held_grades : Mirrored (top_of a) (conditions_of a) values
-  held_grades = both_grades (top_of a) (conditions_of a) I values long grades table_held
+  table_held = table_agrees lower (top_of a) (conditions_of a) (interval_at r) I values same_held s.table
 
   pub line_of_held : {c low high line : ℕ} → Body a values c low high → FirstLine a values c low line → line ≡ holder (page_of a) (worklist_of (page_of a) r) c
   unfolding line_holding page_of
   line_of_held {c} b f =
       f.is I table_held
-      ∙ ap (λ (i : Interval). first_with (top_of a) I c i.low 2 (page_of a).lines) (b.is I table_held (high_table (top_of a) (conditions_of a) I values long grades table_held))
+      ∙ ap (λ (i : Interval). first_with (top_of a) I c i.low 2 (page_of a).lines) (b.is I table_held (high_table (top_of a) (conditions_of a) I values s.long grades table_held))
 
 -- the lowest waiting condition
 module _ (a r : List ℕ) where

@@ -4,7 +4,7 @@ use mathlib.Core.Bool.{Bool, true, false}
 use mathlib.Core.List.{List, ◌++◌}
 use Prim.Native.Nat.{ℕ, suc, ◌+◌, ◌*◌, ◌-◌, ◌≤◌, ◌<◌}
 use native.Mathlib.Omega.{arith}
-use lib.ListN.{length, get_or, drop}
+use lib.ListN.{get_or, drop}
 use Rattle.semantics.specs.Area.{sound, page_of, top_of, conditions_of}
 use Rattle.semantics.specs.Call.{drove, Answer, outcome}
 use Rattle.semantics.specs.Operation.{Left, drive_of}
@@ -82,9 +82,7 @@ module _ (a run₀ : List ℕ) (allowance : ℕ) where
   -- After so many evaluations: the whole drive is these and the one from here on.
   pub record Driving (run : List ℕ) (taken : ℕ) (before : Option Before) : Type 0 where
     pub page_solvable : solvable a ≡ true
-    pub start_sound : run_sound (page_of a) run₀ ≡ true
     pub run_sound : run_sound (page_of a) run ≡ true
-    pub same_length : length run ≡ length run₀
     pub reached : reached_of (page_of a) run ≡ reached_of (page_of a) run₀
     pub beyond : drop (3 * (page_of a).conditions) run ≡ drop (3 * (page_of a).conditions) run₀
     pub within : taken ≤ allowance
@@ -103,9 +101,7 @@ module _ (a run₀ : List ℕ) (allowance : ℕ) where
       let z : allowance - 0 ≡ allowance = omega arith in
       record {
         page_solvable = ok;
-        start_sound = rs;
         run_sound = rs;
-        same_length = refl;
         reached = refl;
         beyond = refl;
         within = omega arith;
@@ -169,14 +165,12 @@ module _ (a run₀ : List ℕ) (allowance : ℕ) where
 
     module _ {c : ℕ} (low : LowestAt (conditions_of a) run c) where
       -- one evaluation of the lowest waiting condition
-      pub driving_next : taken < allowance → {run' : List ℕ} {t : Bool} → Evaluated (page_of a) c run run' t → length run' ≡ length run
+      pub driving_next : taken < allowance → {run' : List ℕ} {t : Bool} → Evaluated (page_of a) c run run' t
           → {b : Before} → (b.condition ≡ c) × (b.ends.low ≡ get_or run (3 * c) 0) × (b.ends.high ≡ get_or run (3 * c + 1) 0) → Driving run' (taken + 1) (Some b)
-      driving_next k {run'} v len {b} q =
+      driving_next k {run'} v {b} q =
           record {
             page_solvable = s.page_solvable;
-            start_sound = s.start_sound;
             run_sound = v.run_sound;
-            same_length = len ∙ s.same_length;
             reached = ap (reached_of page) v.area ∙ reached_back page (reached_of page run) next fits tail ∙ s.reached;
             beyond = ap (drop (3 * page.conditions)) v.area ∙ rest_back page (reached_of page run) next fits tail ∙ s.beyond;
             within = omega arith;

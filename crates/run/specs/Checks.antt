@@ -41,7 +41,7 @@ pub record Readable (a r : List ℕ) (c : ℕ) : Type 0 where
   pub inside : c < conditions_of a
   pub reached : 0 < mark_at r c
 
--- 15 and 17, which refuse value and line held alike
-abbrev pub Reading : List ℕ → List ℕ → ℕ → Result ℕ Refusal → Type 0
-Reading a r n (Ok c) = (c ≡ n) × Readable a r n
+-- 10, 14, 15 and 17, which refuse value and line held alike
+abbrev pub Reading : List ℕ → List ℕ → ℕ → Result (List ℕ × ℕ) Refusal → Type 0
+Reading a r n (Ok (page, c)) = (page ≡ a) × (c ≡ n) × Readable a r n
 Reading a r n (Err e) = (refused (number_of e) ≡ value_of a r n) × (refused (number_of e) ≡ line_held_of a r n)

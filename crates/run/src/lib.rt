@@ -11,6 +11,7 @@ ghost use Rattle.worklist.specs.Waiting.{WordsMatch};
 ghost use Rattle.run.specs.Answers.{Answered, Drives, evaluate_answer_of, value_answer_of, line_answer_of, drove_of, drive_answer_of};
 ghost use Rattle.run.specs.Checks.{PageChecked, RunChecked, AreasChecked, InPage, Reading};
 ghost use Rattle.run.specs.Steps.{drive_left, Ready, LastLine, Stopped};
+ghost use Rattle.page.specs.Solvable.{solvable};
 ghost use Rattle.step.specs.Beside.{Beside};
 
 use bits::Set;
@@ -19,7 +20,8 @@ use page::Page;
 use refusal::Refusal;
 use step::Before;
 
-// Whether an evaluation changed the interval, and which line holds its low end.
+// Whether an evaluation changed the interval, and which line holds its low end. A line is told as a number, here and below, and none as 0, as the
+// operations tell it.
 #[derive(Clone, Copy)]
 pub struct Told {
     pub changed: bool,
@@ -64,6 +66,15 @@ fn condition_in(page: &Page, condition: u32) -> Result<u16, Refusal>
     Ok(condition as u16)
 }
 
+// The table of a run area: the low end of every literal at the intervals held.
+fn fill(page: &Page, run: &[u16], values: &mut [u8; 1024])
+    requires { run_sound (page_of page.now) run.now ≡ true }
+    ensures held { Beside page.now run.now values.new }
+    ensures sound { solvable page.now ≡ true }
+{
+    ends::fill(run, page.conditions(), page.top(), values);
+}
+
 // An evaluation that nothing refuses. The set of those that wait is not asked for, so it begins empty.
 fn evaluate_waiting(page: &Page, run: &mut [u16], c: u16) -> Told
     requires { (run_sound (page_of page.now) run.old ≡ true) × (c < conditions_of page.now) × (mark_at run.old c ≡ 2) }
@@ -71,7 +82,7 @@ fn evaluate_waiting(page: &Page, run: &mut [u16], c: u16) -> Told
 {
     let mut waiting = Set::empty();
     let mut values = [0u8; 1024];
-    ends::fill(run, page.conditions(), page.top(), &mut values);
+    fill(page, run, &mut values);
     let source = Source::scanned(page);
     let before = step::held(run, c);
     let changed = step::step(&source, run, &mut waiting, &mut values, c);
@@ -101,17 +112,17 @@ pub fn evaluate(page: &[u16], run: &mut [u16], condition: u32) -> Result<Told, R
     evaluate_sound(&page, run, condition)
 }
 
-// The condition that is read: 15, then 17 it is not reached.
-fn reached(page: &Page, run: &[u16], condition: u32) -> Result<u16, Refusal>
-    requires { (sound page.now ≡ true) × (run_sound (page_of page.now) run.now ≡ true) }
+// The page, and the condition that is read: 10, 14, 15, then 17 it is not reached.
+fn reached<'a>(page: &'a [u16], run: &[u16], condition: u32) -> Result<(Page<'a>, u16), Refusal>
     ensures { Reading page.now run.now condition result }
 {
-    let c = condition_in(page, condition)?;
+    let page = check_areas(page, run)?;
+    let c = condition_in(&page, condition)?;
     let marked = 1 <= run[3 * c as usize + 2];
     if !marked {
         return Err(Refusal::NotReached);
     }
-    Ok(c)
+    Ok((page, c))
 }
 
 // The interval that a condition holds, and whether the whole run is at rest.
@@ -126,8 +137,7 @@ pub struct Held {
 pub fn value(page: &[u16], run: &[u16], condition: u32) -> Result<Held, Refusal>
     ensures { value_answer_of result ≡ value_of page.now run.now condition }
 {
-    let page = check_areas(page, run)?;
-    let c = reached(&page, run, condition)?;
+    let (page, c) = reached(page, run, condition)?;
     let at = 3 * c as usize;
     Ok(Held {
         low: run[at],
@@ -142,7 +152,7 @@ fn line_now(page: &Page, run: &[u16], c: u16) -> u16
     ensures { result ≡ holder (page_of page.now) (worklist_of (page_of page.now) run.now) c }
 {
     let mut values = [0u8; 1024];
-    ends::fill(run, page.conditions(), page.top(), &mut values);
+    fill(page, run, &mut values);
     let source = Source::scanned(page);
     let body = body::body(&source, &values, c);
     body::first_line(page, &values, c, body.low)
@@ -152,8 +162,7 @@ fn line_now(page: &Page, run: &[u16], c: u16) -> u16
 pub fn line_held(page: &[u16], run: &[u16], condition: u32) -> Result<u16, Refusal>
     ensures { line_answer_of result ≡ line_held_of page.now run.now condition }
 {
-    let page = check_areas(page, run)?;
-    let c = reached(&page, run, condition)?;
+    let (page, c) = reached(page, run, condition)?;
     Ok(line_now(&page, run, c))
 }
 
@@ -208,7 +217,7 @@ fn drive_steps(
     }
 }
 
-// The line that the last evaluation told, 0 if none was taken, as C is told it.
+// The line that the last evaluation told, 0 if none was taken, as Drive tells it.
 fn last_line(page: &Page, run: &[u16], values: &mut [u8], before: Option<Before>) -> u16
     requires { Ready page.now run.now values.old before }
     ensures { LastLine page.now run.now before result }
@@ -220,13 +229,12 @@ fn last_line(page: &Page, run: &[u16], values: &mut [u8], before: Option<Before>
 }
 
 // The table and the set are made of the run area, then the evaluations are taken.
-fn drive_filled(source: &Source, run: &mut [u16], values: &mut [u8], allowance: u32) -> Steps
-    requires { (run_sound (page_of source.now.area) run.old ≡ true) × (2 * conditions_of source.now.area ≤ length values.old) }
+fn drive_filled(source: &Source, run: &mut [u16], values: &mut [u8; 1024], allowance: u32) -> Steps
+    requires { run_sound (page_of source.now.area) run.old ≡ true }
     ensures { Stopped source.now.area run.old allowance run.new values.new result.taken result.rest result.before }
 {
-    let n = source.page.conditions();
-    ends::fill(run, n, source.page.top(), values);
-    let mut waiting = worklist::waiting_set(run, n);
+    fill(source.page, run, values);
+    let mut waiting = worklist::waiting_set(run, source.page.conditions());
     drive_steps(source, run, &mut waiting, values, allowance)
 }
 
@@ -235,7 +243,6 @@ fn drive_over(source: &Source, run: &mut [u16], allowance: u32) -> Drove
     requires { run_sound (page_of source.now.area) run.old ≡ true }
     ensures { Answered (drive_left source.now.area run.old allowance) (drove_of result) run.new }
 {
-    source.recall();
     let mut values = [0u8; 1024];
     let steps = drive_filled(source, run, &mut values, allowance);
     let taken = steps.taken;
@@ -251,12 +258,11 @@ pub struct Counted {
     pub rest: bool,
 }
 
-// A drive that nothing refuses and that tells no line.
+// A drive that nothing refuses and that tells no line, for a turn. It stands beside `drive_over`, which scans the page once more to find the line.
 pub fn drive_counted(page: &Page, run: &mut [u16], allowance: u32) -> Counted
     requires { (sound page.now ≡ true) × (run_sound (page_of page.now) run.old ≡ true) }
     ensures { Drives (drive_of page.now run.old allowance) result.taken result.rest run.new }
 {
-    page.recall();
     let mut values = [0u8; 1024];
     let source = Source::scanned(page);
     let steps = drive_filled(&source, run, &mut values, allowance);
@@ -284,7 +290,8 @@ pub fn drive(page: &[u16], run: &mut [u16], allowance: u32) -> Result<Drove, Ref
     Ok(drive_over(&Source::scanned(&page), run, allowance))
 }
 
-// Drive, with an index in a workspace that the caller lends. A workspace that is too short is not touched, and the page is scanned.
+// Drive, with an index in a workspace that the caller lends. A workspace that is too short is not touched, and the page is scanned. There is no heap,
+// so the index takes the front of what is lent.
 pub fn drive_indexed(
     page: &[u16],
     run: &mut [u16],

@@ -1,72 +1,64 @@
--- The pairs of a list of numbers, by place, and the first bad one among them. Assumes nothing.
+-- The pairs of a list of numbers, as its parts of two numbers give them, and the first bad one among them. Assumes nothing.
 use mathlib.Core.Bool.{true, false}
-use mathlib.Core.Path.{◌≡◌, refl}
-use mathlib.Core.List.{List, [], ◌∷◌, map}
-use mathlib.Core.Option.{none, some}
-use Prim.Native.Nat.{ℕ, zero, suc, ◌+◌, ◌-◌, ◌*◌, ◌/◌, ◌≤◌, ◌<◌}
+use mathlib.Core.Path.{◌≡◌, refl, ◌∙◌, ap, subst}
+use mathlib.Core.List.{List, [], ◌∷◌, ◌++◌, map}
+use Prim.Native.Nat.{ℕ, zero, suc, ◌+◌, ◌≤◌, ◌<◌}
 use native.Mathlib.Omega.{arith}
-use native.Mathlib.Numerals.{add-one}
-use lib.ListN.{length, get_or, drop, length-drop}
-use lib.Seq.{drop-cons}
+use lib.ListN.{length, get_or, drop}
+use Rattle.std.specs.Prelude.{Some, None, MatchOption}
+use Rattle.std.specs.Prelude as code
+use Rattle.std.specs.Option.{option_map}
+use Rattle.std.specs.List.{AllWithin, HoldsAt}
+use Rattle.std.specs.Slice.Iter.{chunks_exact_rest, chunks_exact_size, chunks_exact_steps}
+use Rattle.std.proofs.lemmas.Iterator.{YieldsList}
+use Rattle.std.proofs.lemmas.Iterator.Splits.{YieldsList-from_shown_while}
 use Rattle.fixpoint.specs.Interval.{Interval}
 use Rattle.semantics.specs.ReadPage.{leftmost}
 use Rattle.semantics.specs.Season.{pairs_in, bad_pair, pair_causes}
-use Rattle.semantics.proofs.Season.{GoodPairs, good_ends}
+use Rattle.season.specs.Answer.{fault_at}
 
--- the pair at place i
-abbrev pub pair_at : List ℕ → ℕ → Interval
-pair_at s i = record { low = get_or s (2 * i) 0; high = get_or s (2 * i + 1) 0 }
+-- the pair of a part
+abbrev pub pair_of : List ℕ → Interval
+pair_of part = record { low = get_or part 0 0; high = get_or part 1 0 }
 
--- the pairs from place i on
-abbrev pub pairs_from : List ℕ → ℕ → List Interval
-pairs_from s i = pairs_in (drop (2 * i) s)
-
-two : (s : List ℕ) (k : ℕ) → suc k < length s → pairs_in (drop k s) ≡ record { low = get_or s k 0; high = get_or s (suc k) 0 } ∷ pairs_in (drop (suc (suc k)) s)
+-- a part at the front of a list
+pub pairs_on : (s part rest : List ℕ) → s ≡ part ++ rest → length part ≡ 2 → pairs_in s ≡ pair_of part ∷ pairs_in rest
 unfolding pairs_in
-two s k h = rw (drop-cons s k 0 (omega arith), drop-cons s (suc k) 0 h)
+pairs_on s (l ∷ h ∷ []) rest e f = ap pairs_in e
+pairs_on s [] rest e f = absurd (omega arith)
+pairs_on s (l ∷ []) rest e f = absurd (omega arith)
+pairs_on s (l ∷ h ∷ x ∷ xs) rest e f = absurd (omega arith)
 
-pub pairs_next : (s : List ℕ) (i : ℕ) → i < length s / 2 → pairs_from s i ≡ pair_at s i ∷ pairs_from s (i + 1)
-pairs_next s i h =
-    let e : 2 * (i + 1) ≡ suc (suc (2 * i)) = omega arith in
-    let f : 2 * i + 1 ≡ suc (2 * i) = omega arith in
-    rw (e, f) (two s (2 * i) (omega arith))
-
-short : (t : List ℕ) → length t < 2 → pairs_in t ≡ []
+pub pairs_front : (s : List ℕ) → 2 ≤ length s → pairs_in s ≡ pair_of s ∷ pairs_in (drop 2 s)
 unfolding pairs_in
-short [] h = refl
-short (x ∷ []) h = refl
-short (x ∷ y ∷ t) h = absurd (omega arith)
+pairs_front [] h = absurd (omega arith)
+pairs_front (x ∷ []) h = absurd (omega arith)
+pairs_front (x ∷ y ∷ s) h = refl
 
-pub pairs_end : (s : List ℕ) (i : ℕ) → length s / 2 ≤ i → pairs_from s i ≡ []
-pairs_end s i h = short (drop (2 * i) s) (rw (length-drop (2 * i) s) (omega arith))
+-- no part is left
+pub pairs_end : (s : List ℕ) → length s < 2 → pairs_in s ≡ []
+unfolding pairs_in
+pairs_end [] h = refl
+pairs_end (x ∷ []) h = refl
+pairs_end (x ∷ y ∷ s) h = absurd (omega arith)
 
--- a good list has good pairs from every place on
-pub good_from : (s : List ℕ) (i : ℕ) → i ≤ length s / 2 → GoodPairs (pairs_in s) → GoodPairs (pairs_from s i)
-good_from s zero h g = g
-good_from s (suc i) h g = ap_good (pairs_next s i (omega arith)) (good_from s i (omega arith) g)
-  where
-    ap_good : pairs_from s i ≡ pair_at s i ∷ pairs_from s (i + 1) → GoodPairs (pairs_from s i) → GoodPairs (pairs_from s (suc i))
-    ap_good e g = rw (add-one i) at (rw e at g).1
+pub gives_pairs : {parts : _} (s : List ℕ) → chunks_exact_size parts ≡ 2 → chunks_exact_rest parts ≡ s → YieldsList chunks_exact_steps (λ x. pair_of x.now) parts (pairs_in s)
+gives_pairs {parts} s f e =
+    subst (λ (q : List ℕ). YieldsList chunks_exact_steps (λ x. pair_of x.now) parts (pairs_in q)) e
+    (YieldsList-from_shown_while chunks_exact_steps (λ x. pair_of x.now) (λ parts. pairs_in (chunks_exact_rest parts)) (λ parts. chunks_exact_size parts ≡ 2)
+    (λ s t p h. ap length (pairs_end (chunks_exact_rest s) (omega (arith, p, h.1.0))))
+    (λ s x t p h. (h.0 ∙ p, pairs_on _ _ _ h.1.0 (h.1.1 ∙ p)))
+    parts f)
 
-pub good_at : (s : List ℕ) (i : ℕ) → i < length s / 2 → GoodPairs (pairs_in s) → (get_or s (2 * i) 0 ≤ get_or s (2 * i + 1) 0) × (get_or s (2 * i + 1) 0 ≤ 200)
-good_at s i h g = good_ends (pair_at s i) (rw (pairs_next s i h) at (good_from s i (omega arith) g)).0
-
-pub low_before : (s : List ℕ) (i : ℕ) → 1 ≤ i → i < length s / 2 → GoodPairs (pairs_in s) → get_or s (2 * i - 2) 0 ≤ 200
-low_before s i l h g =
-    let e : 2 * (i - 1) ≡ 2 * i - 2 = omega arith in
-    let w = good_at s (i - 1) (omega arith) g in
-    let most : get_or s (2 * (i - 1)) 0 ≤ 200 = omega (arith, w.0, w.1) in
-    rw e at most
-
--- the first bad pair from place i on, which is place k from 1
-pub bad_here : (s : List ℕ) (k i : ℕ) → i < length s / 2 → bad_pair (pair_at s i) ≡ true → leftmost k (map pair_causes (pairs_from s i)) ≡ some (record { number = 81; place = k })
+-- the first bad pair of some, which are those from place k on
+pub first_place : (k : ℕ) (ps : List Interval) (r : code.Option ℕ)
+    → MatchOption r (AllWithin (λ p. bad_pair p ≡ false) ps 0 (length ps)) (λ i. (i < length ps) × HoldsAt (λ p. bad_pair p ≡ true) ps i × AllWithin (λ p. bad_pair p ≡ false) ps 0 i)
+    → leftmost k (map pair_causes ps) ≡ fault_at (option_map (λ i. i + k) r)
 unfolding leftmost
-bad_here s k i h e = rw (pairs_next s i h, e)
-
-pub bad_later : (s : List ℕ) (k i : ℕ) → i < length s / 2 → bad_pair (pair_at s i) ≡ false → leftmost k (map pair_causes (pairs_from s i)) ≡ leftmost (k + 1) (map pair_causes (pairs_from s (i + 1)))
-unfolding leftmost
-bad_later s k i h e = rw (pairs_next s i h, e, add-one k)
-
-pub bad_none : (s : List ℕ) (k i : ℕ) → length s / 2 ≤ i → leftmost k (map pair_causes (pairs_from s i)) ≡ none
-unfolding leftmost
-bad_none s k i h = rw (pairs_end s i h)
+first_place k [] None a = refl
+first_place k [] (Some i) a = absurd (omega (arith, a.0))
+first_place k (p ∷ ps) None a = rw (a 0 p (omega arith) (omega arith)) (first_place (suc k) ps None (λ j d l m. a (suc j) d (omega arith) (omega arith)))
+first_place k (p ∷ ps) (Some zero) a = let e : 0 + k ≡ k = omega arith in rw (a.1 p, e) refl
+first_place k (p ∷ ps) (Some (suc i)) a =
+    let e : i + suc k ≡ suc i + k = omega arith in
+    rw (a.2 0 p (omega arith) (omega arith)) (rw e at (first_place (suc k) ps (Some i) (omega (arith, a.0), λ d. a.1 d, λ j d l m. a.2 (suc j) d (omega arith) (omega arith))))

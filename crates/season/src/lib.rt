@@ -8,6 +8,8 @@ ghost use Rattle.semantics.specs.Season.{pairs_in, bad_pair, pair_causes, larger
 ghost use Rattle.season.specs.Answer.{number_of, place_of, answer_of, wrong_length, fault_at};
 ghost use Rattle.season.specs.Sums.{Small, begun, grown, sums_of};
 
+use std::cmp::max_by_key;
+
 // Sums and extremes of some answers: the figures but for the count and the mean.
 #[derive(Clone, Copy)]
 pub struct Sums {
@@ -68,17 +70,15 @@ fn is_bad(low: u16, high: u16) -> bool
     high < low || 200 < high
 }
 
-// The place of the first bad pair, counted from 1. By index, which tells the place.
+// The place of the first bad pair, counted from 1.
 fn first_bad(pairs: &[u16]) -> Option<u32>
     requires { length pairs.now ≤ 8192 }
     ensures { leftmost 1 (map pair_causes (pairs_in pairs.now)) ≡ fault_at result }
 {
-    for i in 0..pairs.len() / 2 {
-        if is_bad(pairs[2 * i], pairs[2 * i + 1]) {
-            return Some((i + 1) as u32);
-        }
-    }
-    None
+    pairs
+        .chunks_exact(2)
+        .position(|pair| is_bad(pair[0], pair[1]))
+        .map(|i| (i + 1) as u32)
 }
 
 // The change from one low end to the next; a fall is negative.
@@ -88,15 +88,11 @@ fn change_of(before: u16, after: u16) -> i32
     (after as i32) - (before as i32)
 }
 
-// The greater in size of two changes, the earlier one if they are of one size, where `max_by_key` takes the later.
+// The greater in size of two changes, the earlier one if they are of one size: of two equal keys `max_by_key` takes the second.
 fn larger_of(earlier: i32, later: i32) -> i32
     ensures { result ≡ larger earlier later }
 {
-    if earlier.unsigned_abs() < later.unsigned_abs() {
-        later
-    } else {
-        earlier
-    }
+    max_by_key(later, earlier, |change| change.unsigned_abs())
 }
 
 // The sums with one answer more, before which the low end was `before`.
@@ -128,15 +124,17 @@ fn first(low: u16, high: u16) -> Sums
     }
 }
 
-// The sums of all answers, in one pass. By index, since an answer is held against the one before it.
+// The sums of all answers, in one pass: each is held against the low end before it.
+#[tactic(auto, using(crate::proofs::Growing::some_answer))]
 fn sums_of(pairs: &[u16]) -> Sums
     requires { season_refusal pairs.now ≡ none }
     ensures { (result ≡ sums_of (pairs_in pairs.now)) × Small 4096 result }
 {
-    let n = pairs.len() / 2;
-    let mut sums = first(pairs[0], pairs[1]);
-    for i in 1..n {
-        sums = add(sums, pairs[2 * i - 2], pairs[2 * i], pairs[2 * i + 1]);
+    let mut before = pairs[0];
+    let mut sums = first(before, pairs[1]);
+    for pair in pairs[2..].chunks_exact(2) {
+        sums = add(sums, before, pair[0], pair[1]);
+        before = pair[0];
     }
     sums
 }

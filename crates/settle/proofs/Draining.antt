@@ -17,13 +17,15 @@ use Rattle.page.specs.Places.{place_of, LineIn}
 use Rattle.page.proofs.Head.{head_of}
 use Rattle.page.proofs.Scanning.{lines_left, lines_first}
 use Rattle.page.proofs.LineNumbers.{line_in, lines_from, line_of}
+use Rattle.bits.specs.Sets.{Nobody, Member}
 use Rattle.bits.specs.Words.{has, Removed}
 use Rattle.index.specs.Readers.{among, lines_read}
 use Rattle.index.specs.Lookup.{LinesAre}
 use Rattle.value.specs.Table.{end_of}
 use Rattle.settle.specs.Scratch.{held, room_at, Lookable, Looked, RestsAt, Settled}
 use Rattle.settle.specs.Waiting.{WaitSet, Woken, Waiting}
-use Rattle.settle.proofs.Members.{waiters, few_wait, else_same, rest_in, fewer}
+use Rattle.bits.proofs.Members.{waiters, else_same}
+use Rattle.settle.proofs.Members.{rest_in}
 use Rattle.settle.proofs.Raising.{E, rests_by}
 use Rattle.settle.proofs.Settling.{Settling, settling_next, settling_last}
 use Rattle.page.specs.Solvable.{solvable}
@@ -88,26 +90,26 @@ module _ (a places : List ℕ) {c : ℕ} (g : LinesAre a c places) where
 abbrev pub left : End → (a s words : List ℕ) → ℕ
 left e a s words = room_at e a s * 513 + waiters words
 
-module _ (e : End) (a : List ℕ) (m : List Bool) (s₀ : List ℕ) where
-  pub record Draining (s words : List ℕ) (changed : Bool) : Type 0 where
-    pub sound : solvable a ≡ true
-    pub settling : Settling e a m s₀ s changed
-    pub waiting : Waiting e a m s words
+pub record Draining (e : End) (a : List ℕ) (m : List Bool) (s₀ s words : List ℕ) (changed : Bool) : Type 0 where
+  pub sound : solvable a ≡ true
+  pub settling : Settling e a m s₀ s changed
+  pub waiting : Waiting e a m s words
 
-  pub draining_last : {s words : List ℕ} {changed : Bool} → Draining s words changed → ((c : ℕ) → c < 512 → has words c ≡ false) → Settled e a m s₀ s changed
-  draining_last v q =
+module _ {e : End} {a : List ℕ} {m : List Bool} {s₀ s words : List ℕ} {changed : Bool} (v : Draining e a m s₀ s words changed) where
+  pub draining_last : Nobody words → Settled e a m s₀ s changed
+  draining_last q =
       settling_last e a m v.sound v.settling (λ c l r. v.waiting.rests c l r (q c (omega (arith, (head_of a v.sound).few))))
 
   -- c is taken out and its group looked at
-  module _ {s words : List ℕ} {changed : Bool} (v : Draining s words changed) (c : ℕ) (small : c < 512) (waits : has words c ≡ true) (words₁ : List ℕ) (x : Removed c words words₁) where
-    pub c_real : c < conditions_of a
-    c_real = v.waiting.set.inside c small waits
+  module _ {c : ℕ} (waits : Member words c) (words₁ : List ℕ) (x : Removed c words words₁) where
+    c_real : c < conditions_of a
+    c_real = v.waiting.set.inside c waits.within waits.found
 
     -- whoever is out now was out before, or is c
     out_before : (d : ℕ) → d < 512 → d ≢ c → has words₁ d ≡ false → has words d ≡ false
     out_before d l z q = sym (else_same words words₁ c x d l z) ∙ q
 
-    pub set₁ : WaitSet (conditions_of a) words₁
+    set₁ : WaitSet (conditions_of a) words₁
     set₁ = rest_in words words₁ c x v.waiting.set
 
     module _ {places : List ℕ} (g : LinesAre a c places) {s' : List ℕ} {t : Bool} (r : Looked e a m (λ i. get_or places i 0) (length places) s s' t) where
@@ -118,25 +120,21 @@ module _ (e : End) (a : List ℕ) (m : List Bool) (s₀ : List ℕ) where
       few = (head_of a v.sound).few
 
       -- nothing rose
-      pub draining_still : t ≡ false → (s' ≡ s) × Draining s words₁ changed × (left e a s words₁ < left e a s words)
+      pub draining_still : t ≡ false → Draining e a m s₀ s' words₁ changed
       draining_still z =
-          let q : s' ≡ s = r.still z in (
-            q,
-            record {
-              sound = v.sound;
-              settling = v.settling;
-              waiting = record {
-                set = set₁;
-                rests = λ d l i o. elim (ℕ_discrete d c) [
-                  | yes k ↦ subst (λ (b : ℕ). RestsAt e a s b) (sym k)
-                      (subst (λ (y : List ℕ). RestsAt e a y c) q (group_rests a places g r v.sound c_real (λ f. ap (λ (y : List ℕ). end_of e (held n y c)) q)
-                      (sym (ap (member m) k) ∙ i)))
-                  | no k ↦ v.waiting.rests d l i (out_before d (omega (arith, few)) k o)
-                ];
-              };
-            },
-            omega (arith, fewer words words₁ c x small waits),
-          )
+          let q : s' ≡ s = r.still z in
+          record {
+            sound = v.sound;
+            settling = subst (λ (y : List ℕ). Settling e a m s₀ y changed) (sym q) v.settling;
+            waiting = record {
+              set = set₁;
+              rests = λ d l i o. elim (ℕ_discrete d c) [
+                | yes k ↦ subst (λ (b : ℕ). RestsAt e a s' b) (sym k)
+                    (group_rests a places g r v.sound c_real (λ f. ap (λ (y : List ℕ). end_of e (held n y c)) q) (sym (ap (member m) k) ∙ i))
+                | no k ↦ subst (λ (y : List ℕ). RestsAt e a y d) (sym q) (v.waiting.rests d l i (out_before d (omega (arith, few)) k o))
+              ];
+            };
+          }
 
       -- c rose, and whoever names it plainly waits
       module _ {indexed : Bool} (there : indexed ≡ true) {words₂ : List ℕ} (w : Woken a indexed (2 * c) words₁ words₂) where
@@ -162,19 +160,17 @@ module _ (e : End) (a : List ℕ) (m : List Bool) (s₀ : List ℕ) where
               r.steady.rises d l,
             )
 
-        pub draining_rose : t ≡ true → Draining s' words₂ true × (left e a s' words₂ < left e a s words)
-        draining_rose z = (
-          record {
-            sound = v.sound;
-            settling = settling_next e a m v.settling (subst (Looked e a m (λ i. get_or places i 0) (length places) s s') z r);
-            waiting = record {
-              set = w.set;
-              rests = λ d l i o. elim (ℕ_discrete d c) [
-                | yes k ↦ subst (λ (b : ℕ). RestsAt e a s' b) (sym k)
-                    (group_rests a places g r v.sound c_real (λ f. absurd (reads_not c (sym (ap (has words₂) k) ∙ o) f)) (sym (ap (member m) k) ∙ i))
-                | no k ↦ other_rests d l k i o
-              ];
-            };
-          },
-          omega (arith, r.moves z, few_wait words₂),
-        )
+        pub draining_rose : t ≡ true → Draining e a m s₀ s' words₂ true
+        draining_rose z =
+            record {
+              sound = v.sound;
+              settling = settling_next e a m v.settling (subst (Looked e a m (λ i. get_or places i 0) (length places) s s') z r);
+              waiting = record {
+                set = w.set;
+                rests = λ d l i o. elim (ℕ_discrete d c) [
+                  | yes k ↦ subst (λ (b : ℕ). RestsAt e a s' b) (sym k)
+                      (group_rests a places g r v.sound c_real (λ f. absurd (reads_not c (sym (ap (has words₂) k) ∙ o) f)) (sym (ap (member m) k) ∙ i))
+                  | no k ↦ other_rests d l k i o
+                ];
+              };
+            }

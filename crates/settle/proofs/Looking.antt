@@ -1,6 +1,6 @@
 -- Lines in a row, one after the other: what is left when they were looked at. Assumes nothing.
 use mathlib.Core.Path.{◌≡◌, refl, sym, ◌∙◌, ap, subst}
-use mathlib.Core.Bool.{Bool, true, false, ◌||◌, false≢true}
+use mathlib.Core.Bool.{Bool, true, ◌||◌}
 use mathlib.Core.List.{List}
 use Prim.Native.Nat.{ℕ, ◌+◌, ◌≤◌, ◌<◌}
 use native.Mathlib.Numerals.{add-one}
@@ -8,29 +8,18 @@ use native.Mathlib.Decide.{ℕ_discrete}
 use native.Mathlib.Omega.{arith}
 use lib.ListN.{drop}
 use Rattle.fixpoint.proofs.Cond.{by_bool}
-use Rattle.semantics.specs.Area.{first_line, line_at, top_of, conditions_of, count_of}
+use Rattle.semantics.specs.Area.{line_at, top_of, conditions_of, count_of}
 use Rattle.semantics.specs.Grade.{End}
 use Rattle.fixpoint.proofs.Evaluation.{or_false}
 use Rattle.page.specs.Lines.{Next}
 use Rattle.page.specs.Places.{place_of, LineIn}
 use Rattle.page.specs.Solvable.{solvable}
 use Rattle.value.specs.Table.{end_of}
-use Rattle.settle.specs.Scratch.{held, Half, Covered, Raised, Looked}
+use Rattle.settle.specs.Scratch.{held, Covered, Raised, Looked}
 use Rattle.settle.proofs.EndReads.{line_level}
-use Rattle.settle.proofs.Raising.{line_ranged, room_less, steady_same, steady_on}
+use Rattle.settle.proofs.Raising.{line_ranged, room_less, steady_on}
 
 module _ (e : End) (a : List ℕ) (m : List Bool) (place : ℕ → ℕ) where
-  pub looked_first : {s : List ℕ} → Half e a m s → Looked e a m place 0 s s false
-  looked_first h =
-      record {
-        half = h;
-        steady = steady_same e _ m _;
-        still = λ z. refl;
-        moves = λ z. absurd (false≢true z);
-        covered = λ i l. absurd (omega arith);
-        only = λ c l g. refl;
-      }
-
   module _ (ok : solvable a ≡ true) {i : ℕ} (lines : (j : ℕ) → j < i → LineIn a (place j)) {s₀ s s' : List ℕ} {rose t : Bool}
       (v : Looked e a m place i s₀ s rose) (r : Raised e a m (place i) s s' t) where
     abbrev n : ℕ
@@ -71,11 +60,6 @@ pub record Sweeping (e : End) (a : List ℕ) (m : List Bool) (s₀ s : List ℕ)
   pub in_count : passed ≤ count_of a
   pub place : at ≡ place_of a passed
   pub looked : Looked e a m (place_of a) passed s₀ s rose
-
-pub sweeping_first : {e : End} {a : List ℕ} {m : List Bool} {at k : ℕ} {s : List ℕ} → solvable a ≡ true → Half e a m s → at ≡ first_line a → k ≡ 0 → Sweeping e a m s s at k false
-unfolding place_of
-sweeping_first {e} {a} {m} {s = s} ok h f z =
-    record { sound = ok; in_count = omega (arith, z); place = rw (z, f); looked = rw z (looked_first e a m (place_of a) h) }
 
 module _ {e : End} {a : List ℕ} {m : List Bool} {s₀ s : List ℕ} {at passed : ℕ} {rose : Bool} (v : Sweeping e a m s₀ s at passed rose) where
   pub sweeping_next : {s' : List ℕ} {t : Bool} {at' passed' : ℕ} → passed < count_of a → Next a at passed at' passed' → Raised e a m at s s' t → Sweeping e a m s₀ s' at' passed' (rose || t)

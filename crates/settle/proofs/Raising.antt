@@ -22,11 +22,13 @@ use Rattle.page.specs.Places.{place_of, LineIn, LineOf}
 use Rattle.page.proofs.Scan.{entry_head}
 use Rattle.page.proofs.Scanning.{lines_left, lines_first, entry_ok}
 use Rattle.page.proofs.LineNumbers.{scanning_at, lines_from, line_of}
-use Rattle.value.specs.Table.{end_of, other, Grades}
+use Rattle.value.specs.Table.{side, end_of, other, EndTable, Grades}
 use Rattle.value.specs.LineEnds.{LineEnd}
 use Rattle.value.proofs.BodyEnds.{body_most, body_has}
 use Rattle.value.proofs.Defaults.{bodyless_low, bodyless_kept}
 use Rattle.settle.specs.Ends.{reads, EndLocal, room}
+use Rattle.settle.specs.declared.Figures.{Figures}
+use Rattle.settle.specs.Figures.{FiguresOf}
 use Rattle.settle.specs.Scratch.{base_of, table_of, held, stays_at, settled_at, room_at, Half, Steady, Covered, Raised, RestsAt}
 use Rattle.settle.proofs.EndReads.{line_level, page_ends}
 use Rattle.settle.proofs.Halves.{ends_in, end_in, settled_stays, below_T, settled_others, settled_T}
@@ -100,6 +102,33 @@ module _ {e : End} {a : List ℕ} {m : List Bool} {s : List ℕ} (ok : solvable 
       (λ f. omega (arith, T_below, settled_stays (conditions_of a) (top_of a) (T (page_of a)) (unknown_by_default (page_of a)) e (held (conditions_of a) s) c f))
       (λ f. body_most e a ok (held (conditions_of a) s) c (end_of e (held (conditions_of a) s c)) b (λ z. omega (arith, bodyless_end e a c f)))
 
+-- the line at a place
+module _ {a : List ℕ} {at : ℕ} (x : LineIn a at) where
+  -- whatever it adds, it adds to its head, as an F or R line
+  pub added_to : (I : Assign) (c : ℕ) (p : Interval) → line_body (top_of a) I c (line_at (drop at a)) ≡ p ∷ [] → LineOf a c at
+  added_to I c p d =
+      subst (LineOf a c) (sym x.place)
+      (line_of (top_of a) I c a x.number x.in_count (subst (λ (i : ℕ). line_body (top_of a) I c (line_at (drop i a)) ≡ p ∷ []) x.place d))
+
+  pub line_here : get_or a (at + 1) 0 ≤ 5 → LineOf a (get_or a at 0) at
+  line_here l = record { number = x.number; in_count = x.in_count; place = x.place; head = refl; body = l }
+
+  -- v is an end of it at an assignment: it adds one interval with that end, and T makes no less of its head
+  module _ {e : End} {values : List ℕ} {v : ℕ} (w : LineEnd e a values at v) (I : Assign) (t : EndTable e (top_of a) (conditions_of a) I values) where
+    pub adds_v : (c : ℕ) (p : Interval) → line_body (top_of a) I c (line_at (drop at a)) ≡ p ∷ [] → (c ≡ get_or a at 0) × (end_of e p ≡ v)
+    adds_v c p d =
+        let q = w.is I t in
+        let z : get_or a at 0 ≡ c = (added_to I c p d).head in
+        let y : line_body (top_of a) I (get_or a at 0) (line_at (drop at a)) ≡ p ∷ [] = rw z d in
+        let o : q.0 ≡ p = cc in
+        (sym z, ap (end_of e) (sym o) ∙ sym q.2)
+
+    pub v_under : solvable a ≡ true → v ≤ end_of e (T (page_of a) I (get_or a at 0))
+    v_under ok =
+        let q = w.is I t in
+        let d = subst (λ (i : ℕ). line_body (top_of a) I (get_or a at 0) (line_at (drop i a)) ≡ q.0 ∷ []) x.place q.1 in
+        omega (arith, q.2, body_has e a ok I (get_or a at 0) x.number x.in_count q.0 d)
+
 -- the line at a place, whose head is h
 module _ (e : End) (a : List ℕ) (m : List Bool) (s : List ℕ) (at : ℕ) (ok : solvable a ≡ true) (H : Half e a m s) (x : LineIn a at) where
   abbrev h : ℕ
@@ -107,14 +136,6 @@ module _ (e : End) (a : List ℕ) (m : List Bool) (s : List ℕ) (at : ℕ) (ok 
 
   abbrev n : ℕ
   n = conditions_of a
-
-  -- whatever it adds, it adds to its head, as an F or R line
-  moved_to : (I : Assign) (c : ℕ) (p : Interval) → line_body (top_of a) I c (line_at (drop at a)) ≡ p ∷ []
-      → line_body (top_of a) I c (line_at (drop (place_of a x.number) a)) ≡ p ∷ []
-  moved_to I c p d = subst (λ (i : ℕ). line_body (top_of a) I c (line_at (drop i a)) ≡ p ∷ []) x.place d
-
-  added_to : (I : Assign) (c : ℕ) (p : Interval) → line_body (top_of a) I c (line_at (drop at a)) ≡ p ∷ [] → LineOf a c at
-  added_to I c p d = subst (LineOf a c) (sym x.place) (line_of (top_of a) I c a x.number x.in_count (moved_to I c p d))
 
   -- nothing is done: it is no F or R line, its head is not reached, or it adds no more than its head holds
   nothing_done : Covered e a m s s at → Raised e a m at s s false
@@ -129,26 +150,17 @@ module _ (e : End) (a : List ℕ) (m : List Bool) (s : List ℕ) (at : ℕ) (ok 
       }
 
   pub raised_query : 5 < get_or a (at + 1) 0 → Raised e a m at s s false
-  raised_query q = nothing_done (λ c l r g p d. absurd (omega (arith, (added_to (held n s) c p d).body)))
+  raised_query q = nothing_done (λ c l r g p d. absurd (omega (arith, (added_to x (held n s) c p d).body)))
 
   pub raised_apart : member m h ≡ false → Raised e a m at s s false
-  raised_apart q = nothing_done (λ c l r g p d. absurd (true≢false (sym r ∙ ap (member m) (sym (added_to (held n s) c p d).head) ∙ q)))
+  raised_apart q = nothing_done (λ c l r g p d. absurd (true≢false (sym r ∙ ap (member m) (sym (added_to x (held n s) c p d).head) ∙ q)))
 
   module _ {v : ℕ} (w : LineEnd e a (table_of n e s) at v) where
-    -- the value of the line at s
-    line_adds : (p : Interval) × (line_body (top_of a) (held n s) h (line_at (drop at a)) ≡ p ∷ []) × (v ≡ end_of e p)
-    line_adds = w.is (held n s) (half_table H)
-
-    adds_v : (c : ℕ) (p : Interval) → line_body (top_of a) (held n s) c (line_at (drop at a)) ≡ p ∷ [] → (c ≡ h) × (end_of e p ≡ v)
-    adds_v c p d =
-        let q = line_adds in
-        let z : h ≡ c = (added_to (held n s) c p d).head in
-        let y : line_body (top_of a) (held n s) h (line_at (drop at a)) ≡ p ∷ [] = rw z d in
-        let o : q.0 ≡ p = cc in
-        (sym z, ap (end_of e) (sym o) ∙ sym q.2)
+    adds : (c : ℕ) (p : Interval) → line_body (top_of a) (held n s) c (line_at (drop at a)) ≡ p ∷ [] → (c ≡ h) × (end_of e p ≡ v)
+    adds = adds_v x w (held n s) (half_table H)
 
     pub raised_not : v ≤ end_of e (held n s h) → Raised e a m at s s false
-    raised_not m = nothing_done (λ c l r g p d. let y = adds_v c p d in rw y.0 (omega (arith, y.1)))
+    raised_not m = nothing_done (λ c l r g p d. let y = adds c p d in rw y.0 (omega (arith, y.1)))
 
     -- the end of the head becomes v
     module _ (real : h < n) (reached : member m h ≡ true) (over : end_of e (held n s h) < v) where
@@ -156,14 +168,7 @@ module _ (e : End) (a : List ℕ) (m : List Bool) (s : List ℕ) (at : ℕ) (ok 
       s' = set s (base_of n e + 2 * h) v
 
       v_below : v ≤ settled_at e a s h
-      v_below =
-          let q = line_adds in
-          omega (
-            arith,
-            q.2,
-            body_has e a ok (held n s) h x.number x.in_count q.0 (moved_to (held n s) h q.0 q.1),
-            T_below ok H h real reached,
-          )
+      v_below = omega (arith, v_under x w (held n s) (half_table H) ok, T_below ok H h real reached)
 
       -- so its end is none that stays
       goes : stays_at e a h ≡ true → ⊥
@@ -237,7 +242,7 @@ module _ (e : End) (a : List ℕ) (m : List Bool) (s : List ℕ) (at : ℕ) (ok 
       covered' : Covered e a m s s' at
       covered' c l r g p d =
           let q = line_level n (top_of a) e (held n s') (held n s) (line_at (drop at a)) (line_ranged a ok x) c g to_others d in
-          let y = adds_v c q.0 q.1 in
+          let y = adds c q.0 q.1 in
           rw y.0 (omega (arith, q.2, y.1, here))
 
       pub raised_up : Raised e a m at s s' true
@@ -251,45 +256,42 @@ module _ (e : End) (a : List ℕ) (m : List Bool) (s : List ℕ) (at : ℕ) (ok 
             only = λ c l z. else' c (λ q. z (sym q));
           }
 
-  -- in the code's own terms
-  pub record Facts : Type 0 where
-    pub real : get_or a at 0 < conditions_of a
-    pub long : 4 * conditions_of a ≤ length s
-    pub marked : conditions_of a ≤ length m
+-- in the code's own terms: by the figures of the page, with d as the head
+module _ {a : List ℕ} {m : List Bool} {s : List ℕ} {f : Figures} {at : ℕ} (ok : solvable a ≡ true) (r : Half (side f.end) a m s × FiguresOf a f × LineIn a at) where
+  abbrev e : End
+  e = side f.end
 
-  pub facts : Facts
-  facts = record { real = line_head a ok x; long = H.long; marked = H.marked }
+  begins : f.base ≡ base_of (conditions_of a) e
+  begins = r.1.begins ∙ ap (λ (i : ℕ). base_of i e) r.1.size
 
-  pub line_here : get_or a (at + 1) 0 ≤ 5 → LineOf a h at
-  line_here l = record { number = x.number; in_count = x.in_count; place = x.place; head = refl; body = l }
+  abbrev part : List ℕ
+  part = take (f.base + 2 * f.n - f.base) (drop f.base s)
 
-  -- k is the number of conditions
-  module _ (k : ℕ) (z : k ≡ n) where
-    -- and the table of the end begins at base
-    module _ (base : ℕ) (g : base ≡ base_of k e) where
-      q : base ≡ base_of n e
-      q = g ∙ ap (λ (i : ℕ). base_of i e) z
+  part_table : part ≡ table_of (conditions_of a) e s
+  part_table = ap (λ (i : ℕ). take (f.base + 2 * i - f.base) (drop f.base s)) r.1.size ∙ part_is (conditions_of a) s e f.base begins
 
-      pub base_small : base ≤ 2 * n
-      base_small = omega (arith, q, base_in n e)
+  pub part_grades : Grades (top_of a) (conditions_of a) part
+  part_grades = rw part_table (half_grades r.0)
 
-      abbrev part : List ℕ
-      part = take (base + 2 * k - base) (drop base s)
+  module _ {d : ℕ} (z : d ≡ get_or a at 0) where
+    pub mark_in : d < length m
+    mark_in = omega (arith, z, line_head a ok r.2, r.0.marked)
 
-      part_table : part ≡ table_of n e s
-      part_table = ap (λ (i : ℕ). take (base + 2 * i - base) (drop base s)) z ∙ part_is n s e base q
+    pub place_in : f.base + 2 * d < length s
+    place_in = omega (arith, z, line_head a ok r.2, begins, base_in (conditions_of a) e, r.0.long)
 
-      pub part_grades : Grades (top_of a) n part
-      part_grades = rw part_table (half_grades H)
+    pub apart_here : member m d ≡ false → Raised e a m at s s false
+    apart_here q = raised_apart e a m s at ok r.0 r.2 (rw (← z) q)
 
-      module _ {v : ℕ} (w : LineEnd e a part at v) where
-        on_table : LineEnd e a (table_of n e s) at v
-        on_table = rw part_table at w
+    module _ {v : ℕ} (w : LineEnd e a part at v) where
+      on_table : LineEnd e a (table_of (conditions_of a) e s) at v
+      on_table = rw part_table at w
 
-        pub kept_here : v ≤ get_or s (base + 2 * h) 0 → Raised e a m at s s false
-        kept_here l = raised_not on_table (rw (end_at n s e h, ← q) l)
+      held_is : end_of e (held (conditions_of a) s (get_or a at 0)) ≡ get_or s (f.base + 2 * d) 0
+      held_is = end_at (conditions_of a) s e (get_or a at 0) ∙ rw (begins, z) refl
 
-        pub raised_here : member m h ≡ true → get_or s (base + 2 * h) 0 < v → Raised e a m at s (set s (base + 2 * h) v) true
-        raised_here r l =
-            subst (λ (b : ℕ). Raised e a m at s (set s (b + 2 * h) v) true) (sym q)
-            (raised_up on_table (line_head a ok x) r (rw (end_at n s e h, ← q) l))
+      pub kept_here : v ≤ get_or s (f.base + 2 * d) 0 → Raised e a m at s s false
+      kept_here l = raised_not e a m s at ok r.0 r.2 on_table (omega (arith, held_is, l))
+
+      pub raised_here : member m d ≡ true → get_or s (f.base + 2 * d) 0 < v → Raised e a m at s (set s (f.base + 2 * d) v) true
+      raised_here q l = rw (begins, z) (raised_up e a m s at ok r.0 r.2 on_table (line_head a ok r.2) (rw (← z) q) (omega (arith, held_is, l)))

@@ -1,7 +1,7 @@
 -- The set of those that wait: heads that join it. Assumes nothing.
 use mathlib.Core.Path.{◌≡◌, refl, sym, ◌∙◌, subst}
 use mathlib.Core.Logic.{◌⊎◌, inl, inr, ⊎_elim}
-use mathlib.Core.Bool.{Bool, true, false, or-true, true≢false}
+use mathlib.Core.Bool.{Bool, true, or-true, true≢false}
 use mathlib.Core.List.{List}
 use Prim.Native.Nat.{ℕ, ◌+◌, ◌<◌}
 use native.Mathlib.Decide.{ℕ_discrete}
@@ -59,7 +59,3 @@ module _ (a : List ℕ) (ok : solvable a ≡ true) (code : ℕ) {heads : List �
         woken = inr (λ h r. let q = g.every h r in subst (λ (x : ℕ). has words' x ≡ true) q.2 (w.woken q.0 (rw e q.1)));
         same = λ z. absurd (true≢false (sym y ∙ z));
       }
-
--- without an index nothing is done
-pub woken_none : {a : List ℕ} {indexed : Bool} {code : ℕ} {words : List ℕ} → indexed ≡ false → WaitSet (conditions_of a) words → Woken a indexed code words words
-woken_none z s = record { set = s; kept = λ c l r. r; woken = inl z; same = λ y. refl }

@@ -1,4 +1,8 @@
 // One end of every reached condition, settled while the other ends stay.
+//
+// `source`, `marks` and `scratch` go from call to call together. The first two are only read; the scratch is lent, changes, and is read between the
+// steps. A struct of the three could keep three of the seven facts of `Half` (`long`, `marked`, `shut`), and the contracts would say the rest as now.
+// `marks` stays a slice: an array of 512 marks would ask more of whoever calls `settle`.
 #![tactic(auto)]
 
 ghost use Rattle.std.specs.Prelude.{◌≡◌, true, ◌*◌, ◌<◌, length, get_or};
@@ -60,6 +64,7 @@ impl Figures {
     }
 
     // If the line at `at` is an F or R line and its head is reached, the end of the head becomes the line's where the line's is higher; whether it rose.
+    #[tactic(auto, using(crate::proofs::Raising::mark_in, crate::proofs::Raising::place_in, crate::proofs::Raising::apart_here))]
     fn raise(self, page: &Page, at: usize, marks: &[bool], scratch: &mut [u16]) -> bool
         requires { Half (side self.end) page.now marks.now scratch.old × FiguresOf page.now self × LineIn page.now at }
         ensures raised { Raised (side self.end) page.now marks.now at scratch.old scratch.new result }

@@ -1,12 +1,14 @@
 -- Both readings of the queries of a page: what a drive from the start leaves, and what is written of it. Assumes nothing.
-use mathlib.Core.Path.{◌≡◌, refl, ◌∙◌, ap, ap₂}
+use mathlib.Core.Path.{◌≡◌, refl, ◌∙◌, ap}
 use mathlib.Core.Bool.{Bool, true}
 use mathlib.Core.List.{List, [], ◌∷◌, ◌++◌}
 use Prim.Native.Nat.{ℕ, zero, suc, ◌+◌, ◌*◌, ◌-◌, ◌≤◌, ◌<◌}
 use native.Mathlib.Omega.{arith}
-use lib.ListN.{length, get_or, set, take, drop, length-set}
+use lib.ListN.{length, get_or, set, take, drop}
 use lib.Dec.{ltb}
+use borrow.Rule.Slice.PartMut.{mid_of, put_mid}
 use lib.Seq.{length-take-le, drop-cons}
+use Rattle.std.proofs.lemmas.List.{take-append-drop}
 use borrow.Author.Tests.{ltb-true, lt-ltb}
 use Rattle.fixpoint.specs.Interval.{Assign}
 use Rattle.semantics.specs.Area.{page_of, top_of, conditions_of, all_under}
@@ -101,7 +103,6 @@ module _ (a : List ℕ) (ok : solvable a ≡ true) (qs : List ℕ) (under : all_
 
 -- a run for each query: the first i are answered
 pub record Apart (page : Page) (qs answers₀ answers : List ℕ) (i : ℕ) : Type 0 where
-  pub same_length : length answers ≡ length answers₀
   pub answered : (P : Assign) → IsPlain page P → Answering P qs answers₀ answers i
 
 -- the list of the query at a place alone
@@ -114,16 +115,27 @@ pub one_under : (n : ℕ) (qs : List ℕ) → all_under n qs ≡ true → (i : �
 unfolding all_under
 one_under n qs u i l = rw (one_query qs i l, lt-ltb (get_or qs i 0) n (under_at n qs u i l))
 
-pub apart_next : (page : Page) (qs answers₀ : List ℕ) {answers : List ℕ} {i : ℕ} → Apart page qs answers₀ answers i → i < length qs → (two two' : List ℕ)
-    → PlainSolved page (take (i + 1 - i) (drop i qs)) two two' → Apart page qs answers₀ (set (set answers (2 * i) (get_or two' 0 0)) (2 * i + 1) (get_or two' 1 0)) (i + 1)
-apart_next page qs answers₀ {answers} {i} s l two two' h =
+-- two numbers written over the part from a place on
+put_two : (l : List ℕ) (k : ℕ) (x y : ℕ) → k + 1 < length l → put_mid k (length l - k) l (x ∷ y ∷ drop 2 (mid_of k (length l - k) l)) ≡ set (set l k x) (k + 1) y
+put_two [] k x y h = absurd (omega arith)
+put_two (u ∷ []) k x y h = absurd (omega arith)
+put_two (u ∷ v ∷ l) zero x y h =
+    let n : length (u ∷ v ∷ l) - 0 ≡ suc (suc (length l)) = omega arith in
+    rw n (ap (λ (t : List ℕ). x ∷ y ∷ t) (take-append-drop (length l) l))
+put_two (u ∷ v ∷ l) (suc k) x y h =
+    let n : length (u ∷ v ∷ l) - suc k ≡ length (v ∷ l) - k = omega arith in
+    let m : suc k + 1 ≡ suc (k + 1) = omega arith in
+    rw (n, m) (ap (λ (t : List ℕ). u ∷ t) (put_two (v ∷ l) k x y (omega arith)))
+
+pub apart_next : (page : Page) (qs answers₀ : List ℕ) {answers : List ℕ} {i : ℕ} → Apart page qs answers₀ answers i → i < length qs → 2 * length qs ≤ length answers → {part : List ℕ}
+    → PlainSolved page (take (i + 1 - i) (drop i qs)) (mid_of (2 * i) (length answers - 2 * i) answers) part → Apart page qs answers₀ (put_mid (2 * i) (length answers - 2 * i) answers part) (i + 1)
+apart_next page qs answers₀ {answers} {i} s l long {part} h =
     record {
-      same_length = length-set (set answers (2 * i) (get_or two' 0 0)) (2 * i + 1) (get_or two' 1 0) ∙ length-set answers (2 * i) (get_or two' 0 0) ∙ s.same_length;
       answered = λ P p.
           let q : ℕ = get_or qs i 0 in
-          let e : two' ≡ (P q).low ∷ (P q).high ∷ drop 2 two =
-          h P p ∙ ap (λ (t : List ℕ). ends P t ++ drop (2 * length t) two) (one_query qs i l) in
-          answering_next P qs answers₀ (s.answered P p) l (ap₂ (λ (x y : ℕ). set (set answers (2 * i) x) (2 * i + 1) y) (ap (λ (t : List ℕ). get_or t 0 0) e) (ap (λ (t : List ℕ). get_or t 1 0) e));
+          let e : part ≡ (P q).low ∷ (P q).high ∷ drop 2 (mid_of (2 * i) (length answers - 2 * i) answers) =
+          h P p ∙ ap (λ (t : List ℕ). ends P t ++ drop (2 * length t) (mid_of (2 * i) (length answers - 2 * i) answers)) (one_query qs i l) in
+          answering_next P qs answers₀ (s.answered P p) l (ap (put_mid (2 * i) (length answers - 2 * i) answers) e ∙ put_two answers (2 * i) (P q).low (P q).high (omega arith));
     }
 
 -- the closed answers, whatever closed reading is meant

@@ -23,8 +23,7 @@ fn note_query(page: &Page, at: usize, queries: &mut [u16], k: usize) -> usize
 }
 
 // The conditions of the Q lines, in page order; how many there are.
-fn note_queries(page: &Page, queries: &mut [u16]) -> usize
-    requires { length queries.old ≡ 1536 }
+fn note_queries(page: &Page, queries: &mut [u16; 1536]) -> usize
     ensures noted { NotedAll page.now queries.new result }
     ensures sound { solvable page.now ≡ true }
 {
@@ -35,9 +34,10 @@ fn note_queries(page: &Page, queries: &mut [u16]) -> usize
     k
 }
 
-// The plain answers: a run of the queries, driven by an index with more evaluations than any run takes.
-fn solve_plain(page: &Page, queries: &[u16], workspace: &mut [u16], answers: &mut [u16])
-    requires { (all_under (conditions_of page.now) queries.now ≡ true) × (length workspace.old ≡ 15362) × (2 * length queries.now ≤ length answers.old) }
+// The plain answers: a run of the queries, driven by an index with more evaluations than any run takes. There is no heap: what is used of the
+// workspace is the front of an array.
+fn solve_plain(page: &Page, queries: &[u16], workspace: &mut [u16; 15362], answers: &mut [u16])
+    requires { (all_under (conditions_of page.now) queries.now ≡ true) × (2 * length queries.now ≤ length answers.old) }
     ensures { PlainSolved (page_of page.now) queries.now answers.old answers.new }
 {
     let mut marks = [false; 512];
@@ -49,23 +49,26 @@ fn solve_plain(page: &Page, queries: &[u16], workspace: &mut [u16], answers: &mu
     closed::write_ends(&run, 3, 1, queries, answers);
 }
 
-// The same, where each query has a run of its own.
-fn solve_apart(page: &Page, queries: &[u16], workspace: &mut [u16], answers: &mut [u16])
-    requires { (all_under (conditions_of page.now) queries.now ≡ true) × (length workspace.old ≡ 15362) × (2 * length queries.now ≤ length answers.old) }
+// The same, where each query has a run of its own. By index: after `chunks_exact_mut` a proof does not know what its parts hold.
+fn solve_apart(page: &Page, queries: &[u16], workspace: &mut [u16; 15362], answers: &mut [u16])
+    requires { (all_under (conditions_of page.now) queries.now ≡ true) × (2 * length queries.now ≤ length answers.old) }
     ensures { PlainSolved (page_of page.now) queries.now answers.old answers.new }
 {
     for i in 0..queries.len() {
-        let mut ends = [0u16; 2];
-        solve_plain(page, &queries[i..i + 1], workspace, &mut ends);
-        answers[2 * i] = ends[0];
-        answers[2 * i + 1] = ends[1];
+        solve_plain(page, &queries[i..i + 1], workspace, &mut answers[2 * i..]);
     }
 }
 
-// The plain answers, by a run for each query or by one run. `apart` stays a switch: it is the program's choice alone, and a closure would repeat
-// the contract.
-fn solve_runs(page: &Page, queries: &[u16], workspace: &mut [u16], answers: &mut [u16], apart: bool)
-    requires { (all_under (conditions_of page.now) queries.now ≡ true) × (length workspace.old ≡ 15362) × (2 * length queries.now ≤ length answers.old) }
+// The plain answers, by a run for each query or by one run. `apart` stays a switch: a closure in its place would have this contract written out
+// once more, and its two callers would name one of the two functions above in place of true or false.
+fn solve_runs(
+    page: &Page,
+    queries: &[u16],
+    workspace: &mut [u16; 15362],
+    answers: &mut [u16],
+    apart: bool,
+)
+    requires { (all_under (conditions_of page.now) queries.now ≡ true) × (2 * length queries.now ≤ length answers.old) }
     ensures { PlainSolved (page_of page.now) queries.now answers.old answers.new }
 {
     if apart {
@@ -76,11 +79,13 @@ fn solve_runs(page: &Page, queries: &[u16], workspace: &mut [u16], answers: &mut
 }
 
 // The figures of a page: low and high of the condition of each Q line, in page order, in the plain and in the closed reading. The plain ones come
-// from one run of all Q lines, or from a run for each.
+// from one run of all Q lines, or from a run for each. Each reading fills a slice of its own; as an array it would have a narrower type than the
+// program's slices.
 pub fn solve(page: &Page, plain: &mut [u16], closed: &mut [u16], apart: bool)
     requires { (length plain.old ≡ 3072) × (length closed.old ≡ 3072) }
     ensures { Figures (page_of page.now) plain.new closed.new }
 {
+    // no heap: the queries, too, are the front of an array
     let mut queries = [0u16; 1536];
     let k = note_queries(page, &mut queries);
     let mut workspace = [0u16; 15362];

@@ -196,21 +196,21 @@ module _ {a : List ℕ} {m : List Bool} {indexed : Bool} {tops : List ℕ} {k : 
             }
 
         abbrev Again : List ℕ → Type 0
-        Again look₂ = ((indexed ≡ true) × (look₂ ≡ look₁)) ⊎ LookedAgain a m s₂ look₁ look₂ fell
+        Again look₂ = LookedAgain a indexed m s₂ look₁ look₂ fell
 
-        pub again_in : (look₂ : List ℕ) → Again look₂ → WaitSet n look₂
+        again_in : (look₂ : List ℕ) → Again look₂ → WaitSet n look₂
         again_in look₂ (inl d) = subst (WaitSet n) (sym d.1) h.look_in
         again_in look₂ (inr (inl q)) = q.set
         again_in look₂ (inr (inr q)) = subst (WaitSet n) (sym q.0) h.look_in
 
-        pub take_ready : {look₂ : List ℕ} → WaitSet n look₂ → TakeReady a s₂ moved lows₂ look₂
-        take_ready x =
+        pub take_ready : {look₂ : List ℕ} → Again look₂ → TakeReady a s₂ moved lows₂ look₂
+        take_ready {look₂} x =
             record {
               long = advance_comparable.long;
               within = λ c l. omega (arith, h.negations c l, grade₁ c l);
               moved_in = v.noting.set_in;
               lows_in = h.lows_in;
-              look_in = x;
+              look_in = again_in look₂ x;
               unmoved = λ c l q. low₂ c l ∙ sym (unmoved₁ c l q) ∙ sym (ahead₂ c l);
             }
 

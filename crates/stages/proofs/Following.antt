@@ -17,7 +17,8 @@ use Rattle.index.specs.Readers.{lines_read}
 use Rattle.index.proofs.Readers.{reads_below}
 use Rattle.settle.specs.Waiting.{WaitSet}
 use Rattle.rounds.specs.Round.{Renegated, LowsBegun, Woke}
-use Rattle.settle.proofs.Members.{else_same, gone, rest_in}
+use Rattle.bits.proofs.Members.{else_same, gone}
+use Rattle.settle.proofs.Members.{rest_in}
 use Rattle.page.specs.Solvable.{solvable}
 
 -- the number of a negation

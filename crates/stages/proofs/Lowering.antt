@@ -19,7 +19,8 @@ use Rattle.bits.specs.Sets.{Nobody, Member}
 use Rattle.bits.specs.Words.{has, Removed}
 use Rattle.settle.specs.Ends.{reads}
 use Rattle.stages.specs.Steps.{FellTop, KeptTop, LoweredTop, LowerReady, FallsAt, StaysAt, Unlooked, Lowered, Whole}
-use Rattle.settle.proofs.Members.{waiters, few_wait, was_in, else_same, rest_in, fewer, joined, joins, joined_else}
+use Rattle.bits.proofs.Members.{waiters, was_in, else_same, fewer}
+use Rattle.settle.proofs.Members.{few_wait, rest_in, joined, joins, joined_else}
 
 -- the high ends, all together
 abbrev pub tall : (a s : List ℕ) → ℕ

@@ -14,7 +14,7 @@ use Rattle.semantics.specs.Body.{line_body, T}
 use Rattle.semantics.specs.Grade.{lower}
 use Rattle.semantics.specs.Table.{member}
 use Rattle.page.specs.Lines.{Next}
-use Rattle.page.specs.Places.{place_of, LineIn, LineOf}
+use Rattle.page.specs.Places.{place_of, LineIn}
 use Rattle.page.proofs.Head.{head_of}
 use Rattle.page.proofs.LineNumbers.{line_of}
 use Rattle.bits.specs.Sets.{Member}
@@ -22,12 +22,13 @@ use Rattle.bits.specs.Words.{has, Inserted, Removed}
 use Rattle.index.specs.Lookup.{LinesAre}
 use Rattle.value.specs.Table.{EndTable, Grades}
 use Rattle.value.specs.LineEnds.{LineEnd}
-use Rattle.value.proofs.BodyEnds.{body_has, body_most}
+use Rattle.value.proofs.BodyEnds.{body_most}
 use Rattle.value.proofs.Defaults.{bodyless_low}
 use Rattle.value.proofs.Tables.{table_of_lem}
 use Rattle.settle.specs.Waiting.{WaitSet}
-use Rattle.settle.proofs.Members.{else_same, rest_in, joined, joins, joined_else}
-use Rattle.settle.proofs.Raising.{line_head}
+use Rattle.bits.proofs.Members.{else_same}
+use Rattle.settle.proofs.Members.{rest_in, joined, joins, joined_else}
+use Rattle.settle.proofs.Raising.{line_head, added_to, adds_v, v_under}
 use Rattle.rounds.specs.Round.{past}
 use Rattle.stages.specs.Steps.{ahead, seen, Notable, RisesAt, Noting, Covers, NotedAt, Noted, Ahead, AllNoted}
 use Rattle.page.specs.Solvable.{solvable}
@@ -95,17 +96,11 @@ module _ (a : List ℕ) (m : List Bool) (s moved : List ℕ) (at : ℕ) (ok : so
   abbrev size : ℕ
   size = conditions_of a
 
-  moved_to : (c : ℕ) (p : Interval) → line_body (top_of a) (seen a s) c (line_at (drop at a)) ≡ p ∷ [] → line_body (top_of a) (seen a s) c (line_at (drop (place_of a x.number) a)) ≡ p ∷ []
-  moved_to c p d = subst (λ (i : ℕ). line_body (top_of a) (seen a s) c (line_at (drop i a)) ≡ p ∷ []) x.place d
-
-  added_to : (c : ℕ) (p : Interval) → line_body (top_of a) (seen a s) c (line_at (drop at a)) ≡ p ∷ [] → LineOf a c at
-  added_to c p d = subst (LineOf a c) (sym x.place) (line_of (top_of a) (seen a s) c a x.number x.in_count (moved_to c p d))
-
   nothing_done : Covers a m s s at → NotedAt a m at s s moved moved
   nothing_done v = record { noting = noting_same a m H.set_in; covers = v }
 
   pub noted_query : 5 < get_or a (at + 1) 0 → NotedAt a m at s s moved moved
-  noted_query q = nothing_done (λ c l r p d. absurd (omega (arith, (added_to c p d).body)))
+  noted_query q = nothing_done (λ c l r p d. absurd (omega (arith, (added_to x (seen a s) c p d).body)))
 
   seen_table : EndTable lower (top_of a) size (seen a s) (take (2 * size) s)
   seen_table =
@@ -113,19 +108,11 @@ module _ (a : List ℕ) (m : List Bool) (s moved : List ℕ) (at : ℕ) (ok : so
       (λ c l. record { plain = refl; negative = omega (arith, H.grades.grade (2 * c + 1) (omega arith)) })
 
   module _ {v : ℕ} (w : LineEnd lower a (take (2 * size) s) at v) where
-    line_adds : (p : Interval) × (line_body (top_of a) (seen a s) h (line_at (drop at a)) ≡ p ∷ []) × (v ≡ p.low)
-    line_adds = w.is (seen a s) seen_table
-
-    adds_v : (c : ℕ) (p : Interval) → line_body (top_of a) (seen a s) c (line_at (drop at a)) ≡ p ∷ [] → (c ≡ h) × (p.low ≡ v)
-    adds_v c p d =
-        let q = line_adds in
-        let z : h ≡ c = (added_to c p d).head in
-        let y : line_body (top_of a) (seen a s) h (line_at (drop at a)) ≡ p ∷ [] = rw z d in
-        let o : q.0 ≡ p = cc in
-        (sym z, ap (λ (r : Interval). r.low) (sym o) ∙ sym q.2)
+    adds : (c : ℕ) (p : Interval) → line_body (top_of a) (seen a s) c (line_at (drop at a)) ≡ p ∷ [] → (c ≡ h) × (p.low ≡ v)
+    adds = adds_v x w (seen a s) seen_table
 
     pub noted_not : get_or s (2 * size + (2 * h + 1)) 0 ≤ top_of a - v → NotedAt a m at s s moved moved
-    noted_not l = nothing_done (λ c k r p d. let y = adds_v c p d in rw y.0 (omega (arith, y.1, w.grade)))
+    noted_not l = nothing_done (λ c k r p d. let y = adds c p d in rw y.0 (omega (arith, y.1, w.grade)))
 
     -- the line's low end is the next one of its head
     module _ (reached : member m h ≡ true) (over : top_of a - v < get_or s (2 * size + (2 * h + 1)) 0) (moved' : List ℕ) (y : Inserted h moved moved') where
@@ -142,9 +129,7 @@ module _ (a : List ℕ) (m : List Bool) (s moved : List ℕ) (at : ℕ) (ok : so
       here = get_or-set_same s (2 * size + (2 * h + 1)) (top_of a - v) 0 (omega (arith, H.long, real))
 
       below' : ahead a s' h ≤ (T (page_of a) (seen a s) h).low
-      below' =
-          let q = line_adds in
-          omega (arith, here, w.grade, q.2, body_has lower a ok (seen a s) h x.number x.in_count q.0 (moved_to h q.0 q.1))
+      below' = omega (arith, here, w.grade, v_under x w (seen a s) seen_table ok)
 
       up : Noting a m s s' moved moved'
       up =
@@ -161,30 +146,26 @@ module _ (a : List ℕ) (m : List Bool) (s moved : List ℕ) (at : ℕ) (ok : so
           }
 
       pub noted_up : NotedAt a m at s s' moved moved'
-      noted_up = record { noting = up; covers = λ c l r p d. let q = adds_v c p d in rw q.0 (omega (arith, q.1, here, w.grade)) }
+      noted_up = record { noting = up; covers = λ c l r p d. let q = adds c p d in rw q.0 (omega (arith, q.1, here, w.grade)) }
 
-  pub line_here : get_or a (at + 1) 0 ≤ 5 → LineOf a h at
-  line_here l = record { number = x.number; in_count = x.in_count; place = x.place; head = refl; body = l }
+-- in the code's own terms: k is the number of conditions, d the head and t the largest grade
+module _ {a : List ℕ} {m : List Bool} {s moved : List ℕ} {at k : ℕ} (ok : solvable a ≡ true) (r : Notable a m s moved × (k ≡ conditions_of a) × LineIn a at) where
+  abbrev part : List ℕ
+  part = take (2 * k) s
 
-  -- in the code's own terms, where k is the number of conditions
-  module _ (k : ℕ) (z : k ≡ size) where
-    abbrev part : List ℕ
-    part = take (2 * k) s
+  pub part_grades : Grades (top_of a) (conditions_of a) part
+  part_grades = rw r.1 r.0.grades
 
-    pub part_grades : Grades (top_of a) size part
-    part_grades = rw z H.grades
+  module _ {d t : ℕ} (z : d ≡ get_or a at 0) (g : t ≡ top_of a) {v : ℕ} (w : LineEnd lower a part at v) where
+    on_table : LineEnd lower a (take (2 * conditions_of a) s) at v
+    on_table = rw r.1 at w
 
-    module _ {v : ℕ} (w : LineEnd lower a part at v) where
-      on_table : LineEnd lower a (take (2 * size) s) at v
-      on_table = rw z at w
+    pub not_here : get_or s (2 * k + (2 * d + 1)) 0 ≤ t - v → NotedAt a m at s s moved moved
+    not_here l = noted_not a m s moved at ok r.0 r.2 on_table (rw (← r.1, ← z, ← g) l)
 
-      pub not_here : get_or s (2 * k + (2 * h + 1)) 0 ≤ top_of a - v → NotedAt a m at s s moved moved
-      not_here l = noted_not on_table (rw (← z) l)
-
-      pub up_here : member m h ≡ true → top_of a - v < get_or s (2 * k + (2 * h + 1)) 0 → (moved' : List ℕ) → Inserted h moved moved'
-          → NotedAt a m at s (set s (2 * k + (2 * h + 1)) (top_of a - v)) moved moved'
-      up_here r l moved' y =
-          subst (λ (i : ℕ). NotedAt a m at s (set s (2 * i + (2 * h + 1)) (top_of a - v)) moved moved') (sym z) (noted_up on_table r (rw (← z) l) moved' y)
+    pub up_here : member m d ≡ true → t - v < get_or s (2 * k + (2 * d + 1)) 0 → (moved' : List ℕ) → Inserted d moved moved' → NotedAt a m at s (set s (2 * k + (2 * d + 1)) (t - v)) moved moved'
+    up_here q l moved' y =
+        rw (r.1, z, g) (noted_up a m s moved at ok r.0 r.2 on_table (rw (← z) q) (rw (← r.1, ← z, ← g) l) moved' (rw z at y))
 
 -- lines one after the other
 module _ (a : List ℕ) (m : List Bool) (place : ℕ → ℕ) where

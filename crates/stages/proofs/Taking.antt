@@ -16,7 +16,8 @@ use Rattle.index.specs.Readers.{lines_read}
 use Rattle.index.proofs.Readers.{reads_below}
 use Rattle.settle.specs.Waiting.{WaitSet}
 use Rattle.stages.specs.Steps.{ahead, TakenOver, AllTaken}
-use Rattle.settle.proofs.Members.{else_same, rest_in}
+use Rattle.bits.proofs.Members.{else_same}
+use Rattle.settle.proofs.Members.{rest_in}
 use Rattle.page.specs.Solvable.{solvable}
 
 -- whoever reads a literal of a condition that moved and was taken over is in the set

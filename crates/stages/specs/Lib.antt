@@ -4,5 +4,3 @@ pub mod Counted
 pub mod Steps
 -- what the tables hold in a round
 pub mod Stages
--- one of a set is taken out
-pub mod Taken

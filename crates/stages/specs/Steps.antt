@@ -187,10 +187,12 @@ pub record Lowered (a : List ℕ) (m : List Bool) (tops s s' look look' lowered 
 abbrev pub Whole : (indexed : Bool) (n : ℕ) (m : List Bool) (look : List ℕ) → Type 0
 Whole indexed n m look = indexed ≡ false → MarkedWait n m look ⊎ Nobody look
 
--- everybody reached is looked at, or no high end fell and every negation is fresh: no low end that a rule negates is another next
-abbrev pub LookedAgain : (a : List ℕ) (m : List Bool) (s look look' : List ℕ) (fell : Bool) → Type 0
-LookedAgain a m s look look' fell =
-    MarkedWait (conditions_of a) m look' ⊎ ((look' ≡ look) × (fell ≡ false) × ((c : ℕ) → LinesHave (page_of a).lines (2 * c + 1) → Fresh a s c))
+-- there is an index and nothing is done, or everybody reached is looked at, or no high end fell and every negation is fresh: no low end that a
+-- rule negates is another next
+abbrev pub LookedAgain : (a : List ℕ) (indexed : Bool) (m : List Bool) (s look look' : List ℕ) (fell : Bool) → Type 0
+LookedAgain a indexed m s look look' fell =
+    ((indexed ≡ true) × (look' ≡ look))
+    ⊎ (MarkedWait (conditions_of a) m look' ⊎ ((look' ≡ look) × (fell ≡ false) × ((c : ℕ) → LinesHave (page_of a).lines (2 * c + 1) → Fresh a s c)))
 
 -- c is not free, and nothing is done
 pub record NotFree (a : List ℕ) (c : ℕ) (s s' look look' lowered lowered' : List ℕ) (fell : Bool) : Type 0 where

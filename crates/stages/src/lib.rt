@@ -1,4 +1,5 @@
 // How many rounds the closed reading takes: assignment 0 is [0;top], each next one is T at the last joined with its support.
+// `source`, `marks` and `scratch` go from call to call together, and `marks` is a slice, as in `settle`.
 #![tactic(auto)]
 
 ghost use Rattle.std.specs.Prelude.{◌≡◌, true, false, ℕ, ◌≤◌, ◌<◌, ◌+◌, ◌*◌, length, get_or};
@@ -6,11 +7,7 @@ ghost use Rattle.semantics.specs.Area.{top_of, conditions_of, count_of};
 ghost use Rattle.semantics.specs.Table.{member, any_below};
 ghost use Rattle.page.specs.Places.{place_of, LineIn};
 ghost use Rattle.page.specs.Solvable.{solvable};
-ghost use Rattle.std.specs.Iterator.{at_most};
-ghost use Rattle.bits.specs.Sets.{Nobody, AnyIn};
-ghost use Rattle.fixpoint.specs.Sum.{count};
-ghost use Rattle.bits.specs.Words.{has};
-ghost use Rattle.stages.specs.Taken.{TakesOut};
+ghost use Rattle.bits.specs.Sets.{Nobody};
 ghost use Rattle.settle.specs.Scratch.{Lookable};
 ghost use Rattle.settle.specs.Waiting.{WaitSet};
 ghost use Rattle.rounds.specs.Round.{LowsBegun, Woke, Comparable};
@@ -24,49 +21,6 @@ use index::Source;
 use page::Page;
 use settle::{settle, wake};
 use value::End;
-
-// One of the set. An empty set, the usual one after a round, is told at once.
-fn next_in(words: &Set, from: u16) -> Option<u16>
-    requires { from < 512 }
-    ensures { AnyIn words.now.words result }
-{
-    if words.is_empty() {
-        return None;
-    }
-    words.any_from(from)
-}
-
-// Those of a set, one after the other: each is taken out of it.
-#[derive(Drop)]
-struct Drain<'a> {
-    set: &'a mut Set,
-    last: u16,
-    ghost within: { last < 512 },
-}
-
-impl<'a> Drain<'a> {
-    // All of the set.
-    fn of(set: &'a mut Set) -> Self
-        ensures { (result.set.now.words ≡ set.old.words) × (result.set.ghost_name ≡ set.entry.ghost_name) }
-    {
-        Drain { set, last: 0 }
-    }
-}
-
-impl<'a> Iterator for Drain<'a> {
-    type Item = u16;
-
-    ghost next_gives = { λ s r t. TakesOut s.set.now.words r t.set.now.words × (t.set.ghost_name ≡ s.set.ghost_name) };
-
-    ghost remaining = { λ s. at_most (count 512 (has s.set.now.words)) };
-
-    fn next(&mut self) -> Option<u16> {
-        let c = next_in(self.set, self.last)?;
-        self.set.remove(c);
-        self.last = c;
-        Some(c)
-    }
-}
 
 // What c has in `tops` at first: top if it is free, else its high end.
 fn first_top(page: &Page, scratch: &[u16], c: u16) -> u16
@@ -152,7 +106,7 @@ fn lower_tops(
     let mut fell = false;
     let mut last = 0;
     // a `while`: the set grows while it is gone through
-    while let Some(c) = next_in(look, last) {
+    while let Some(c) = look.any_from(last) {
         look.remove(c);
         fell |= lower_top(source, marks, scratch, tops, look, lowered, c);
         last = c;
@@ -166,7 +120,7 @@ fn follow(source: &Source, scratch: &mut [u16], lowered: &mut Set, lows: &mut Se
     ensures { LowsBegun source.now.area scratch.old scratch.new × Woke source.now.area source.now.indexed scratch.old scratch.new lows.old.words lows.new.words }
 {
     source.recall();
-    for c in Drain::of(lowered) {
+    for c in lowered.drain() {
         rounds::negate(source, scratch, lows, c);
     }
 }
@@ -195,7 +149,7 @@ fn support(
 }
 
 // If the line at `at` is an F or R line, its head is reached and the line's low end is above the next one, it becomes the next one, and the head
-// is noted.
+// is noted. `settle` raises an end in like manner, but in the table that the lines read: of that another clause holds (`Raised`).
 fn note(page: &Page, at: usize, marks: &[bool], scratch: &mut [u16], moved: &mut Set, n: usize)
     requires { Notable page.now marks.now scratch.old moved.old.words × (n ≡ conditions_of page.now) × LineIn page.now at }
     ensures { NotedAt page.now marks.now at scratch.old scratch.new moved.old.words moved.new.words }
@@ -265,7 +219,7 @@ fn note_waiting(
 {
     let page = source.page;
     let n = page.conditions() as usize;
-    for c in Drain::of(lows) {
+    for c in lows.drain() {
         let group = source.lines_of(c).unwrap();
         note_group(page, group, marks, scratch, moved, n);
     }
@@ -302,7 +256,7 @@ fn take_all(source: &Source, scratch: &mut [u16], moved: &mut Set, lows: &mut Se
     ensures { AllTaken source.now.area source.now.indexed scratch.old scratch.new lows.old.words lows.new.words look.old.words look.new.words }
 {
     source.recall();
-    for c in Drain::of(moved) {
+    for c in moved.drain() {
         take_over(source, scratch, lows, look, c);
     }
 }
@@ -348,6 +302,7 @@ fn lower_free(
 
 // The next high ends of the free conditions are taken over, if one is reached; whether any fell. Whoever names such a one plainly may have
 // another high end next, and whoever negates it another low end.
+// `free` is what `any_free` said, asked once since it goes over all conditions: an enum would name true and false, a closure repeat these contracts.
 fn take_highs(
     source: &Source,
     marks: &[bool],
@@ -370,10 +325,14 @@ fn take_highs(
 }
 
 // Without an index: everybody reached is looked at, if a high end fell or a low end that a rule negates is another next.
-fn look_again(page: &Page, marks: &[bool], scratch: &[u16], look: &mut Set, dropped: bool)
-    requires { Comparable page.now scratch.now × (conditions_of page.now ≤ length marks.now) × WaitSet (conditions_of page.now) look.old.words }
-    ensures { LookedAgain page.now marks.now scratch.now look.old.words look.new.words dropped }
+fn look_again(source: &Source, marks: &[bool], scratch: &[u16], look: &mut Set, dropped: bool)
+    requires { Comparable source.now.area scratch.now × (conditions_of source.now.area ≤ length marks.now) × WaitSet (conditions_of source.now.area) look.old.words }
+    ensures { LookedAgain source.now.area source.now.indexed marks.now scratch.now look.old.words look.new.words dropped }
 {
+    let page = source.page;
+    if source.is_indexed() {
+        return;
+    }
     if dropped || rounds::negation_stale(page, scratch) {
         *look = rounds::marked(marks, page.conditions());
     }
@@ -427,17 +386,14 @@ fn advance(
     if !fallen && moved.is_empty() {
         return false;
     }
-    if !source.is_indexed() {
-        look_again(source.page, marks, scratch, look, fallen);
-    }
+    look_again(source, marks, scratch, look, fallen);
     take_all(source, scratch, &mut moved, lows, look);
     true
 }
 
 // The count of rounds on what is marked: the number of the first assignment that the next one equals. If the floor does not move, the high
 // ends are those of the closed reading, so the next one is another only if a high end fell to them. `tops` is lent, and `free` tells whether a
-// reached condition is free.
-// It is what `any_free` said, asked once since it goes over all conditions: an enum would name true and false, a closure repeat these contracts.
+// reached condition is free (`take_highs`).
 pub fn count_rounds(
     source: &Source,
     marks: &[bool],

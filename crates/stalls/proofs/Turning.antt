@@ -51,28 +51,28 @@ kept a s area long {k} d =
 abbrev told : ℕ → Bool → Told
 told t x = record { count = t; rests = status_if x }
 
-module _ (a area : List ℕ) (b : ℕ) (ok : sound a ≡ true) (long : shared_length (page_of a) ≤ length area)
-    (one : run_sound (page_of a) (part_of (page_of a) first area) ≡ true) (two : run_sound (page_of a) (part_of (page_of a) second area) ≡ true) where
+module _ (a area : List ℕ) (b : ℕ) (q : (sound a ≡ true) × (shared_length (page_of a) ≤ length area)
+    × (run_sound (page_of a) (part_of (page_of a) first area) ≡ true) × (run_sound (page_of a) (part_of (page_of a) second area) ≡ true)) where
   ready : Ready a area b
-  ready = record { page_sound = ok; long = long; parts_sound = each }
+  ready = record { page_sound = q.0; long = q.1; parts_sound = each }
     where
       each : (s : Stall) → run_sound (page_of a) (part_of (page_of a) s area) ≡ true
-      each first = one
-      each second = two
+      each first = q.2
+      each second = q.3
 
   -- after the first stall's half
   module _ {t₁ : ℕ} {x₁ : Bool} {area₁ : List ℕ} (d₁ : PartDrives a first area (half b first) t₁ x₁ area₁) where
     k₁ : Kept a first area (half b first) area₁
-    k₁ = kept a first area long d₁
+    k₁ = kept a first area q.1 d₁
 
     pub within_1 : t₁ ≤ b
-    within_1 = omega (arith, drive_within a (part_of (page_of a) first area) ok one (half b first) (told t₁ x₁) d₁.tells, (halves_are b).whole)
+    within_1 = omega (arith, drive_within a (part_of (page_of a) first area) q.0 q.2 (half b first) (told t₁ x₁) d₁.tells, (halves_are b).whole)
 
     pub long_1 : shared_length (page_of a) ≤ length area₁
     long_1 = k₁.long
 
     pub sound_1 : run_sound (page_of a) (part_of (page_of a) second area₁) ≡ true
-    sound_1 = rw k₁.others two
+    sound_1 = rw k₁.others q.3
 
     -- and after the second stall's drive
     module _ {t₂ : ℕ} {x₂ : Bool} {area₂ : List ℕ} (d₂ : PartDrives a second area₁ (b - t₁) t₂ x₂ area₂) where
@@ -86,13 +86,13 @@ module _ (a area : List ℕ) (b : ℕ) (ok : sound a ≡ true) (long : shared_le
       first_2 = k₂.others ∙ k₁.own
 
       pub within_2 : t₁ + t₂ ≤ b
-      within_2 = omega (arith, within_1, drive_within a (part_of (page_of a) second area) ok two (b - t₁) (told t₂ x₂) tells₂)
+      within_2 = omega (arith, within_1, drive_within a (part_of (page_of a) second area) q.0 q.3 (b - t₁) (told t₂ x₂) tells₂)
 
       pub long_2 : shared_length (page_of a) ≤ length area₂
       long_2 = k₂.long
 
       pub sound_2 : run_sound (page_of a) (part_of (page_of a) first area₂) ≡ true
-      sound_2 = rw first_2 (drive_sound a (part_of (page_of a) first area) ok one (half b first))
+      sound_2 = rw first_2 (drive_sound a (part_of (page_of a) first area) q.0 q.2 (half b first))
 
       -- and after the first stall's second drive
       module _ {t₃ : ℕ} {x₃ : Bool} {area₃ : List ℕ} (d₃ : PartDrives a first area₂ (b - (t₁ + t₂)) t₃ x₃ area₃) where
@@ -103,7 +103,7 @@ module _ (a area : List ℕ) (b : ℕ) (ok : sound a ≡ true) (long : shared_le
         tells₃ = rw first_2 at d₃.tells
 
         pub within_3 : t₁ + t₃ ≤ b
-        within_3 = omega (arith, within_2, drive_within a (part_of (page_of a) first area₂) ok sound_2 (b - (t₁ + t₂)) (told t₃ x₃) d₃.tells)
+        within_3 = omega (arith, within_2, drive_within a (part_of (page_of a) first area₂) q.0 sound_2 (b - (t₁ + t₂)) (told t₃ x₃) d₃.tells)
 
         pub turn_answers : turned (told (t₁ + t₃) x₃) (told t₂ x₂) ≡ (turn_of a area b).answer
         turn_answers = sym (turn_tells a area b ready (told t₁ x₁) (told t₂ x₂) (told t₃ x₃) d₁.tells tells₂ tells₃)

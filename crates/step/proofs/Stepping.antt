@@ -36,12 +36,12 @@ mark_alone run c low high mark e =
     let q = same_true (interval_at run c) (record { low = low; high = high }) e in
     sym (rw (ap (λ (i : Interval). i.low) (sym q), ap (λ (i : Interval). i.high) (sym q)) (rw (set-get_or run (3 * c) 0, set-get_or run (3 * c + 1) 0)))
 
-module _ (a run : List ℕ) (ok : solvable a ≡ true) (rs : run_sound (page_of a) run ≡ true) {values : List ℕ} (s : Beside a run values) where
+module _ {a run values : List ℕ} (ok : solvable a ≡ true) (rs : run_sound (page_of a) run ≡ true) (s : Beside a run values) where
   -- both ends of every literal are grades
   pub beside_grades : Mirrored (top_of a) (conditions_of a) values
   beside_grades = both_grades (top_of a) (conditions_of a) (interval_at run) values s.long (graded_of a run ok rs).within s.table
 
-  module _ (c : ℕ) (l : c < conditions_of a) (two : mark_at run c ≡ 2) {p q : ℕ} (v : Body a values c p q) where
+  module _ {c : ℕ} (l : c < conditions_of a) (two : mark_at run c ≡ 2) {p q : ℕ} (v : Body a values c p q) where
     body : BodyValue a run c p q
     body =
         record {

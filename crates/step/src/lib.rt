@@ -33,7 +33,7 @@ fn change(
 }
 
 // An evaluation of c, which waits. The run area, the set and the table come apart, since the run area is lent by the caller, who reads it
-// between two evaluations.
+// between two evaluations. The table stands beside the page: it is written here, and the page is not (`body`).
 pub fn step(source: &Source, run: &mut [u16], waiting: &mut Set, values: &mut [u8], c: u16) -> bool
     requires { (run_sound (page_of source.now.area) run.old ≡ true) × (c < conditions_of source.now.area) × (mark_at run.old c ≡ 2) × Beside source.now.area run.old values.old }
     ensures { EvaluatedBeside source.now.area c run.old waiting.old.words run.new waiting.new.words values.new result }

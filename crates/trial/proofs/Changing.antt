@@ -10,6 +10,7 @@ use Rattle.print.specs.declared.Text.{Text}
 use Rattle.print.specs.Texts.{Puts}
 use Rattle.print.proofs.Writing.{puts_front}
 use Rattle.semantics.specs.Fields.{number_text}
+use Rattle.semantics.proofs.TextNumbers.{number_short}
 use Rattle.semantics.specs.Output.{Query, queries_of, answer_lines}
 use Rattle.semantics.proofs.Outputs.{queries_most}
 use Rattle.answers.specs.Printing.{led_lines, PutLines}
@@ -45,6 +46,10 @@ module _ (a : List ℕ) (ok : sound a ≡ true) (ts : List TrialLine) (w : AllTr
 
   pub changed_page_lem : page_of (area_of (changed_page (page_of a) ts) ++ z) ≡ changed_page (page_of a) ts
   changed_page_lem = page_area page z
+
+-- the number of a trial has at most three digits
+pub number_few : {top n : ℕ} {lines : List ℕ} → ListIn top n lines (length lines / 4) → 4 ≤ length lines → length (number_text (get_or lines 0 0)) ≤ 3
+number_few {lines = lines} w l = number_short (get_or lines 0 0) (w.number 0 (omega arith))
 
 -- the lead of a trial: its number and a comma, of at most four bytes
 module _ (number : ℕ) {t t' : Text} (z : t.at ≡ 0) (w : Puts t (number_text number ++ (44 ∷ [])) t') {lead : List ℕ} (e : lead ≡ take t'.at t'.out.now) where

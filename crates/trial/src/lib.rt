@@ -14,7 +14,8 @@ use answers::{Solved, put_refusal, put_top};
 use page::Page;
 use print::Text;
 
-// Why nothing is tried: the number of the refusal of the page or of the list, and the line that it tells.
+// Why nothing is tried: the number of the refusal of the page or of the list, and the line that it tells. The number is printed as it is: an enum
+// over the causes of both crates would be turned into it at its only use.
 #[derive(Clone, Copy)]
 pub struct Refusal {
     pub number: u16,
@@ -134,6 +135,7 @@ pub fn answer_trial(page: &Page, lines: &[u16], text: &mut Text<'_>) -> u16
 {
     let mut area = [0u16; 14852];
     change::change(page, lines, &mut area);
+    // not by `Page::of`, which takes sound areas alone: a page that a trial changes may have 1,536 lines
     let changed = Page { numbers: &area };
     let mut plain = [0u16; 3072];
     let mut closed = [0u16; 3072];

@@ -30,6 +30,7 @@ fn print_trials(rt: &impl Print, page: &Page, list: &[u16], out: &mut [u8]) -> i
 }
 
 fn main(rt: HostRuntime) -> io::Result<()> {
+    // there is no heap: what is read is the front of an array
     let mut text = [0u8; 65536];
     let n = read_file(&rt, b"page", &mut text);
     let mut bytes = [0u8; 65536];
@@ -42,6 +43,7 @@ fn main(rt: HostRuntime) -> io::Result<()> {
     rt.write_all(first.written())?;
     match begun {
         Ok(lines) => {
+            // what is read is a sound page, so `Page::of` need not test it
             let page = Page { numbers: &area };
             print_trials(&rt, &page, &list[..4 * lines], &mut out)
         }

@@ -1,5 +1,5 @@
 -- The loop over the conditions that stores an entry for each one sought: what stands before c is what f makes of the entry. Assumes nothing.
-use mathlib.Core.Path.{◌≡◌, refl, sym, ◌∙◌, ap}
+use mathlib.Core.Path.{◌≡◌, sym, ◌∙◌, ap}
 use mathlib.Core.Logic.{◌≢◌}
 use mathlib.Core.Bool.{Bool, true, false, true≢false}
 use mathlib.Core.List.{List}
@@ -12,9 +12,6 @@ use Rattle.semantics.specs.Area.{conditions_of}
 use Rattle.unknowns.specs.NextHighs.{sought, Places, Steady}
 
 module _ (a : List ℕ) (m : List Bool) where
-  pub steady_same : (next : List ℕ) → Steady a m next next
-  steady_same next = record { same_length = refl; others = λ c h. refl }
-
   pub steady_on : {next next' next'' : List ℕ} → Steady a m next next' → Steady a m next' next'' → Steady a m next next''
   steady_on u v = record { same_length = v.same_length ∙ u.same_length; others = λ c h. v.others c h ∙ u.others c h }
 

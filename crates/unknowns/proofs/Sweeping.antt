@@ -10,21 +10,27 @@ use native.Mathlib.Omega.{arith}
 use lib.ListN.{get_or, set, drop}
 use lib.Seq.{get_or-set_same, get_or-set_other}
 use Rattle.fixpoint.specs.Interval.{Interval, Assign}
-use Rattle.semantics.specs.Area.{first_line, line_at, top_of, conditions_of, count_of}
+use Rattle.semantics.specs.Area.{line_at, top_of, conditions_of, count_of}
 use Rattle.semantics.specs.Body.{line_body}
-use Rattle.semantics.specs.Grade.{upper}
+use Rattle.semantics.specs.Grade.{End, upper}
 use Rattle.page.specs.Lines.{step_at, Next}
 use Rattle.page.specs.Places.{place_of, LineIn, LineOf}
+use Rattle.page.proofs.Head.{head_of}
 use Rattle.page.proofs.LineNumbers.{line_in}
 use Rattle.value.specs.Table.{EndTable}
+use Rattle.value.specs.LineEnds.{LineEnd}
 use Rattle.settle.proofs.Raising.{line_head}
 use Rattle.unknowns.specs.NextHighs.{sought, Places, Steady, TakenLine, PassedLine, Looked, Above, Swept}
-use Rattle.unknowns.proofs.Storing.{steady_same, steady_on, steady_set}
+use Rattle.unknowns.proofs.Storing.{steady_on, steady_set}
 use Rattle.page.specs.Solvable.{solvable}
 
 -- the head of an F or R line is a condition
 pub head_below : (a : List ℕ) → solvable a ≡ true → {c at : ℕ} → LineOf a c at → get_or a at 0 < conditions_of a
 head_below a ok o = line_head a ok (line_in o)
+
+-- an end of a line is a grade
+pub end_small : (a : List ℕ) → solvable a ≡ true → {e : End} {values : List ℕ} {at v : ℕ} → LineEnd e a values at v → v ≤ 200
+end_small a ok w = omega (arith, w.grade, (head_of a ok).top_most)
 
 -- the places of the lines before line k
 abbrev pub Passed : List ℕ → ℕ → ℕ → Type 0
@@ -68,19 +74,6 @@ module _ (a : List ℕ) (m : List Bool) (values next₀ : List ℕ) where
     pub steady : Steady a m next₀ next
     pub above : (I : Assign) → EndTable upper (top_of a) (conditions_of a) I values → (c : ℕ) → c < conditions_of a → sought a m c ≡ true → get_or next₀ c 0 ≡ 0
         → Above a I (Passed a k) c (get_or next c 0)
-
-  pub sweeping_first : solvable a ≡ true → Places a m next₀ → {at k : ℕ} → (at ≡ first_line a) × (k ≡ 0) → Sweeping next₀ at k
-  unfolding place_of
-  sweeping_first ok p q =
-      rw q.1
-      (record {
-        sound = ok;
-        places = p;
-        place = q.0;
-        within = omega arith;
-        steady = steady_same a m next₀;
-        above = λ I t c l r z. record { some = inl z; most = λ p g. absurd (omega (arith, g.1)) };
-      })
 
   module _ {next : List ℕ} {at k : ℕ} (v : Sweeping next at k) (l : k < count_of a) where
     pub here : LineIn a at

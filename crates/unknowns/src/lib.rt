@@ -15,7 +15,7 @@ ghost use Rattle.unknowns.specs.NextHighs.{sought, high_from, Places, Mapped, Ta
 use page::Page;
 use value::End;
 
-// Whether c is reached and unknown by default.
+// Whether c is reached and unknown by default. `marks` is a slice, here and below: an array of 512 marks would ask more of the callers.
 pub fn is_sought(page: &Page, marks: &[bool], c: u16) -> bool
     requires { (conditions_of page.now ≤ length marks.now) × (c < conditions_of page.now) }
     ensures { result ≡ sought page.now marks.now c }
@@ -45,6 +45,7 @@ fn map_sought<F: Fn(u16, u8) -> u8>(page: &Page, marks: &[bool], next: &mut [u8]
 }
 
 // The entry of the head of the F or R line at `at` becomes 1 more than the high end of the line, if it is below that.
+#[tactic(auto, using(crate::proofs::Sweeping::head_below))]
 fn take_line(page: &Page, at: usize, values: &[u16], add: u16, next: &mut [u8])
     requires { Grades (top_of page.now) (conditions_of page.now) values.now × LineOf page.now (get_or page.now at 0) at × (add ≡ rounding upper (top_of page.now)) × (conditions_of page.now ≤ length next.old) }
     ensures { Taken page.now values.now at next.old next.new }

@@ -102,11 +102,11 @@ module _ (a values : List ℕ) (at : ℕ) (r : RuleAt (top_of a) (conditions_of 
       (end_fold e f (literal_value (top_of a) I (literal_of code)) (map (literal_value (top_of a) I) (map literal_of rest))
       ∙ ap₂ (λ (x : ℕ) (xs : List ℕ). foldl (f e) x xs) (sym (t code code_under)) (sym (table_numbers e (top_of a) (conditions_of a) I values rest t rest_under)))
 
-  module _ (e : End) (ok : solvable a ≡ true) (g : Grades (top_of a) (conditions_of a) values) (l : 1 ≤ get_or a (at + 1) 0) (u : get_or a (at + 1) 0 ≤ 5)
+  module _ (e : End) (ok : solvable a ≡ true) (g : Grades (top_of a) (conditions_of a) values)
       {x : ℕ} (h : (op : Op) → kind (get_or a (at + 1) 0) ≡ rule_kind op → Folded (combine (top_of a) op e) rest values (get_or values code 0) x) where
     pub fold_in : x ≤ top_of a
     fold_in =
-        let o = rule_kind_lem (get_or a (at + 1) 0) l u in
+        let o = rule_kind_lem (get_or a (at + 1) 0) r.least r.most in
         folded_in (top_of a) (get_or a (at + 1) 0) e rest values (get_or values code 0) x (foldable ok g) o.0 (h o.0 o.1)
 
     pub rule_end_is : {v : ℕ} → v ≡ divided e (x * get_or a (at + 2) 0) (top_of a) → RuleEnd e a values at v

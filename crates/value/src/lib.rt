@@ -94,7 +94,7 @@ fn product(p: u16, q: u16, top: u16, add: u16) -> u16
 }
 
 // An op over the numbers of the literals from one place up to another, from left to right. By index: over a slice of them a line's end takes
-// a fifth more instructions.
+// a fifth more instructions, and the closed reading is at its limit of docs/BENCH.md or over it.
 fn fold<F: Fn(u16, u16) -> u16>(
     a: &[u16],
     from: usize,
@@ -114,9 +114,9 @@ fn fold<F: Fn(u16, u16) -> u16>(
 }
 
 // The op of the rule at `at` over the numbers of its literals behind the first: the kinds 1 to 5 are M, X, L, B, P. With no other literal there
-// is nothing to choose.
+// is nothing to choose. The kind is matched on as the number of the area, as document 01 asks.
 fn fold_by_op(a: &[u16], at: usize, values: &[u16], first: u16, top: u16, add: u16) -> u16
-    requires { RuleAt top (conditions_of a.now) a.now at × Foldable top (behind_first a.now at) values.now first × (1 ≤ get_or a.now (at + 1) 0) × (get_or a.now (at + 1) 0 ≤ 5) × (add < top) }
+    requires { RuleAt top (conditions_of a.now) a.now at × Foldable top (behind_first a.now at) values.now first × (add < top) }
     ensures { EndAdding top add (λ e. (op : Op) → kind (get_or a.now (at + 1) 0) ≡ rule_kind op → Folded (combine top op e) (behind_first a.now at) values.now first result) }
 {
     if a[at + 3] < 2 {
@@ -137,7 +137,7 @@ fn fold_by_op(a: &[u16], at: usize, values: &[u16], first: u16, top: u16, add: u
 // One end of the value of the rule at `at`: its op over its literals' numbers from left to right, then its weight.
 #[tactic(auto, using(crate::proofs::RuleEnds::code_under))]
 fn rule_end(page: &Page, at: usize, values: &[u16], add: u16) -> u16
-    requires { Grades (top_of page.now) (conditions_of page.now) values.now × RuleAt (top_of page.now) (conditions_of page.now) page.now at × (1 ≤ get_or page.now (at + 1) 0) × (get_or page.now (at + 1) 0 ≤ 5) × Adds (top_of page.now) add }
+    requires { Grades (top_of page.now) (conditions_of page.now) values.now × RuleAt (top_of page.now) (conditions_of page.now) page.now at × Adds (top_of page.now) add }
     ensures { EndAdding (top_of page.now) add (λ e. RuleEnd e page.now values.now at result) }
 {
     let a = page.numbers;

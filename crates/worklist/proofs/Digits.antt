@@ -9,14 +9,13 @@ use native.Mathlib.Nat.{pow-suc}
 use native.Mathlib.Omega.{arith}
 use lib.Dec.{eqb, ltb}
 use lib.ListN.{length, get_or, set, length-set}
-use lib.Pow.{pow_pos, pow_mono}
 use lib.Seq.{get_or-set_same, get_or-set_other}
 use borrow.Author.Tests.{lt-ltb, le-ltb}
 use Rattle.std.specs.Int.{bit_at}
 use Rattle.std.proofs.lemmas.Nat.Bits.{bit_at_lowest, bit_at-suc, bit_at_above}
 use Rattle.semantics.specs.RunArea.{mark_at}
 use Rattle.bits.specs.Words.{has}
-use Rattle.worklist.specs.Waiting.{WordsMatch, Digits}
+use Rattle.worklist.specs.Waiting.{Digits}
 use Rattle.worklist.proofs.Matching.{lt_or_le}
 
 -- half a mark is the digit
@@ -26,14 +25,7 @@ half_mark (suc zero) l = refl
 half_mark (suc (suc zero)) l = refl
 half_mark (suc (suc (suc m))) l = absurd (omega arith)
 
-pub digits_none : (run : List ℕ) (to : ℕ) → Digits run to to 0
-digits_none run to = record { waits = λ j l. absurd (omega arith); few = pow_pos (to - to) }
-
 module _ {run : List ℕ} {c to x : ℕ} (d : Digits run (c + 1) to x) (l : c < to) where
-  -- a word has room for one digit more
-  pub digits_room : to ≤ c + 64 → 2 * x + 1 < 2 ^ 64
-  digits_room h = let k : to - (c + 1) ≤ 63 = omega arith in let p = pow_mono k in omega (arith, d.few, p)
-
   pub digits_more : mark_at run c ≤ 2 → Digits run c to (2 * x + mark_at run c / 2)
   digits_more m = record { waits = digit; few = more }
     where
@@ -57,9 +49,6 @@ module _ {run : List ℕ} {c to x : ℕ} (d : Digits run (c + 1) to x) (l : c < 
 module _ {run : List ℕ} {c to x : ℕ} (d : Digits run c to x) (some : 0 < c) (l : c ≤ to) where
   before : Digits run (c - 1 + 1) to x
   before = let e : c ≡ c - 1 + 1 = omega arith in subst (λ (i : ℕ). Digits run i to x) e d
-
-  pub room_down : to ≤ c + 63 → 2 * x + 1 < 2 ^ 64
-  room_down h = digits_room before (omega arith) (omega arith)
 
   pub digits_down : mark_at run (c - 1) ≤ 2 → Digits run (c - 1) to (2 * x + mark_at run (c - 1) / 2)
   digits_down m = digits_more before (omega arith) m
@@ -87,10 +76,3 @@ module _ {n w : ℕ} {run words : List ℕ} (f : Filled n w run words) where
           ⊎_elim (λ b. let z : from + k % 64 ≡ k = omega arith in d.waits (k % 64) (omega arith) ∙ rw (z, lt-ltb k n (omega arith)))
           (λ b. ap (λ (i : ℕ). eqb i 1) (bit_at_above x (to - from) (k % 64) d.few (omega arith)) ∙ rw (le-ltb k n (omega arith)))
           (lt_or_le k to)
-
-pub filled_none : (n : ℕ) (run words : List ℕ) → length words ≡ 8 → Filled n 0 run words
-filled_none n run words s = record { size = s; bits = λ k m. absurd (omega arith) }
-
--- all eight words are filled
-pub filled_all : {n w : ℕ} {run words : List ℕ} → Filled n w run words → 8 ≤ w → WordsMatch n run words
-filled_all f l = record { bits = λ k m. f.bits k (omega arith) }

@@ -64,9 +64,6 @@ module _ (a : List ℕ) (c : ℕ) (run₀ : List ℕ) where
         beyond = refl;
       })
 
-  pub marking_long : {run : List ℕ} {at k : ℕ} → Marking run at k → 3 * conditions_of a ≤ length run
-  marking_long s = omega (arith, s.long, s.same_length)
-
   module _ {run : List ℕ} {at k : ℕ} (s : Marking run at k) (l : k < count_of a) where
     -- the head of the entry is a condition
     head_in : get_or a at 0 < conditions_of a

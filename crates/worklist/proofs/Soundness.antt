@@ -1,7 +1,7 @@
 -- The soundness of a run area, cell by cell, in the code's own terms. Assumes nothing.
-use mathlib.Core.Path.{◌≡◌, refl, sym, ◌∙◌}
+use mathlib.Core.Path.{◌≡◌, sym}
 use mathlib.Core.Logic.{◌≢◌}
-use mathlib.Core.Bool.{Bool, true, false, false≢true, and-true}
+use mathlib.Core.Bool.{Bool, true, false, and-true}
 use mathlib.Core.List.{List}
 use Prim.Native.Nat.{ℕ, ◌*◌, ◌≤◌, ◌<◌}
 use native.Mathlib.Omega.{arith}
@@ -12,7 +12,6 @@ use Rattle.fixpoint.specs.Interval.{Interval, same}
 use Rattle.semantics.specs.Area.{every, page_of, top_of, conditions_of}
 use Rattle.semantics.specs.RunArea.{interval_at, mark_at, cell_tests, run_sound}
 use Rattle.semantics.specs.Table.{all_below}
-use Rattle.semantics.proofs.Table.{all_at, all_true}
 
 -- the tests of a cell, in the code's order
 module _ (top : ℕ) (p : Interval) (mark : ℕ) where
@@ -34,26 +33,16 @@ module _ (top : ℕ) (p : Interval) (mark : ℕ) where
           unfolding same
           cell_high h = rw (le-leb p.low p.high o, le-leb p.high top i, le-leb mark 2 m, lt-leb 1 mark (omega arith), eq-eqb p.low 0 h) (sym (and-true (eqb p.high top)))
 
+-- the test of a cell
+abbrev pub cell_ok : List ℕ → ℕ → ℕ → Bool
+cell_ok run top c = every (cell_tests top (interval_at run c) (mark_at run c))
+
 -- the cells of the area of a page
 module _ (a run : List ℕ) where
-  abbrev pub cell_ok : ℕ → Bool
-  cell_ok c = every (cell_tests (top_of a) (interval_at run c) (mark_at run c))
-
   pub run_short : length run < 3 * conditions_of a → false ≡ run_sound (page_of a) run
   unfolding run_sound page_of
   run_short h = rw (lt-leb (3 * conditions_of a) (length run) h)
 
-  run_cells : 3 * conditions_of a ≤ length run → run_sound (page_of a) run ≡ all_below (conditions_of a) cell_ok
+  pub run_long : {n top : ℕ} → n ≡ conditions_of a → top ≡ top_of a → 3 * n ≤ length run → all_below n (cell_ok run top) ≡ run_sound (page_of a) run
   unfolding run_sound page_of
-  run_cells l = rw (le-leb (3 * conditions_of a) (length run) l)
-
-  -- one cell that fails is enough
-  pub run_bad : 3 * conditions_of a ≤ length run → (c : ℕ) → c < conditions_of a → cell_ok c ≡ false → false ≡ run_sound (page_of a) run
-  run_bad l c h e = sym (run_cells l ∙ go (all_below (conditions_of a) cell_ok) refl)
-    where
-      go : (t : Bool) → all_below (conditions_of a) cell_ok ≡ t → t ≡ false
-      go true q = absurd (false≢true (sym e ∙ all_at (conditions_of a) cell_ok q c h))
-      go false q = refl
-
-  pub run_ok : 3 * conditions_of a ≤ length run → ((c : ℕ) → c < conditions_of a → cell_ok c ≡ true) → true ≡ run_sound (page_of a) run
-  run_ok l h = sym (run_cells l ∙ all_true (conditions_of a) cell_ok h)
+  run_long e t l = rw (e, t, le-leb (3 * conditions_of a) (length run) (rw e at l))

@@ -16,7 +16,8 @@ use bits::Set;
 use index::Source;
 use page::Page;
 
-// Whether the cell of c (low, high, mark) is sound.
+// Whether the cell of c (low, high, mark) is sound. The marks are the numbers 0, 1 and 2, here and where they are tested, since a run area is numbers
+// that C lends and reads (document 01, "Areas").
 fn cell_ok(run: &[u16], c: u16, top: u16) -> bool
     requires { 3 * c + 3 ≤ length run.now }
     ensures { result ≡ every (cell_tests top (interval_at run.now c) (mark_at run.now c)) }
@@ -42,15 +43,10 @@ pub fn run_sound(page: &Page, run: &[u16]) -> bool
     if run.len() < 3 * n as usize {
         return false;
     }
-    for c in 0..n {
-        if !cell_ok(run, c, top) {
-            return false;
-        }
-    }
-    true
+    (0..n).all(|c| cell_ok(run, c, top))
 }
 
-// The lowest of n conditions that waits.
+// The lowest of n conditions that waits: a search loop that yields it by a labelled break, as document 01 asks.
 pub fn lowest_waiting(run: &[u16], n: u16) -> Option<u16>
     requires { 3 * n ≤ length run.now }
     ensures { Lowest n run.now result }
@@ -84,9 +80,9 @@ pub fn waiting_set(run: &[u16], n: u16) -> Set
 {
     let limit = n as usize;
     let mut words = [0u64; 8];
-    for w in 0..8 {
+    for (w, word) in words.iter_mut().enumerate() {
         let from = limit.min(64 * w);
-        words[w] = waiting_digits(run, from, limit.min(from + 64));
+        *word = waiting_digits(run, from, limit.min(from + 64));
     }
     Set::from(words)
 }

@@ -3,14 +3,12 @@ use mathlib.Core.Path.{ap}
 use mathlib.Core.List.{[], ◌∷◌}
 use Prim.Native.Nat.{ℕ}
 use native.Mathlib.Omega.{arith}
-use lib.ListN.{length-append}
 use Rattle.fixpoint.specs.Interval.{Interval}
-use Rattle.semantics.specs.Fields.{number_text}
 use Rattle.semantics.proofs.TextNumbers.{number_short}
 use Rattle.print.proofs.Writing.{puts_then, puts_as, puts_room}
 use Rattle.solve.specs.Asked.{reading_of}
 use Rattle.semantics.specs.Output.{Query}
-use Rattle.answers.proofs.PrintedLines.{answer_text}
+use Rattle.answers.proofs.PrintedLines.{answer_text, field_passed}
 use Rattle.answers.proofs.put_answer.Goals as goal
 
 pub put_byte-requires-2 : goal.put_byte-requires-2
@@ -18,25 +16,20 @@ put_byte-requires-2 c = puts_room 1 c.put_byte.ensures (omega (arith, c.requires
 
 pub put_field-requires : goal.put_field-requires
 put_field-requires c =
-    puts_room _ (puts_then c.put_byte.ensures c.put_byte-2.ensures) (omega (arith, number_short c.args.c c.requires.1, c.requires.0))
+    let room = puts_room 12 (puts_then c.put_byte.ensures c.put_byte-2.ensures) (omega (arith, c.requires.0)) in
+    omega (arith, number_short c.args.c c.requires.1)
 
 pub put_field-requires-2 : goal.put_field-requires-2
 put_field-requires-2 c =
-    puts_room _ c.put_field.ensures (puts_room _ (puts_then c.put_byte.ensures c.put_byte-2.ensures)
-    (omega (arith, number_short c.args.c c.requires.1, number_short c.args.ends.low c.requires.2, length-append (number_text c.args.c) (44 ∷ []), c.requires.0)))
+    let room = puts_room 12 (puts_then c.put_byte.ensures c.put_byte-2.ensures) (omega (arith, c.requires.0)) in
+    let room = field_passed c.requires.1 44 8 c.put_field.ensures room in
+    omega (arith, number_short c.args.ends.low c.requires.2)
 
 pub put_field-requires-3 : goal.put_field-requires-3
 put_field-requires-3 c =
-    puts_room _ c.put_field-2.ensures (puts_room _ c.put_field.ensures (puts_room _ (puts_then c.put_byte.ensures c.put_byte-2.ensures)
-    (omega (
-      arith,
-      number_short c.args.c c.requires.1,
-      number_short c.args.ends.low c.requires.2,
-      number_short c.args.ends.high c.requires.3,
-      length-append (number_text c.args.c) (44 ∷ []),
-      length-append (number_text c.args.ends.low) (44 ∷ []),
-      c.requires.0,
-    ))))
+    let room = puts_room 12 (puts_then c.put_byte.ensures c.put_byte-2.ensures) (omega (arith, c.requires.0)) in
+    let room = field_passed c.requires.2 44 4 c.put_field-2.ensures (field_passed c.requires.1 44 8 c.put_field.ensures room) in
+    omega (arith, number_short c.args.ends.high c.requires.3)
 
 pub returns : goal.returns
 returns c =

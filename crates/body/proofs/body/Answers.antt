@@ -6,8 +6,5 @@ use Rattle.body.proofs.body.Goals as goal
 pub returns-in-Some : goal.returns-in-Some
 returns-in-Some c = body_found _ _ _ c.in-Some.ensures.sound c.in-Some.ensures.best
 
-pub bodyless-requires : goal.bodyless-requires
-bodyless-requires c = rw (← c.source.view_is) at c.requires.1
-
 pub returns-in-None : goal.returns-in-None
 returns-in-None c = body_empty _ _ _ c.in-None.ensures.sound c.in-None.ensures.best (rw (area_is c.source.view_is) at c.bodyless.ensures)

@@ -1,23 +1,10 @@
 -- `body::by_scan` meets its contract. Assumes nothing.
-use native.Mathlib.Omega.{arith}
 use Rattle.page.proofs.Steps.{stepped, passed_all as all_passed}
 use mathlib.Core.Path.{sym, ◌∙◌}
 use Prim.Native.Nat.{◌+◌}
-use Rattle.page.proofs.LineNumbers.{place_first, place_next}
-use Rattle.body.proofs.Gathering.{gathering_none, gathering_skip, gathering_next, gathering_last, Passed, passed_more, passed_all}
+use Rattle.page.proofs.LineNumbers.{place_next}
+use Rattle.body.proofs.Gathering.{gathering_skip, gathering_next, gathering_last, Passed, passed_more, passed_all}
 use Rattle.body.proofs.by_scan.Goals as goal
-
-pub loop-at-init : goal.loop-at-init
-loop-at-init c =
-    let b = c.lines-at-items.ensures.scan in
-    rw c.into_iter-at-iterator.ensures.into_iter_gives
-    (b.same, place_first _ (b.place, b.count), gathering_none _ _ _ (Passed c.args.page.now _) (λ p h. omega (arith, h.1, b.count)))
-
-pub entry-line-requires : goal.entry-line-requires
-entry-line-requires c = (stepped c.loop-at.invariant.0 c.in-Some.ensures.steps).line
-
-pub take_line-best-requires : goal.take_line-best-requires
-take_line-best-requires c = (c.requires, (stepped c.loop-at.invariant.0 c.in-Some.ensures.steps).line)
 
 pub loop-at-preserved : goal.loop-at-preserved
 loop-at-preserved c =

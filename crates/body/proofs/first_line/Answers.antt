@@ -11,12 +11,6 @@ use Rattle.body.proofs.first_line.Goals as goal
 pub loop-at-init : goal.loop-at-init
 loop-at-init c = let b = c.lines-lines.ensures.scan in (b.same, searching_first _ _ _ _ (b.place, b.count))
 
-pub entry-line-requires : goal.entry-line-requires
-entry-line-requires c = (stepped c.loop-at.invariant.0 (rw c.in-Some.is at c.next.ensures.steps)).line
-
-pub has_low-requires : goal.has_low-requires
-has_low-requires c = (c.requires, (stepped c.loop-at.invariant.0 (rw c.in-Some.is at c.next.ensures.steps)).line)
-
 pub overflow_add-result : goal.overflow_add-result
 overflow_add-result c =
     let s = stepped c.loop-at.invariant.0 (rw c.in-Some.is at c.next.ensures.steps) in

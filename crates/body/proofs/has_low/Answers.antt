@@ -2,8 +2,5 @@
 use Rattle.body.proofs.Searching.{low_of_taken}
 use Rattle.body.proofs.has_low.Goals as goal
 
-pub returns-in-Some : goal.returns-in-Some
-returns-in-Some c = low_of_taken c.args.page.now c.args.low c.requires.1 c.in-Some.ensures.taken
-
 pub returns-in-None : goal.returns-in-None
 returns-in-None c = low_of_taken c.args.page.now c.args.low c.requires.1 c.in-None.ensures.taken

@@ -14,8 +14,7 @@ pub alternate-requires : goal.alternate-requires
 alternate-requires c =
     let e = area_is c.source.view_is in
     let ok = rw e at c.conditions-n.ensures.sound in
-    let b = rw (c.conditions-n.ensures.value, c.top.ensures.value, e) at c.begin.ensures in
-    (rounds_begin _ _ _ _ ok c.requires (rw e at c.mark_closure.ensures) b, (head_of _ ok).few, rw e at c.any_free-free.ensures)
+    (rounds_begin _ _ _ _ ok c.requires (rw e at c.mark_closure.ensures) (rw e at c.begin.ensures), (head_of _ ok).few, rw e at c.any_free-free.ensures)
 
 pub write_ends-requires : goal.write_ends-requires
 write_ends-requires c =
@@ -27,20 +26,17 @@ pub returns-then-not-counting : goal.returns-then-not-counting
 returns-then-not-counting c =
     let e = area_is c.source.view_is in
     let n = rw e at c.conditions-n.ensures.value in
-    let b = rw (c.conditions-n.ensures.value, c.top.ensures.value, e) at c.begin.ensures in
     rw c.if-not-counting.true
-    (solved_uncounted _ _ _ _ (rw e at c.conditions-n.ensures.sound) c.requires (rw e at c.mark_closure.ensures) b c.alternate.ensures.0 (rw n at c.write_ends.ensures) 0)
+    (solved_uncounted _ _ _ _ (rw e at c.conditions-n.ensures.sound) c.requires (rw e at c.mark_closure.ensures) (rw e at c.begin.ensures) c.alternate.ensures.0 (rw n at c.write_ends.ensures) 0)
 
 pub count_rounds-requires : goal.count_rounds-requires
 count_rounds-requires c =
     let e = area_is c.source.view_is in
     let ok = rw e at c.conditions-n.ensures.sound in
-    let b = rw (c.conditions-n.ensures.value, c.top.ensures.value, e) at c.begin.ensures in
-    (count_ready _ _ _ _ ok c.requires (rw e at c.mark_closure.ensures) b c.alternate.ensures.0, omega (arith, c.alternate.ensures.1, head_of _ ok), rw e at c.any_free-free.ensures)
+    (count_ready _ _ _ _ ok c.requires (rw e at c.mark_closure.ensures) (rw e at c.begin.ensures) c.alternate.ensures.0, omega (arith, c.alternate.ensures.1, head_of _ ok), rw e at c.any_free-free.ensures)
 
 pub returns : goal.returns
 returns c =
     let e = area_is c.source.view_is in
     let n = rw e at c.conditions-n.ensures.value in
-    let b = rw (c.conditions-n.ensures.value, c.top.ensures.value, e) at c.begin.ensures in
-    solved_counted _ _ _ _ (rw e at c.conditions-n.ensures.sound) c.requires (rw e at c.mark_closure.ensures) b c.alternate.ensures.0 (rw n at c.write_ends.ensures) _ c.count_rounds.ensures
+    solved_counted _ _ _ _ (rw e at c.conditions-n.ensures.sound) c.requires (rw e at c.mark_closure.ensures) (rw e at c.begin.ensures) c.alternate.ensures.0 (rw n at c.write_ends.ensures) _ c.count_rounds.ensures

@@ -8,7 +8,7 @@ use Rattle.ends.proofs.line_ends.Goals as goal
 pub rule_ends-requires : goal.rule_ends-requires
 rule_ends-requires c =
     let e = c.entry-line.ensures in
-    (c.requires.0, rule_of _ e.sound c.requires.1 (omega (arith, e.value.kind_is)), omega (arith, e.value.kind_is), c.requires.1.body)
+    (c.requires.0, rule_of _ e.sound c.requires.1 (omega (arith, e.value.kind_is)))
 
 pub returns-in-0 : goal.returns-in-0
 returns-in-0 c =

@@ -12,7 +12,7 @@ high_of-requires c = let r = rw (← c.page.view_is) at c.requires in first_nega
 pub fold_ends-r-requires : goal.fold_ends-r-requires
 fold_ends-r-requires c =
     let r = rw (← c.page.view_is) at c.requires in
-    (ends_foldable _ c.args.values.now c.args.at c.page.invariant r.0 r.1 c.high_of.ensures, r.2, r.3)
+    (ends_foldable _ c.args.values.now c.args.at c.page.invariant r.0 r.1 c.high_of.ensures, r.1.least, r.1.most)
 
 pub returns : goal.returns
 returns c =
@@ -21,8 +21,8 @@ returns c =
     let a = c.page.inside.numbers.now in
     let ok = c.page.invariant in
     rw (← c.page.view_is) (
-      rule_end_is a z.values.now z.at r.1 lower ok r.0.low r.2 r.3 c.fold_ends-r.ensures.low c.divided.ensures,
-      rule_end_is a (mirrored (top_of a) z.values.now) z.at r.1 upper ok r.0.high r.2 r.3
+      rule_end_is a z.values.now z.at r.1 lower ok r.0.low c.fold_ends-r.ensures.low c.divided.ensures,
+      rule_end_is a (mirrored (top_of a) z.values.now) z.at r.1 upper ok r.0.high
           (high_folded a z.values.now z.at ok r.0 r.1 c.high_of.ensures c.fold_ends-r.ensures.high)
           c.divided-2.ensures,
     )

@@ -8,28 +8,22 @@ use Rattle.std.proofs.lemmas.Grind.{get_or_default_zero}
 use Rattle.std.proofs.lemmas.Iterator.{YieldsList-from_slice}
 use Rattle.std.proofs.lemmas.Iterator.Adapters.{serves_from_places}
 use Rattle.std.proofs.lemmas.Iterator.Search.{any_from_yields_List}
-use Rattle.semantics.specs.Area.{top_of, conditions_of, literal_of}
+use Rattle.semantics.specs.Area.{literal_of}
 use Rattle.semantics.specs.Page.{mentions}
 use Rattle.bits.specs.Words.{has}
 use Rattle.followers.specs.Rows.{meets}
-use Rattle.page.proofs.Entries.{code_in}
 use Rattle.page.proofs.Head.{head_of}
-use Rattle.page.proofs.LineNumbers.{rule_in}
-use Rattle.layers.proofs.Literals.{codes_length, code_at}
+use Rattle.layers.proofs.Literals.{code_below}
 use Rattle.followers.proofs.Meeting.{literals_met}
 use Rattle.followers.proofs.literals_meet.Goals as goal
 
 pub any-requires-clause-callable : goal.any-requires-clause-callable
 any-requires-clause-callable c =
-    let z = c.args in
     let s = c.literals in
-    let w = head_of z.page.now s.ensures.sound in
-    let r = rule_in z.page.now s.ensures.sound c.requires.0 c.requires.1 c.requires.2 in
-    let n = codes_length z.page.now z.at r.fits s.ensures.value in
+    let w = head_of c.args.page.now s.ensures.sound in
     serves_from_places (YieldsList-from_slice s.result.now cc) (λ x q k. search rules)
     (λ x k l e.
-    let h = code_at z.page.now z.at r.fits s.ensures.value k (omega arith) in
-    let i = code_in (top_of z.page.now) (conditions_of z.page.now) z.page.now z.at r k (omega arith) in
+    let h = code_below c.args.page.now s.ensures.sound c.requires s.ensures.value k (omega arith) in
     let j = get_or_default_zero s.result.now k x.now l in
     λ a p n s f g. omega (arith, w.few))
 

@@ -1,7 +1,6 @@
 -- `layers::look_line` meets its contract, by the head and the kind of the line. Assumes nothing.
-use Prim.Native.Nat.{◌+◌, ◌≤◌}
 use native.Mathlib.Omega.{arith}
-use lib.ListN.{get_or}
+use Rattle.page.specs.Places.{RuleIn}
 use Rattle.page.proofs.LineNumbers.{rule_in}
 use Rattle.layers.proofs.Looking.{line_looked, fact_looked, over_looked}
 use Rattle.layers.proofs.look_line.Goals as goal
@@ -10,9 +9,8 @@ pub returns-in-1-to-5 : goal.returns-in-1-to-5
 returns-in-1-to-5 c =
     let z = c.args in
     let e = c.entry-line.ensures in
-    let l : 1 ≤ get_or z.page.now (z.at + 1) 0 = omega (arith, e.value.kind_is) in
-    let u : get_or z.page.now (z.at + 1) 0 ≤ 5 = omega (arith, e.value.kind_is) in
-    line_looked z.page.now z.at z.levels.now z.level (rule_in _ e.sound c.requires.0 l u) l u (rw e.value.condition_is at c.if-levels-line.false) c.look_rule.result c.look_rule.ensures
+    let r : RuleIn z.page.now z.at = record { line = c.requires.0; least = omega (arith, e.value.kind_is); most = omega (arith, e.value.kind_is) } in
+    line_looked z.page.now z.at z.levels.now z.level (rule_in _ e.sound r) (rw e.value.condition_is at c.if-levels-line.false) c.look_rule.result c.look_rule.ensures
 
 pub returns-in_default : goal.returns-in_default
 returns-in_default c = fact_looked c.args.page.now c.args.at c.args.levels.now c.args.level (omega (arith, c.entry-line.ensures.value.kind_is))

@@ -1,14 +1,17 @@
--- `numbers_tell` meets its contract. The loop's invariant: the D numbers up to c tell.
-use mathlib.Core.Path.{sym}
+-- `numbers_tell` asks of one D number after the other, until one does not tell.
+use mathlib.Core.Path.{refl, ◌∙◌}
 use native.Mathlib.Omega.{arith}
-use Rattle.semantics.proofs.Table.{all_true}
+use borrow.Author.Rules.{rules}
+use borrow.Author.Tests.{tests}
+use Rattle.std.proofs.lemmas.Iterator.{YieldsList-from_range}
+use Rattle.std.proofs.lemmas.Iterator.Search.{all_from_yields_List}
 use Rattle.semantics.specs.Area.{conditions_of}
 use Rattle.page.specs.Checks.{number_tells}
-use Rattle.page.proofs.Defaults.{number_bad}
+use Rattle.page.proofs.Searching.{all_in_range}
 use Rattle.page.proofs.numbers_tell.Goals as goal
 
-pub returns-then-not-number_tells : goal.returns-then-not-number_tells
-returns-then-not-number_tells c = number_bad c.args.a.now c.args.seen.now.words c.loop-c-test.true (sym c.if-not-number_tells.ensures)
-
 pub returns : goal.returns
-returns c = let z = c.args in sym (all_true (conditions_of z.a.now) (number_tells z.a.now z.seen.now.words) (λ d l. c.loop-c.invariant d (omega arith)))
+returns c =
+    let f = number_tells c.args.a.now c.args.seen.now.words in
+    let n = conditions_of c.args.a.now in
+    all_from_yields_List f _ _ _ c.all.ensures.ran (YieldsList-from_range 0 n n refl (omega arith)) (λ x b q k. search (rules, tests)) ∙ all_in_range f n

@@ -13,7 +13,7 @@ use Rattle.reach.proofs.insert_line.Goals as goal
 pub insert_literals-requires : goal.insert_literals-requires
 insert_literals-requires g c =
     let e = c.entry-line.ensures in
-    rw c.literals.ensures.value (rule_codes (rule_in _ e.sound c.requires (omega (arith, e.value.kind_is)) (omega (arith, e.value.kind_is))) e.inside.1)
+    rw c.literals.ensures.value (rule_codes (rule_in _ e.sound (record { line = c.requires; least = omega (arith, e.value.kind_is); most = omega (arith, e.value.kind_is) })) e.inside.1)
 
 pub returns-in-1-to-5 : goal.returns-in-1-to-5
 returns-in-1-to-5 g c =

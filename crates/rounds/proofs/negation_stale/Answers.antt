@@ -1,13 +1,22 @@
--- `negation_stale` looks at one line after the other (`Searching`).
-use Rattle.page.proofs.Steps.{stepped, passed_all}
-use Rattle.rounds.proofs.Stale.{searching_first, searching_next, searching_last}
+-- `negation_stale` asks of one line after the other.
+use Rattle.std.proofs.Common.{[], ◌∷◌, drop, rules, tests}
+use Rattle.std.proofs.lemmas.Iterator.{cases_from_any}
+use Rattle.std.proofs.lemmas.Iterator.Adapters.{serves_from_places}
+use Rattle.semantics.specs.Area.{line_at, count_of}
+use Rattle.page.specs.Places.{LineIn}
+use Rattle.rounds.specs.Round.{LinesHave}
+use Rattle.rounds.proofs.Stale.{SomeStale, AllFresh, searched_by, places, places_in, lines_give, lines_have}
 use Rattle.rounds.proofs.negation_stale.Goals as goal
 
-pub loop-at-init : goal.loop-at-init
-loop-at-init c = let b = c.lines-at-items.ensures in rw c.into_iter-at-iterator.ensures.into_iter_gives (b.scan.same, searching_first b.sound b.scan.place b.scan.count)
-
-pub loop-at-preserved : goal.loop-at-preserved
-loop-at-preserved c = let s = stepped c.loop-at.invariant.0 c.in-Some.ensures.steps in (s.same, searching_next c.loop-at.invariant.1 s.more (rw s.here at c.line_stale.ensures) c.if-line_stale.false s.next)
+pub any-requires-clause-callable : goal.any-requires-clause-callable
+any-requires-clause-callable c =
+    let a = c.args.page.now in
+    serves_from_places (lines_give c.lines.ensures.scan) (λ x q k. search rules) (λ x k l e. let line : LineIn a x = rw e (places_in a k x l) in search rules)
 
 pub returns : goal.returns
-returns c = searching_last c.loop-at.invariant.1 (passed_all c.loop-at.invariant.0 c.in-None.ensures.steps)
+returns c =
+    let a = c.args.page.now in
+    let s = c.args.scratch.now in
+    searched_by a s (λ at. LinesHave (line_at (drop at a) ∷ [])) (places a 0 (count_of a)) _
+    (cases_from_any c.any.new.self _ _ (λ at. SomeStale a s) (λ at. AllFresh a s (LinesHave (line_at (drop at a) ∷ []))) c.any.ensures.ran (lines_give c.lines.ensures.scan) (λ x q k. search (rules, tests)) (λ x q k. search (rules, tests)))
+    (lines_have a c.lines.ensures.sound)

@@ -9,9 +9,6 @@ returns-in_err-page c =
     let f = c.in_err-page.ensures in
     rw (p.1, p.2, f.0) (refuses_10 _ _ f.1)
 
-pub check_run-requires : goal.check_run-requires
-check_run-requires c = let f = c.in_ok-page.ensures in rw f.0 f.1
-
 pub returns-in_err-check_run : goal.returns-in_err-check_run
 returns-in_err-check_run c =
     let p = err_from_is_err_and c.from_residual-in_err-check_run.result c.from_residual-in_err-check_run.ensures.1 in

@@ -9,8 +9,5 @@ returns-in_err-page c =
     let p = err_from_is_err_and c.from_residual.result c.from_residual.ensures.1 in
     rw (p.1, p.2) (c.in_err-page.ensures.answers (drive c.args.allowance))
 
-pub drive_over-requires : goal.drive_over-requires
-drive_over-requires c = let s = c.in_ok-page.ensures in rw (c.scanned.ensures, s.0) s.2
-
 pub returns : goal.returns
 returns c = let s = c.in_ok-page.ensures in drive_answers _ _ _ s.1 s.2 (rw (c.scanned.ensures, s.0) at c.drive_over.ensures)

@@ -1,22 +1,10 @@
 -- `run::drive_indexed` meets its contract. Assumes nothing.
 use mathlib.Core.Path.{sym, ◌∙◌}
 use native.Mathlib.Omega.{arith}
-use lib.Seq.{length-take-le}
-use Rattle.std.proofs.lemmas.Result.{err_from_is_err_and}
-use Rattle.semantics.specs.Call.{drive}
 use Rattle.semantics.proofs.Workspaces.{workspace_short, workspace_used, drive_workspace_lem}
 use Rattle.index.proofs.Parts.{erased_front}
 use Rattle.run.proofs.Driving.{drive_answers}
 use Rattle.run.proofs.drive_indexed.Goals as goal
-
-pub returns-in_err-page : goal.returns-in_err-page
-returns-in_err-page c =
-    let p = err_from_is_err_and c.from_residual.result c.from_residual.ensures.1 in
-    let f = c.in_err-page.ensures in
-    record { answer = rw (p.1, p.2) (f.answers (drive c.args.allowance)); workspace = f.workspace c.args.workspace.now }
-
-pub drive_over-requires : goal.drive_over-requires
-drive_over-requires c = let s = c.in_ok-page.ensures in rw (c.scanned.ensures, s.0) s.2
 
 pub returns-then-workspace-m : goal.returns-then-workspace-m
 returns-then-workspace-m c =
@@ -27,12 +15,6 @@ returns-then-workspace-m c =
       answer = drive_answers _ _ _ s.1 s.2 (rw (c.scanned.ensures, s.0) at c.drive_over.ensures);
       workspace = workspace_short z.page.now z.workspace.now (omega (arith, m, c.if-workspace-m.true)) ∙ sym (drive_workspace_lem z.page.now z.run.now z.workspace.now s.1 s.2);
     }
-
-pub slice_bounds-drive_built-end-2 : goal.slice_bounds-drive_built-end-2
-slice_bounds-drive_built-end-2 c = sym (length-take-le _ _ (omega (arith, c.if-workspace-m.false)))
-
-pub drive_built-drove-requires : goal.drive_built-drove-requires
-drive_built-drove-requires c = let s = c.in_ok-page.ensures in (rw s.0 s.2, length-take-le _ _ (omega (arith, c.if-workspace-m.false)) ∙ c.index_length-m.ensures.0)
 
 pub returns : goal.returns
 returns c =

@@ -1,7 +1,5 @@
 -- `run::drive_steps` meets its contract. Assumes nothing.
-use native.Mathlib.Omega.{arith}
 use Rattle.page.proofs.Head.{head_of}
-use Rattle.worklist.proofs.Evaluation.{long_of}
 use Rattle.worklist.proofs.Matching.{lowest_waits, none_waits}
 use Rattle.run.proofs.Driving.{driving_first, driving_rests, driving_spends, driving_next}
 use Rattle.run.proofs.drive_steps.Goals as goal
@@ -15,24 +13,12 @@ returns-then-spent c =
     let w = lowest_waits i.2 (rw c.in-Some.is at c.lowest.ensures) in
     driving_spends _ _ _ i.0 i.1 w c.if-spent.true
 
-pub held-requires : goal.held-requires
-held-requires c =
-    let i = c.loop-c.invariant in
-    let w = lowest_waits i.2 (rw c.in-Some.is at c.lowest.ensures) in
-    omega (arith, w.within, long_of c.args.source.now.area _ i.0.run_sound)
-
-pub step-requires : goal.step-requires
-step-requires c =
-    let i = c.loop-c.invariant in
-    let w = lowest_waits i.2 (rw c.in-Some.is at c.lowest.ensures) in
-    (i.0.run_sound, w.within, w.found, i.1)
-
 pub loop-c-preserved : goal.loop-c-preserved
 loop-c-preserved c =
     let i = c.loop-c.invariant in
     let w = lowest_waits i.2 (rw c.in-Some.is at c.lowest.ensures) in
     let v = c.step.ensures in
-    (driving_next _ _ _ i.0 w c.if-spent.false v.evaluated c.step.auto.run c.held.ensures, v.beside, v.set_kept.kept i.2)
+    (driving_next _ _ _ i.0 w c.if-spent.false v.evaluated c.held.ensures, v.beside, v.set_kept.kept i.2)
 
 pub returns : goal.returns
 returns c =

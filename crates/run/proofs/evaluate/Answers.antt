@@ -10,8 +10,5 @@ returns-in_err-page c =
     let f = c.in_err-page.ensures in
     rw (p.1, p.2, f.0) (refused_10 _ _ f.1 (evaluate c.args.condition))
 
-pub evaluate_sound-requires : goal.evaluate_sound-requires
-evaluate_sound-requires c = let f = c.in_ok-page.ensures in rw f.0 f.1
-
 pub returns : goal.returns
 returns c = rw c.in_ok-page.ensures.0 at c.evaluate_sound.ensures

@@ -27,11 +27,6 @@ returns-then-not-waits c =
     let i = c.in_ok-c.ensures in
     evaluate_16 _ _ c.requires c.in_ok-check_run.ensures c.args.condition i.1 (rw i.0 at c.if-not-waits.true)
 
-pub evaluate_waiting-requires : goal.evaluate_waiting-requires
-evaluate_waiting-requires c =
-    let i = c.in_ok-c.ensures in
-    (c.in_ok-check_run.ensures, rw i.0 i.1, c.if-not-waits.false)
-
 pub returns : goal.returns
 returns c =
     let i = c.in_ok-c.ensures in

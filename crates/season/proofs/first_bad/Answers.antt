@@ -1,17 +1,20 @@
--- `season::first_bad` meets its contract. The loop's invariant: the first bad pair is the first from place i on. Assumes nothing.
-use mathlib.Core.Path.{sym, ◌∙◌}
+-- `season::first_bad` meets its contract: no pair before the place is bad. Assumes nothing.
+use mathlib.Core.Bool.{true, false}
+use mathlib.Core.Path.{◌≡◌}
 use Prim.Native.Nat.{◌+◌}
-use native.Mathlib.Omega.{arith}
-use Rattle.season.proofs.Pairs.{bad_here, bad_later, bad_none}
+use borrow.Author.Rules.{rules}
+use borrow.Author.Tests.{tests}
+use Rattle.std.specs.Option.{option_map}
+use Rattle.std.proofs.lemmas.Iterator.{IsFirst-from_position}
+use Rattle.semantics.specs.Season.{pairs_in, bad_pair}
+use Rattle.season.proofs.Pairs.{gives_pairs, first_place}
 use Rattle.season.proofs.first_bad.Goals as goal
 
-pub returns-then-is_bad : goal.returns-then-is_bad
-returns-then-is_bad c =
-    c.loop-i.invariant ∙ bad_here c.args.pairs.now (c.loop-i.i + 1) c.loop-i.i (omega arith) (sym c.is_bad.ensures ∙ c.if-is_bad.true)
-
-pub loop-i-preserved : goal.loop-i-preserved
-loop-i-preserved c =
-    c.loop-i.invariant ∙ bad_later c.args.pairs.now (c.loop-i.i + 1) c.loop-i.i (omega arith) (sym c.is_bad.ensures ∙ c.if-is_bad.false)
-
 pub returns : goal.returns
-returns c = c.loop-i.invariant ∙ bad_none c.args.pairs.now (c.loop-i.i + 1) c.loop-i.i (omega arith)
+returns c =
+    let s = c.args.pairs.now in
+    let e = c.chunks_exact.ensures in
+    let place : c.map.result ≡ option_map (λ i. i + 1) c.position.result = search rules in
+    rw place
+    (first_place 1 (pairs_in s) c.position.result
+    (IsFirst-from_position _ _ _ (λ p. bad_pair p ≡ true) (λ p. bad_pair p ≡ false) c.position.ensures.ran (gives_pairs s e.size e.rest) (λ x q k. search (rules, tests)) (λ x q k. search (rules, tests))))

@@ -1,4 +1,4 @@
--- `wake` inserts the heads of the rules that have the literal (`woken_by`), or does nothing (`woken_none`).
+-- `wake` inserts the heads of the rules that have the literal (`woken_by`), or does nothing.
 use native.Mathlib.Omega.{arith}
 use Rattle.settle.proofs.Waking.{joined_next, heads_small, woken_by}
 use Rattle.settle.proofs.wake.Goals as goal

@@ -8,7 +8,7 @@ use Rattle.solve.proofs.note_queries.Goals as goal
 pub loop-at-init : goal.loop-at-init
 loop-at-init c =
     let l = c.lines-at-items.ensures in
-    rw c.into_iter-at-iterator.ensures.into_iter_gives (l.scan.same, noting_first c.args.page.now c.args.queries.now l.sound c.requires l.scan.place l.scan.count)
+    rw c.into_iter-at-iterator.ensures.into_iter_gives (l.scan.same, noting_first c.args.page.now c.args.queries.now l.sound c.told-queries l.scan.place l.scan.count)
 
 pub note_query-k-requires : goal.note_query-k-requires
 note_query-k-requires c =

@@ -1,5 +1,5 @@
 -- `solve::solve` meets its contract: the queries are noted, and both readings of them written (`Solving`). Assumes nothing.
-use mathlib.Core.Path.{refl, ◌∙◌}
+use mathlib.Core.Path.{◌∙◌}
 use native.Mathlib.Omega.{arith}
 use Rattle.page.proofs.Head.{head_of}
 use Rattle.solve.proofs.Solving.{noted_length, noted_under, ready, closed_solved, figures_solved}
@@ -9,7 +9,7 @@ pub solve_runs-requires : goal.solve_runs-requires
 solve_runs-requires c =
     let a = c.args.page.now in
     let q = c.note_queries-k.ensures in
-    (noted_under a q.noted q.sound, refl, omega (arith, noted_length a q.noted, q.noted.within, c.requires.0))
+    (noted_under a q.noted q.sound, omega (arith, noted_length a q.noted, q.noted.within, c.requires.0))
 
 pub solve_over-requires : goal.solve_over-requires
 solve_over-requires c =

@@ -16,13 +16,13 @@ drive_built-requires c =
     let m = c.index_length-m.ensures in
     let w = rw (n.value, c.top.ensures.value) at c.write_run.ensures in (
       opened_sound c.args.page.now n.sound c.args.queries.now c.requires.0 _ (omega (arith, n.value, n.few)) c.mark_closure.ensures w,
-      length-take-le _ _ (omega (arith, c.requires.1, m.1)) ∙ m.0,
+      length-take-le _ _ (omega (arith, c.told-workspace, m.1)) ∙ m.0,
     )
 
 pub write_ends-requires : goal.write_ends-requires
 write_ends-requires c =
     let n = c.conditions.ensures in
-    (λ k l. omega (arith, under_at (conditions_of c.args.page.now) c.args.queries.now c.requires.0 k l, n.value, n.few, c.drive_built.auto.run), c.requires.2)
+    (λ k l. omega (arith, under_at (conditions_of c.args.page.now) c.args.queries.now c.requires.0 k l, n.value, n.few, c.drive_built.auto.run), c.requires.1)
 
 pub returns : goal.returns
 returns c =

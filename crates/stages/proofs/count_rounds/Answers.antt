@@ -28,10 +28,14 @@ pub overflow_add-k : goal.overflow_add-k
 overflow_add-k c = omega (arith, rounds_small c.loop-look.invariant)
 
 pub loop-look-smaller : goal.loop-look-smaller
-loop-look-smaller c = rounds_less c.loop-look.invariant (c.support-fell.ensures c.loop-look.k c.loop-look.invariant.at) (c.advance.ensures c.loop-look.k (c.support-fell.ensures c.loop-look.k c.loop-look.invariant.at).at) c.if-not-advance.false
+loop-look-smaller c =
+    let i = c.loop-look.invariant in
+    let x = c.support-fell.ensures c.loop-look.k i.at in rounds_less i x (c.advance.ensures c.loop-look.k x.at) c.if-not-advance.false
 
 pub loop-look-preserved : goal.loop-look-preserved
-loop-look-preserved c = rounds_next c.loop-look.invariant (c.support-fell.ensures c.loop-look.k c.loop-look.invariant.at) (c.advance.ensures c.loop-look.k (c.support-fell.ensures c.loop-look.k c.loop-look.invariant.at).at) c.if-not-advance.false
+loop-look-preserved c =
+    let i = c.loop-look.invariant in
+    let x = c.support-fell.ensures c.loop-look.k i.at in rounds_next i x (c.advance.ensures c.loop-look.k x.at) c.if-not-advance.false
 
 byte_small : (b : Bool) → bool_byte b ≤ 1
 byte_small true = omega arith

@@ -3,9 +3,6 @@ use Rattle.stalls.specs.Answers.{stall_of}
 use Rattle.stalls.proofs.Lent.{evaluates_lent}
 use Rattle.stalls.proofs.evaluate_stall.Goals as goal
 
-pub evaluate_sound-requires : goal.evaluate_sound-requires
-evaluate_sound-requires c = let p = c.in_ok-page.ensures in rw p.0 p.1
-
 pub returns : goal.returns
 returns c =
     let p = c.in_ok-page.ensures in

@@ -3,9 +3,6 @@ use Rattle.stalls.specs.Answers.{stall_of}
 use Rattle.stalls.proofs.Lent.{opens_lent}
 use Rattle.stalls.proofs.open_stall.Goals as goal
 
-pub open_sound-requires : goal.open_sound-requires
-open_sound-requires c = let p = c.in_ok-page.ensures in rw p.0 p.1
-
 pub returns : goal.returns
 returns c =
     let p = c.in_ok-page.ensures in

@@ -6,32 +6,32 @@ use Rattle.stalls.proofs.turn_sound.Goals as goal
 
 pub overflow_sub-allowance : goal.overflow_sub-allowance
 unfolding half
-overflow_sub-allowance c = within_1 c.args.page.now c.args.area.now c.args.allowance c.requires.0 c.requires.1 c.requires.2 c.requires.3 c.drive_part-half.ensures
+overflow_sub-allowance c = within_1 _ _ c.args.allowance c.requires c.drive_part-half.ensures
 
 pub drive_part-second-requires : goal.drive_part-second-requires
 unfolding half
 drive_part-second-requires c =
     let d = c.drive_part-half.ensures in
-    (c.requires.0, long_1 c.args.page.now c.args.area.now c.args.allowance c.requires.0 c.requires.1 c.requires.2 c.requires.3 d, sound_1 c.args.page.now c.args.area.now c.args.allowance c.requires.0 c.requires.1 c.requires.2 c.requires.3 d)
+    (c.requires.0, long_1 _ _ c.args.allowance c.requires d, sound_1 _ _ c.args.allowance c.requires d)
 
 pub overflow_add-both : goal.overflow_add-both
 unfolding half
-overflow_add-both c = omega (arith, within_2 c.args.page.now c.args.area.now c.args.allowance c.requires.0 c.requires.1 c.requires.2 c.requires.3 c.drive_part-half.ensures c.drive_part-second.ensures)
+overflow_add-both c = omega (arith, within_2 _ _ c.args.allowance c.requires c.drive_part-half.ensures c.drive_part-second.ensures)
 
 pub overflow_sub-allowance-2 : goal.overflow_sub-allowance-2
 unfolding half
-overflow_sub-allowance-2 c = within_2 c.args.page.now c.args.area.now c.args.allowance c.requires.0 c.requires.1 c.requires.2 c.requires.3 c.drive_part-half.ensures c.drive_part-second.ensures
+overflow_sub-allowance-2 c = within_2 _ _ c.args.allowance c.requires c.drive_part-half.ensures c.drive_part-second.ensures
 
 pub drive_part-more-requires : goal.drive_part-more-requires
 unfolding half
 drive_part-more-requires c =
     let d = c.drive_part-half.ensures in
     let e = c.drive_part-second.ensures in
-    (c.requires.0, long_2 c.args.page.now c.args.area.now c.args.allowance c.requires.0 c.requires.1 c.requires.2 c.requires.3 d e, sound_2 c.args.page.now c.args.area.now c.args.allowance c.requires.0 c.requires.1 c.requires.2 c.requires.3 d e)
+    (c.requires.0, long_2 _ _ c.args.allowance c.requires d e, sound_2 _ _ c.args.allowance c.requires d e)
 
 pub overflow_add-taken : goal.overflow_add-taken
 unfolding half
-overflow_add-taken c = omega (arith, within_3 c.args.page.now c.args.area.now c.args.allowance c.requires.0 c.requires.1 c.requires.2 c.requires.3 c.drive_part-half.ensures c.drive_part-second.ensures c.drive_part-more.ensures)
+overflow_add-taken c = omega (arith, within_3 _ _ c.args.allowance c.requires c.drive_part-half.ensures c.drive_part-second.ensures c.drive_part-more.ensures)
 
 pub returns : goal.returns
 unfolding half
@@ -40,6 +40,6 @@ returns c =
     let e = c.drive_part-second.ensures in
     let f = c.drive_part-more.ensures in
     record {
-      answer = turn_answers c.args.page.now c.args.area.now c.args.allowance c.requires.0 c.requires.1 c.requires.2 c.requires.3 d e f;
-      left = turn_area c.args.page.now c.args.area.now c.args.allowance c.requires.0 c.requires.1 c.requires.2 c.requires.3 d e f;
+      answer = turn_answers _ _ c.args.allowance c.requires d e f;
+      left = turn_area _ _ c.args.allowance c.requires d e f;
     }

@@ -12,7 +12,7 @@ entry-line-requires c = line_in c.requires.1
 pub rule_end-requires : goal.rule_end-requires
 rule_end-requires c =
     let e = c.entry-line.ensures in
-    (c.requires.0, rule_of _ e.sound c.requires.1 (omega (arith, e.value.kind_is)), omega (arith, e.value.kind_is), c.requires.1.body, (side c.args.end, c.requires.2))
+    (c.requires.0, rule_of _ e.sound c.requires.1 (omega (arith, e.value.kind_is)), (side c.args.end, c.requires.2))
 
 pub returns-in-Lower : goal.returns-in-Lower
 returns-in-Lower c = let e = c.entry-line.ensures in rw (c.in-Lower.is, e.value.x_is) (line_fact _ e.sound c.requires.1 _ lower (omega (arith, e.value.kind_is)))

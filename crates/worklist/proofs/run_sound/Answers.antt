@@ -1,18 +1,21 @@
--- `worklist::run_sound` meets its contract. Assumes nothing.
-use mathlib.Core.Path.{sym, ◌∙◌}
+-- `run_sound` asks of one cell after the other, until one is not sound.
+use mathlib.Core.Path.{refl, ◌∙◌}
 use native.Mathlib.Omega.{arith}
-use Rattle.worklist.proofs.Soundness.{run_short, run_bad, run_ok}
+use borrow.Author.Rules.{rules}
+use borrow.Author.Tests.{tests}
+use Rattle.std.proofs.lemmas.Iterator.{YieldsList-from_range}
+use Rattle.std.proofs.lemmas.Iterator.Search.{all_from_yields_List}
+use Rattle.page.proofs.Searching.{all_in_range}
+use Rattle.worklist.proofs.Soundness.{cell_ok, run_short, run_long}
 use Rattle.worklist.proofs.run_sound.Goals as goal
 
 pub returns-then-run-n : goal.returns-then-run-n
 returns-then-run-n c = run_short c.args.page.now c.args.run.now (omega (arith, c.if-run-n.true, c.conditions-n.ensures.value))
 
-pub returns-then-not-cell_ok : goal.returns-then-not-cell_ok
-returns-then-not-cell_ok c =
-    let n = c.conditions-n.ensures.value in
-    run_bad c.args.page.now c.args.run.now (omega (arith, n)) c.loop-c.c (omega (arith, n)) (rw c.top-top.ensures.value at (sym c.cell_ok.ensures ∙ c.if-not-cell_ok.true))
-
 pub returns : goal.returns
 returns c =
-    let n = c.conditions-n.ensures.value in
-    run_ok c.args.page.now c.args.run.now (omega (arith, n)) (λ k l. rw c.top-top.ensures.value at (c.loop-c.invariant k (omega (arith, n))))
+    let run = c.args.run.now in
+    let n = c.conditions-n.result in
+    let f = cell_ok run c.top-top.result in
+    all_from_yields_List f _ _ _ c.all.ensures.ran (YieldsList-from_range 0 n n refl (omega arith)) (λ x b q k. search (rules, tests)) ∙ all_in_range f n
+    ∙ run_long c.args.page.now run c.conditions-n.ensures.value c.top-top.ensures.value (omega (arith, c.if-run-n.false))

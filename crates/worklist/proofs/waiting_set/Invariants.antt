@@ -3,4 +3,4 @@ use Rattle.worklist.proofs.Digits.{Filled}
 use Rattle.worklist.proofs.waiting_set.Given as goal
 
 abbrev pub invariant-loop-w : goal.invariant-loop-w
-invariant-loop-w l = Filled l.n l.w l.run l.words
+invariant-loop-w l = Filled l.n l.w l.run l.word-items

@@ -12,9 +12,3 @@ returns-in-Some c =
       dependants_marked c.args.source.now.area i.sound c.args.c i.found.1 g.0,
       record { kept = λ w. dependants_kept c.args.source.now.area i.sound c.args.c i.found.1 g.0 g.1 w },
     )
-
-pub wake_by_scan-requires : goal.wake_by_scan-requires
-wake_by_scan-requires c = rw (← c.source.view_is) at c.requires.0
-
-pub returns-in-None : goal.returns-in-None
-returns-in-None c = rw (← c.source.view_is) c.wake_by_scan.ensures

@@ -3,9 +3,6 @@ use native.Mathlib.Omega.{arith}
 use Rattle.worklist.proofs.Matching.{still_inserted}
 use Rattle.worklist.proofs.wake_head.Goals as goal
 
-pub insert-requires : goal.insert-requires
-insert-requires c = omega (arith, c.entry-line.ensures.inside)
-
 pub returns-then-line_names-clause-set : goal.returns-then-line_names-clause-set
 returns-then-line_names-clause-set c =
     let l = c.entry-line.ensures.inside.0 in

@@ -10,27 +10,27 @@ returns-in_err-known c =
     let a = c.args in
     let p = err_from_is_err_and c.from_residual.result c.from_residual.ensures.1 in
     let e : c.in_err-known.field-0.0 ≡ Form = cc (rw c.in_err-known.ensures.ok_part at c.in_err-known.ensures.value) in
-    rw (p.1, p.2, e) (no_form_told a.bytes.now a.at a.before a.top a.conditions (rw c.in_err-known.ensures.ok_part at c.parse_trial.ensures))
+    rw (p.1, p.2, e) (no_form_told a.bytes.now a.at a.before a.limits.top a.limits.conditions (rw c.in_err-known.ensures.ok_part at c.parse_trial.ensures))
 
 pub returns-then-known-ge65536 : goal.returns-then-known-ge65536
 returns-then-known-ge65536 c =
     let a = c.args in
-    far_told a.bytes.now a.at a.before a.top a.conditions (rw c.in_ok-known.ensures.ok_part at c.parse_trial.ensures) c.requires.1 c.if-known-ge65536.true
+    far_told a.bytes.now a.at a.before a.limits.top a.limits.conditions (rw c.in_ok-known.ensures.ok_part at c.parse_trial.ensures) c.requires.1 c.if-known-ge65536.true
 
 pub returns-in_err-check_range : goal.returns-in_err-check_range
 returns-in_err-check_range c =
     let a = c.args in
     let p = err_from_is_err_and c.from_residual-in_err-check_range.result c.from_residual-in_err-check_range.ensures.1 in
-    rw (p.1, p.2) (range_first a.bytes.now a.at a.before a.top a.conditions (rw c.in_ok-known.ensures.ok_part at c.parse_trial.ensures) c.requires.1 c.if-known-ge65536.false c.in_err-check_range.ensures)
+    rw (p.1, p.2) (range_first a.bytes.now a.at a.before a.limits.top a.limits.conditions (rw c.in_ok-known.ensures.ok_part at c.parse_trial.ensures) c.requires.1 c.if-known-ge65536.false c.in_err-check_range.ensures)
 
 pub returns-in_err-check_order : goal.returns-in_err-check_order
 returns-in_err-check_order c =
     let a = c.args in
     let p = err_from_is_err_and c.from_residual-in_err-check_order.result c.from_residual-in_err-check_order.ensures.1 in
     rw (p.1, p.2)
-    (order_first a.bytes.now a.at a.before a.top a.conditions (rw c.in_ok-known.ensures.ok_part at c.parse_trial.ensures) c.requires.1 c.if-known-ge65536.false c.in_ok-check_range.ensures c.in_err-check_order.ensures)
+    (order_first a.bytes.now a.at a.before a.limits.top a.limits.conditions (rw c.in_ok-known.ensures.ok_part at c.parse_trial.ensures) c.requires.1 c.if-known-ge65536.false c.in_ok-check_range.ensures c.in_err-check_order.ensures)
 
 pub returns : goal.returns
 returns c =
     let a = c.args in
-    a_good_line a.bytes.now a.at a.before a.top a.conditions (rw c.in_ok-known.ensures.ok_part at c.parse_trial.ensures) c.requires.1 c.if-known-ge65536.false c.in_ok-check_range.ensures c.in_ok-check_order.ensures
+    a_good_line a.bytes.now a.at a.before a.limits.top a.limits.conditions (rw c.in_ok-known.ensures.ok_part at c.parse_trial.ensures) c.requires.1 c.if-known-ge65536.false c.in_ok-check_range.ensures c.in_ok-check_order.ensures

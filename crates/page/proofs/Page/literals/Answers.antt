@@ -3,4 +3,4 @@ use Rattle.page.proofs.LineNumbers.{rule_in}
 use Rattle.page.proofs.Page.literals.Goals as goal
 
 pub literals_at-requires : goal.literals_at-requires
-literals_at-requires c = let r = rw (← c.self.view_is) at c.requires in (rule_in c.self.inside.numbers.now c.self.invariant r.0 r.1 r.2).fits
+literals_at-requires c = (rule_in c.self.inside.numbers.now c.self.invariant (rw (← c.self.view_is) at c.requires)).fits

@@ -1,16 +1,21 @@
--- `line_end` meets its contract: a turn follows the line by one byte, `Following`. Assumes nothing.
-use Rattle.std.proofs.Common.{◌≡◌, length, arith}
-use Rattle.reader.proofs.Shows.{following_next, at_newline, at_end}
+-- `line_end` meets its contract: no byte before the first byte 10 is one. Assumes nothing.
+use mathlib.Core.Path.{◌≡◌}
+use mathlib.Core.Logic.{◌≢◌}
+use Prim.Native.Nat.{◌-◌}
+use native.Mathlib.Omega.{arith}
+use lib.ListN.{length, take, drop, length-drop}
+use lib.Seq.{take_all}
+use borrow.Author.Rules.{rules}
+use borrow.Author.Tests.{tests}
+use Rattle.std.proofs.lemmas.Iterator.{YieldsList-from_slice, IsFirst-from_position}
+use Rattle.reader.proofs.Shows.{line_stops}
 use Rattle.reader.proofs.show.line_end.Goals as goal
-
-pub returns-then-bytes-i-eq10 : goal.returns-then-bytes-i-eq10
-returns-then-bytes-i-eq10 c = at_newline c.args.bytes.now c.args.at c.loop-i.i c.loop-i.invariant c.loop-i-test.true c.if-bytes-i-eq10.true
-
-pub loop-i-preserved : goal.loop-i-preserved
-loop-i-preserved c = following_next c.args.bytes.now c.args.at c.loop-i.i c.loop-i.invariant c.loop-i-test.true c.if-bytes-i-eq10.false
 
 pub returns : goal.returns
 returns c =
-    let w = c.loop-i.invariant in
-    let e : c.loop-i.i ≡ length c.args.bytes.now = omega (arith, c.loop-i-test.false, w.inside) in
-    rw e at (at_end c.args.bytes.now c.args.at c.loop-i.i w c.loop-i-test.false)
+    let a = c.args in
+    let s = a.bytes.now in
+    let rest = take (length s - a.at) (drop a.at s) in
+    rw c.unwrap_or.ensures
+    (line_stops s a.at c.requires (take_all (length s - a.at) (drop a.at s) (omega (arith, length-drop a.at s))) c.position.result
+    (IsFirst-from_position _ _ _ (λ b. b ≡ 10) (λ b. b ≢ 10) c.position.ensures.ran (YieldsList-from_slice rest c.iter.ensures.rest) (λ x q k. search (rules, tests)) (λ x q k. search (rules, tests))))

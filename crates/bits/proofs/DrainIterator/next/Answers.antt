@@ -1,7 +1,7 @@
 -- `Drain::next` leaves one less in the set.
 use borrow.Author.Rules.{rules}
-use Rattle.settle.proofs.Members.{fewer}
-use Rattle.stages.proofs.DrainIterator.next.Goals as goal
+use Rattle.bits.proofs.Members.{fewer}
+use Rattle.bits.proofs.DrainIterator.next.Goals as goal
 
 pub returns-clause-goes : goal.returns-clause-goes
 returns-clause-goes c =
