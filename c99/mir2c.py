@@ -67,7 +67,7 @@ ONCE = '''#ifdef __GNUC__
 # would each keep the slices at hand once more), and what runs beside these calls keeps its frame to itself. The iterator over the lines of a page
 # is a part of each loop over it, so that its numbers are locals there, and what the library has is a part of its callers: a statement or a few. Some
 # functions of the reader are parts for the same reason: what they answer is locals then.
-PARTS = {'page::defaults_ok', 'stages::support', 'stages::advance', 'stages::follow', 'stages::take_highs', 'settle::Figures::raise',
+PARTS = {'stages::support', 'stages::advance', 'stages::follow', 'stages::take_highs', 'settle::Figures::raise',
          'rounds::round', 'page::Page::of', 'page::Page::lines', 'page::Page::entry', 'page::entry_at', 'page::Lines::checked',
          'page::LinesIterator::next', 'reach::follow', 'reach::pass', 'picks::judge', 'run::check_areas', 'run::reached',
          'stalls::part_at', 'stalls::check_shared', 'fields::digits', 'fields::digits_from', 'lines::parse_pair', 'reader::write::checked_pair'}

@@ -1,6 +1,6 @@
 -- The D lines of a page area, collected in a scan, and the D numbers held to them. Assumes nothing.
 use mathlib.Core.Path.{◌≡◌, refl, sym, ◌∙◌, ap}
-use mathlib.Core.Logic.{◌≢◌}
+use mathlib.Core.Logic.{◌≢◌, inl, inr}
 use mathlib.Core.Bool.{Bool, true, false, ◌||◌, false≢true}
 use mathlib.Core.List.{List, ◌∷◌}
 use Prim.Native.Nat.{ℕ, zero, suc, ◌+◌, ◌≤◌, ◌<◌}
@@ -17,22 +17,13 @@ use Rattle.semantics.specs.Table.{all_below}
 use Rattle.semantics.proofs.Soundness.{every_true, every_of}
 use Rattle.semantics.proofs.Table.{iff_eq, all_true, all_at}
 use Rattle.bits.specs.Words.{has}
-use Rattle.page.specs.Checks.{Lined, CollectedAt, number_tells}
-use Rattle.page.specs.Lines.{Next, Scanning}
-use Rattle.page.proofs.Scan.{line_at_lem, default_kind_lem, entry_head}
-use Rattle.page.proofs.Scanning.{lines_left, scanning_begun, lines_first, entry_ok, scanning_moved, lines_moved, lines_none}
+use Rattle.bits.specs.Sets.{Nobody}
+use Rattle.page.specs.Checks.{lines_pass, Collected, Twice, CollectedAt, LinesChecked, number_tells}
+use Rattle.page.specs.Lines.{step_at}
+use Rattle.page.proofs.Scan.{line_at_lem, default_kind_lem}
+use Rattle.page.proofs.Scanning.{lines_left, lines_first, lines_step, lines_none}
 use Rattle.page.specs.Solvable.{solvable}
 use Rattle.page.proofs.Solvable.{solvable_parts}
-
--- the set has the conditions of the D lines, each of which has one
-pub record Collected (a seen : List ℕ) : Type 0 where
-  pub all : (c : ℕ) → c < 512 → defaults (page_of a).lines c ≡ bit (has seen c)
-
--- some condition has two D lines
-pub record Twice (a : List ℕ) : Type 0 where
-  pub condition : ℕ
-  pub in_page : condition < conditions_of a
-  pub two : 2 ≤ defaults (page_of a).lines condition
 
 -- only 7 is the kind of a D line
 kind_seven : (k : ℕ) → kind k ≡ default_kind → k ≡ 7
@@ -72,79 +63,67 @@ bit_or false y n = omega arith
 module _ (a : List ℕ) where
   -- the scan stands at `at`, behind k lines: the set and the lines still to come make up all D lines
   pub record Collecting (at k : ℕ) (seen : List ℕ) : Type 0 where
-    pub scanning : Scanning a at k
-    pub few : conditions_of a ≤ 512
-    pub lines : count_of a ≤ 1024
     pub split : (c : ℕ) → c < 512 → defaults (page_of a).lines c ≡ bit (has seen c) + defaults (lines_left a at k) c
 
-  pub collecting_first : Lined a → {seen : List ℕ} → ((c : ℕ) → c < 512 → has seen c ≡ false) → {at k : ℕ} → (at ≡ first_line a) × (k ≡ 0) → Collecting at k seen
-  collecting_first l {seen} e {at} {k} p =
-      rw (p.0, p.1)
-      (record {
-        scanning = scanning_begun a l.begins l.inside l.entries;
-        few = l.few;
-        lines = l.lines;
-        split = λ c h. rw (e c h) (ap (λ (ls : List Line). defaults ls c) (sym (lines_first a)) ∙ omega arith);
-      })
+  pub collecting_first : {seen : List ℕ} → Nobody seen → {at k : ℕ} → (at ≡ first_line a) × (k ≡ 0) → Collecting at k seen
+  collecting_first {seen} e {at} {k} p =
+      rw (p.0, p.1) (record { split = λ c h. rw (e c h) (ap (λ (ls : List Line). defaults ls c) (sym (lines_first a)) ∙ omega arith) })
 
   module _ {at k : ℕ} {seen : List ℕ} (s : Collecting at k seen) (l : k < count_of a) where
-    -- the entry here is collected, and the scan moves on
-    module _ {at' k' : ℕ} (m : Next a at k at' k') where
-      abbrev left : List Line
-      left = lines_left a at' k'
+    abbrev left : List Line
+    left = lines_left a (at + step_at a at) (k + 1)
 
-      moved : (c : ℕ) → defaults (lines_left a at k) c ≡ defaults (line_at (drop at a) ∷ left) c
-      moved c = ap (λ (ls : List Line). defaults ls c) (lines_moved a s.scanning l m)
+    moved : (c : ℕ) → defaults (lines_left a at k) c ≡ defaults (line_at (drop at a) ∷ left) c
+    moved c = ap (λ (ls : List Line). defaults ls c) (lines_step a at l)
 
-      -- the set and the lines behind it make up all D lines again
-      split_on : {seen' : List ℕ} {first : Bool} → CollectedAt a at seen seen' first → first ≡ true → (c : ℕ) → c < 512 → bit (has seen' c) + defaults left c ≡ bit (has seen c) + defaults (lines_left a at k) c
-      split_on {seen'} t r c h =
-          elim (ℕ_discrete (get_or a (at + 1) 0) 7) [
-            | yes e ↦
-                let d = get_or a at 0 in
-                let q = t.taken e r in
-                let w : eqb c d ≡ eqb d c =
-                iff_eq (eqb c d) (eqb d c) (λ e. eq-eqb d c (sym (eqb-true c d e))) (λ e. eq-eqb c d (sym (eqb-true d c e))) in
-                let o : bit (has seen' c) ≡ bit (has seen c) + bit (eqb d c) =
-                ap bit (q.1.1 c h) ∙ bit_or (has seen c) (eqb c d) (λ x y. false≢true (sym q.0 ∙ ap (has seen) (sym (eqb-true c d y)) ∙ x)) ∙ ap (λ (t : Bool). bit (has seen c) + bit t) w in
-                omega (arith, moved c, defaults_on a at c left e, o)
-            | no e ↦ omega (arith, moved c, defaults_past a at c left e, ap (λ (x : List ℕ). bit (has x c)) (t.past e).1)
-          ]
+    -- the set and the lines behind the entry here make up all D lines again
+    split_on : {seen' : List ℕ} {first : Bool} → CollectedAt a at seen seen' first → first ≡ true → (c : ℕ) → c < 512 → bit (has seen' c) + defaults left c ≡ bit (has seen c) + defaults (lines_left a at k) c
+    split_on {seen'} t r c h =
+        elim (ℕ_discrete (get_or a (at + 1) 0) 7) [
+          | yes e ↦
+              let d = get_or a at 0 in
+              let q = t.taken e r in
+              let w : eqb c d ≡ eqb d c =
+              iff_eq (eqb c d) (eqb d c) (λ e. eq-eqb d c (sym (eqb-true c d e))) (λ e. eq-eqb c d (sym (eqb-true d c e))) in
+              let o : bit (has seen' c) ≡ bit (has seen c) + bit (eqb d c) =
+              ap bit (q.1.1 c h) ∙ bit_or (has seen c) (eqb c d) (λ x y. false≢true (sym q.0 ∙ ap (has seen) (sym (eqb-true c d y)) ∙ x)) ∙ ap (λ (t : Bool). bit (has seen c) + bit t) w in
+              omega (arith, moved c, defaults_on a at c left e, o)
+          | no e ↦ omega (arith, moved c, defaults_past a at c left e, ap (λ (x : List ℕ). bit (has x c)) (t.past e).1)
+        ]
 
-      pub collecting_next : {seen' : List ℕ} {first : Bool} → CollectedAt a at seen seen' first → first ≡ true → Collecting at' k' seen'
-      collecting_next t r =
-          record {
-            scanning = scanning_moved a s.scanning l m;
-            few = s.few;
-            lines = s.lines;
-            split = λ c h. s.split c h ∙ sym (split_on t r c h);
-          }
+    -- the entry here is collected, and the scan moves behind it
+    pub collecting_next : {at' : ℕ} → at + step_at a at ≡ at' → {seen' : List ℕ} {first : Bool} → CollectedAt a at seen seen' first → first ≡ true → Collecting at' (k + 1) seen'
+    collecting_next q t r = rw (← q) (record { split = λ c h. s.split c h ∙ sym (split_on t r c h) })
 
-      pub collected_twice : get_or a at 0 < conditions_of a → {seen' : List ℕ} {first : Bool} → CollectedAt a at seen seen' first → first ≡ false → Twice a
-      collected_twice below t r =
-          let d = get_or a at 0 in
-          let q = t.again r in
-          record {
-            condition = d;
-            in_page = below;
-            two = omega (arith, s.split d (omega (arith, s.few)), ap bit q.1, moved d, defaults_on a at d left q.0, ap bit (eq-eqb d d refl));
-          }
+    -- an entry that is no D line
+    pub collecting_past : {at' : ℕ} → at + step_at a at ≡ at' → get_or a (at + 1) 0 ≢ 7 → Collecting at' (k + 1) seen
+    collecting_past q n = collecting_next q (record { past = λ f. (refl, refl); taken = λ e. absurd (n e); again = λ e. absurd (false≢true (sym e)) }) refl
 
-  pub lined_four : Lined a → 4 ≤ length a
-  lined_four l = omega (arith, l.begins, l.inside)
-
-  pub lined_scanning : Lined a → Scanning a (first_line a) 0
-  lined_scanning l = scanning_begun a l.begins l.inside l.entries
-
-  -- the condition of the entry here
-  pub head_below : {at k : ℕ} {seen : List ℕ} → Collecting at k seen → k < count_of a → get_or a at 0 < conditions_of a
-  head_below {at} s l = entry_head _ (conditions_of a) _ a at (entry_ok a s.scanning l)
+    pub collected_twice : conditions_of a ≤ 512 → get_or a at 0 < conditions_of a → {seen' : List ℕ} {first : Bool} → CollectedAt a at seen seen' first → first ≡ false → Twice a
+    collected_twice few below t r =
+        let d = get_or a at 0 in
+        let q = t.again r in
+        record {
+          condition = d;
+          in_page = below;
+          two = omega (arith, s.split d (omega (arith, few)), ap bit q.1, moved d, defaults_on a at d left q.0, ap bit (eq-eqb d d refl));
+        }
 
   -- all lines are passed
-  pub collected_all : {at k : ℕ} {seen : List ℕ} → Collecting at k seen → count_of a ≤ k → Collected a seen
+  collected_all : {at k : ℕ} {seen : List ℕ} → Collecting at k seen → count_of a ≤ k → Collected a seen
   unfolding defaults
   collected_all {at} {k} {seen} s l =
       record { all = λ c h. s.split c h ∙ ap (λ (ls : List Line). bit (has seen c) + defaults ls c) (lines_none a at k l) ∙ omega arith }
+
+  -- what a scan of the lines answers: an entry does not pass, a second D line, or the end
+  pub lines_bad : {seen : List ℕ} → false ≡ lines_pass a → LinesChecked a seen false
+  lines_bad e = record { collected = λ q. absurd (false≢true q); refused = λ q. inl (sym e) }
+
+  pub lines_twice : {seen : List ℕ} → Twice a → LinesChecked a seen false
+  lines_twice t = record { collected = λ q. absurd (false≢true q); refused = λ q. inr t }
+
+  pub lines_end : {at k : ℕ} {seen : List ℕ} → Collecting at k seen → count_of a ≤ k → {passed : Bool} → passed ≡ lines_pass a → LinesChecked a seen passed
+  lines_end s l e = record { collected = λ q. (sym e ∙ q, collected_all s l); refused = λ q. inl (sym e ∙ q) }
 
   -- what the D numbers are held to
   told : defaults_ok a ≡ true → (c : ℕ) → c < conditions_of a → (default_of a c ≤ 1) × (default_of a c ≡ defaults (page_of a).lines c)
@@ -162,12 +141,6 @@ module _ (a : List ℕ) where
   bit_most : (t : Bool) → bit t ≤ 1
   bit_most true = omega arith
   bit_most false = omega arith
-
-  -- a D number that does not tell
-  pub number_bad : (seen : List ℕ) {c : ℕ} → c < conditions_of a → number_tells a seen c ≡ false → false ≡ all_below (conditions_of a) (number_tells a seen)
-  number_bad seen {c} l f =
-      iff_eq false (all_below (conditions_of a) (number_tells a seen)) (λ e. absurd (false≢true e))
-      (λ e. absurd (false≢true (sym f ∙ all_at (conditions_of a) (number_tells a seen) e c l)))
 
   -- no condition has two: the set decides
   module _ {seen : List ℕ} (few : conditions_of a ≤ 512) (s : Collected a seen) where

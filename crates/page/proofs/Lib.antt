@@ -19,3 +19,5 @@ pub mod LineNumbers
 pub mod Defaults
 -- a test of all numbers below one
 pub mod Searching
+-- the parts of soundness, put together
+pub mod Sounding

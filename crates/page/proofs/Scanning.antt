@@ -12,7 +12,7 @@ use Rattle.semantics.specs.Page.{Line}
 use Rattle.semantics.specs.Area.{kind, span_as, span, line_at, lines_of, page_of, every, line_tests, lines_ok, first_line, top_of, conditions_of, count_of, used_of}
 use Rattle.semantics.proofs.Soundness.{both_true}
 use Rattle.page.specs.Graded.{SoundEntry}
-use Rattle.page.specs.Lines.{EntryIn, Next, Scanning}
+use Rattle.page.specs.Lines.{step_at, EntryIn, Next, Scanning}
 use Rattle.page.proofs.Scan.{span_at, entry_fits, entry_four, entry_in, lines_behind, at_suc}
 use Rattle.page.specs.Solvable.{solvable}
 use Rattle.page.proofs.Solvable.{solvable_parts}
@@ -34,6 +34,15 @@ module _ (a : List ℕ) where
   pub lines_first : lines_left (first_line a) 0 ≡ (page_of a).lines
   unfolding page_of
   lines_first = let z : count_of a - 0 ≡ count_of a = omega arith in rw z
+
+  -- the lines still to come are the one here and those behind its entry, whatever passes
+  pub lines_step : (at : ℕ) {k : ℕ} → k < count_of a → lines_left at k ≡ line_at (drop at a) ∷ lines_left (at + step_at a at) (k + 1)
+  unfolding lines_of
+  lines_step at {k} l =
+      let e : count_of a - k ≡ suc (count_of a - (k + 1)) = omega arith in
+      ap (λ (m : ℕ). lines_of m (drop at a)) e
+      ∙ ap (λ (q : List ℕ). line_at (drop at a) ∷ lines_of (count_of a - (k + 1)) q)
+      (drop-drop (span (drop at a)) at a ∙ ap (λ (j : ℕ). drop (at + j) a) (span_at (top_of a) (conditions_of a) (used_of a - at) a at))
 
   module _ {at k : ℕ} (s : Scanning a at k) (l : k < count_of a) where
     -- the entry at `at` passes its tests
@@ -61,12 +70,7 @@ module _ (a : List ℕ) where
 
     -- the lines still to come are this one and those behind it
     pub lines_on : lines_left at k ≡ line_at (drop at a) ∷ lines_left (at + step) (k + 1)
-    unfolding lines_of
-    lines_on =
-        let e : count_of a - k ≡ suc (count_of a - (k + 1)) = omega arith in
-        ap (λ (m : ℕ). lines_of m (drop at a)) e
-        ∙ ap (λ (q : List ℕ). line_at (drop at a) ∷ lines_of (count_of a - (k + 1)) q)
-        (drop-drop (span (drop at a)) at a ∙ ap (λ (j : ℕ). drop (at + j) a) (span_at (top_of a) (conditions_of a) (used_of a - at) a at))
+    lines_on = lines_step at l
 
     pub scanning_next : Scanning a (at + step) (k + 1)
     scanning_next =

@@ -1,7 +1,8 @@
 -- The tests of a page area in the order of the code: the first numbers of an entry, those of a rule but for its literals, and the D numbers. Assumes nothing.
-use Rattle.std.specs.Prelude.{◌≡◌, ◌≢◌, Bool, true, false, ◌&&◌, List, [], ◌∷◌, ℕ, ◌+◌, ◌-◌, ◌≤◌, ◌<◌, eqb, ltb, leb, length, get_or, drop}
+use Rattle.std.specs.Prelude.{◌≡◌, ◌≢◌, ◌⊎◌, Bool, true, false, ◌&&◌, List, [], ◌∷◌, ℕ, ◌+◌, ◌-◌, ◌≤◌, ◌<◌, eqb, ltb, leb, length, get_or, drop}
 use Rattle.fixpoint.specs.Sum.{bit}
-use Rattle.semantics.specs.Area.{every, lines_ok, first_line, default_of, top_of, conditions_of, count_of, used_of}
+use Rattle.semantics.specs.Area.{every, lines_ok, first_line, default_of, page_of, top_of, conditions_of, count_of, used_of}
+use Rattle.semantics.specs.Page.{defaults}
 use Rattle.bits.specs.Words.{has, Inserted}
 
 -- the four numbers of the entry at a place end at `used` or before, and its condition is below C, which is n
@@ -16,13 +17,30 @@ rule_tests top x y = leb 1 x ∷ leb x top ∷ leb 1 y ∷ leb y 8 ∷ []
 abbrev pub rule_ok : ℕ → ℕ → List ℕ → ℕ → ℕ → Bool
 rule_ok top used a at y = leb (at + 4 + y) used && every (rule_tests top (get_or a (at + 2) 0) y)
 
--- the lines pass, and what a scan over them reads lies in the area
-pub record Lined (a : List ℕ) : Type 0 where
+-- what the head says of the lines and the D numbers lies in the area
+pub record Headed (a : List ℕ) : Type 0 where
   pub few : conditions_of a ≤ 512
-  pub lines : count_of a ≤ 1024
   pub begins : first_line a ≤ used_of a
   pub inside : used_of a ≤ length a
-  pub entries : lines_ok (top_of a) (conditions_of a) (count_of a) (used_of a - first_line a) (drop (first_line a) a) ≡ true
+
+-- the numbers from where the lines begin up to the used length are exactly the entries of the lines
+abbrev pub lines_pass : List ℕ → Bool
+lines_pass a = lines_ok (top_of a) (conditions_of a) (count_of a) (used_of a - first_line a) (drop (first_line a) a)
+
+-- the set has the conditions of the D lines, each of which has one
+pub record Collected (a seen : List ℕ) : Type 0 where
+  pub all : (c : ℕ) → c < 512 → defaults (page_of a).lines c ≡ bit (has seen c)
+
+-- some condition has two D lines
+pub record Twice (a : List ℕ) : Type 0 where
+  pub condition : ℕ
+  pub in_page : condition < conditions_of a
+  pub two : 2 ≤ defaults (page_of a).lines condition
+
+-- a scan of the lines: they pass and the set has the conditions of the D lines, or they do not or some condition has two
+pub record LinesChecked (a seen : List ℕ) (passed : Bool) : Type 0 where
+  pub collected : passed ≡ true → (lines_pass a ≡ true) × Collected a seen
+  pub refused : passed ≡ false → (lines_pass a ≡ false) ⊎ Twice a
 
 -- the entry at a place is no D line, or the first of its condition, which is put into the set, or another one
 pub record CollectedAt (a : List ℕ) (at : ℕ) (seen seen' : List ℕ) (first : Bool) : Type 0 where

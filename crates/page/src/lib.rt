@@ -6,10 +6,11 @@ ghost use Rattle.std.specs.Iterator.{at_most};
 ghost use Rattle.semantics.specs.Page.{mentions};
 ghost use Rattle.semantics.specs.Body.{unknown_by_default};
 ghost use Rattle.semantics.specs.Table.{all_below};
-ghost use Rattle.semantics.specs.Area.{sound, page_of, top_of, conditions_of, count_of, used_of, defaults_ok, lines_ok, field_tests, every, kind, span_as, first_line, literal_of, line_at};
+ghost use Rattle.semantics.specs.Area.{sound, page_of, top_of, conditions_of, count_of, used_of, head_tests, field_tests, every, kind, span_as, first_line, literal_of, line_at};
+ghost use Rattle.bits.specs.Sets.{Nobody};
 ghost use Rattle.page.specs.Lines.{EntryIn, Scanning, BeginsAt, line_names};
 ghost use Rattle.page.specs.Places.{place_of, LineIn, RuleIn, Proceeds, EntryIs};
-ghost use Rattle.page.specs.Checks.{rule_tests, head_ok, rule_ok, Lined, CollectedAt, number_tells};
+ghost use Rattle.page.specs.Checks.{rule_tests, head_ok, rule_ok, Headed, CollectedAt, LinesChecked, number_tells};
 ghost use Rattle.page.specs.Solvable.{solvable};
 
 use bits::Set;
@@ -117,16 +118,27 @@ fn rule_passes(a: &[u16], at: usize, used: usize, y: u16, top: u16) -> bool
     at + 4 + y as usize <= used && rule_ok(a[at + 2], y, top)
 }
 
-// Whether the numbers from where the lines begin up to `used` are exactly `count` entries. What is not in range ends the scan of the lines,
-// a literal too: from inside the scan of literals, by the label, as document 01 asks.
-fn lines_ok(a: &[u16], used: usize, count: u16, top: u16, n: u16) -> bool
-    requires { (used ≤ length a.now) × (first_line a.now ≤ used) × (n ≤ 512) }
-    ensures { result ≡ lines_ok top n count (used - first_line a.now) (drop (first_line a.now) a.now) }
+// If the entry at `at` is a D line, puts its condition into the set; whether it was not there.
+fn collect_default(a: &[u16], at: usize, seen: &mut Set) -> bool
+    requires { (at + 4 ≤ length a.now) × (get_or a.now at 0 < 512) }
+    ensures { CollectedAt a.now at seen.old.words seen.new.words result }
 {
+    a[at + 1] != 7 || seen.insert(a[at])
+}
+
+// Whether the numbers from where the lines begin up to the used length are exactly the entries of the lines, and no condition has two D lines;
+// the conditions of the D lines are put into the set. What is not in range ends the scan of the lines, a literal too: from inside the scan of
+// literals, by the label, as document 01 asks.
+fn lines_ok(a: &[u16], seen: &mut Set) -> bool
+    requires { Headed a.now × Nobody seen.old.words }
+    ensures { LinesChecked a.now seen.new.words result }
+{
+    let n = a[1];
+    let used = a[3] as usize;
     let codes = 2 * n;
     let mut at = first_line(a);
     'lines: {
-        for _ in 0..count {
+        for _ in 0..a[2] {
             if !head_passes(a, at, used, n) {
                 break 'lines false;
             }
@@ -135,7 +147,7 @@ fn lines_ok(a: &[u16], used: usize, count: u16, top: u16, n: u16) -> bool
             let literals = at + 4;
             at = match k {
                 1..=5 => {
-                    if !rule_passes(a, at, used, y, top) {
+                    if !rule_passes(a, at, used, y, a[0]) {
                         break 'lines false;
                     }
                     let to = literals + y as usize;
@@ -147,7 +159,7 @@ fn lines_ok(a: &[u16], used: usize, count: u16, top: u16, n: u16) -> bool
                     to
                 }
                 _ => {
-                    if !short_ok(k, a[at + 2], y, top) {
+                    if !short_ok(k, a[at + 2], y, a[0]) || !collect_default(a, at, seen) {
                         break 'lines false;
                     }
                     literals
@@ -156,14 +168,6 @@ fn lines_ok(a: &[u16], used: usize, count: u16, top: u16, n: u16) -> bool
         }
         at == used
     }
-}
-
-// If the entry at `at` is a D line, puts its condition into the set; whether it was not there.
-fn collect_default(a: &[u16], at: usize, seen: &mut Set) -> bool
-    requires { (at + 4 ≤ length a.now) × (get_or a.now at 0 < 512) }
-    ensures { CollectedAt a.now at seen.old.words seen.new.words result }
-{
-    a[at + 1] != 7 || seen.insert(a[at])
 }
 
 // Whether the D number of c is 1 if c is in the set, and 0 if not.
@@ -176,30 +180,15 @@ fn number_tells(a: &[u16], seen: &Set, c: u16) -> bool
 
 // Whether each D number is 1 where its condition is in the set, and 0 elsewhere.
 fn numbers_tell(a: &[u16], seen: &Set) -> bool
-    requires { Lined a.now }
+    requires { Headed a.now }
     ensures { result ≡ all_below (conditions_of a.now) (number_tells a.now seen.now.words) }
 {
     (0..a[1]).all(|c| number_tells(a, seen, c))
 }
 
-// Whether the D numbers tell the D lines: 1 with exactly one, 0 with none.
-fn defaults_ok(a: &[u16]) -> bool
-    requires { Lined a.now }
-    ensures { result ≡ defaults_ok a.now }
-{
-    let mut seen = Set::empty();
-    for at in Lines::checked(a) {
-        if !collect_default(a, at, &mut seen) {
-            return false;
-        }
-    }
-    numbers_tell(a, &seen)
-}
-
-// Whether a page area is sound. The answer is yes or no for every slice, whatever its length and content.
-#[tactic(auto, unfolding(semantics::specs::Area::sound_to))]
-pub fn page_sound(a: &[u16]) -> bool
-    ensures { result ≡ sound a.now }
+// Whether the four head numbers of an area are in range, and the used length lies in the area.
+fn head_sound(a: &[u16]) -> bool
+    ensures { result ≡ every (head_tests 1024 a.now) }
 {
     let [top, n, count, used, ..] = *a else {
         return false;
@@ -210,8 +199,17 @@ pub fn page_sound(a: &[u16]) -> bool
         && (1..=200).contains(&top)
         && (1..=512).contains(&n)
         && count <= 1024
-        && lines_ok(a, used, count, top, n)
-        && defaults_ok(a)
+}
+
+// Whether a page area is sound. The answer is yes or no for every slice, whatever its length and content. The lines are gone through once.
+pub fn page_sound(a: &[u16]) -> bool
+    ensures { result ≡ sound a.now }
+{
+    if !head_sound(a) {
+        return false;
+    }
+    let mut seen = Set::empty();
+    lines_ok(a, &mut seen) && numbers_tell(a, &seen)
 }
 
 // Whether c is among the m literals from `from` on, plain or negated.
