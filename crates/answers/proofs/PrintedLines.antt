@@ -10,7 +10,7 @@ use Rattle.semantics.proofs.TextNumbers.{number_short}
 use Rattle.print.specs.declared.Text.{Text}
 use Rattle.print.specs.Texts.{Room, Puts}
 use Rattle.print.proofs.Writing.{puts_room}
-use Rattle.semantics.specs.Output.{Query, top_fields, answer_fields, end_fields, refusal_fields, printed}
+use Rattle.semantics.specs.Output.{Query, answer_fields, refusal_fields, printed}
 
 -- a number that ends a field or a line
 abbrev ended : ℕ → ℕ → List ℕ
@@ -27,12 +27,6 @@ field_on n more = append_assoc (number_text n) (44 ∷ []) more
 
 last_on : (n : ℕ) → ended n 10 ≡ (number_text n ++ []) ++ (10 ∷ [])
 last_on n = ap (λ (s : List ℕ). s ++ (10 ∷ [])) (sym (append-nil (number_text n)))
-
-pub top_text : (top : ℕ) → (116 ∷ 111 ∷ 112 ∷ 44 ∷ []) ++ ended top 10 ≡ printed (top_fields top ∷ [])
-top_text top = ap (λ (s : List ℕ). 116 ∷ 111 ∷ 112 ∷ 44 ∷ s) (last_on top)
-
-pub end_text : (count : ℕ) → (101 ∷ 110 ∷ 100 ∷ 44 ∷ []) ++ ended count 10 ≡ printed (end_fields count ∷ [])
-end_text count = ap (λ (s : List ℕ). 101 ∷ 110 ∷ 100 ∷ 44 ∷ s) (last_on count)
 
 -- the last two fields of a line
 two_fields : (m n : ℕ) → ended m 44 ++ ended n 10 ≡ (number_text m ++ (44 ∷ number_text n ++ [])) ++ (10 ∷ [])

@@ -1,6 +1,5 @@
 -- The Q lines of a page area: what is written for each, and the scan over all lines; then the whole output. Assumes nothing.
 use mathlib.Core.Path.{◌≡◌, refl, sym, ◌∙◌, ap, ap₂}
-use mathlib.Core.Logic.{◌≢◌}
 use mathlib.Core.Bool.{true}
 use mathlib.Core.List.{List, [], ◌∷◌, ◌++◌, append-nil, append_assoc}
 use Prim.Native.Nat.{ℕ, ◌+◌, ◌*◌, ◌-◌, ◌≤◌, ◌<◌}
@@ -82,9 +81,6 @@ module _ (page : Page) (lead : List ℕ) where
 
 -- what one line leaves
 module _ (a plain closed lead : List ℕ) (line count : ℕ) (t : Text) where
-  pub put_other : get_or a (line + 1) 0 ≢ 6 → PutLine a line plain closed lead count t t count
-  put_other n = record { other = λ k. (refl, refl); one = λ e. absurd (n e); short = omega arith }
-
   pub put_one : get_or a line 0 < 1000 → SmallFigures plain closed (reading_of (get_or a (line + 2) 0)) count → get_or a (line + 1) 0 ≡ 6 → {t₁ t₂ : Text}
       → Puts t lead t₁ → Puts t₁ (printed (answer_fields (query_at a line) (figured plain closed (reading_of (get_or a (line + 2) 0)) count) ∷ [])) t₂
       → PutLine a line plain closed lead count t t₂ (count + 1)

@@ -1,4 +1,2 @@
 -- signed codes, read back from their bits
 pub mod Signs
--- what is told of a check that fails
-pub mod Errors

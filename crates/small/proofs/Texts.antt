@@ -51,10 +51,10 @@ pub rule_positive : (n r : ℕ) → r / (2 * n) < 10 → r % n < 10 → n ≤ r 
 rule_positive n r i j h = rw (le-ltb (r % (2 * n)) n h) (sym (positive_text (r / (2 * n)) (r % n) i j))
 
 -- The line with a rank.
-pub line_fact : (n r : ℕ) → r < 3 * n → lines_text (fact_ranked r ∷ []) ≡ lines_text (line_ranked n r ∷ [])
+line_fact : (n r : ℕ) → r < 3 * n → lines_text (fact_ranked r ∷ []) ≡ lines_text (line_ranked n r ∷ [])
 line_fact n r h = rw (lt-ltb r (3 * n) h)
 
-pub line_rule : (n r : ℕ) → 3 * n ≤ r → lines_text (rule_ranked n (r - 3 * n) ∷ []) ≡ lines_text (line_ranked n r ∷ [])
+line_rule : (n r : ℕ) → 3 * n ≤ r → lines_text (rule_ranked n (r - 3 * n) ∷ []) ≡ lines_text (line_ranked n r ∷ [])
 line_rule n r h = rw (le-ltb r (3 * n) h)
 
 -- it has at most 11 bytes
@@ -73,25 +73,13 @@ line_short n r a b h =
       | no k ↦ omega (arith, ap length (line_rule n r (omega arith)), rule_short n (r - 3 * n) a b (omega arith))
     ]
 
--- The lines with a number: none, one, two.
-pub kinds_most : (n : ℕ) → 1 ≤ n → n ≤ 2 → (1 ≤ kinds n) × (kinds n ≤ 14)
-kinds_most zero a b = absurd (omega arith)
-kinds_most (suc zero) a b = (omega arith, omega arith)
-kinds_most (suc (suc zero)) a b = (omega arith, omega arith)
-kinds_most (suc (suc (suc n))) a b = absurd (omega arith)
-
+-- The lines with a number that has two.
 pub pair_ranks : (n k : ℕ) → 1 ≤ n → n ≤ 2 → 1 + kinds n ≤ k → k < 1 + kinds n + kinds n * kinds n
     → ((k - 1 - kinds n) / kinds n < kinds n) × ((k - 1 - kinds n) % kinds n < kinds n)
 pair_ranks zero k a b i j = absurd (omega arith)
 pair_ranks (suc zero) k a b i j = (omega arith, omega arith)
 pair_ranks (suc (suc zero)) k a b i j = (omega arith, omega arith)
 pair_ranks (suc (suc (suc n))) k a b i j = absurd (omega arith)
-
-pub lines_none : (n k : ℕ) → k < 1 → [] ≡ lines_text (lines_numbered n k)
-lines_none n k h = rw (lt-ltb k 1 h)
-
-pub lines_one : (n k : ℕ) → 1 ≤ k → k < 1 + kinds n → lines_text (line_ranked n (k - 1) ∷ []) ≡ lines_text (lines_numbered n k)
-lines_one n k h i = rw (le-ltb k 1 h, lt-ltb k (1 + kinds n) i)
 
 -- a text with lines behind it
 ended_then : (l : List ℕ) (ls : List (List ℕ)) → ended_lines (l ∷ []) ++ ended_lines ls ≡ ended_lines (l ∷ ls)

@@ -7,7 +7,7 @@ use Prim.Native.Nat.{ℕ, zero, suc, ◌+◌, ◌*◌, ◌/◌, ◌≤◌, ◌<�
 use native.Mathlib.Omega.{arith}
 use lib.ListN.{length, get_or, take, drop, length-append, length-drop}
 use lib.Seq.{drop-drop, get_or-drop, length-take-le}
-use Rattle.std.proofs.lemmas.List.{take-append-drop, get_or-take, get_or_append_left, get_or-append-add}
+use Rattle.std.proofs.lemmas.List.{take-append-drop, get_or-take, get_or-append-add}
 use Rattle.semantics.specs.Page.{Page}
 use Rattle.semantics.specs.Trials.{TrialLine, trials_of, list_refusal, list_read}
 use Rattle.semantics.proofs.TrialLists.{AllTried, AllSmall, accepted_tried}
@@ -161,14 +161,8 @@ module _ (list : List ℕ) {end : ℕ} (e : TrialEnd list end) where
 pub trial_counted : {list trial rest : List ℕ} → FirstTrial list trial rest → length list ≡ length trial + length rest
 trial_counted {list} {trial} {rest} f = ap length f.whole ∙ length-append trial rest
 
--- they are in range
+-- those behind it are in range
 module _ {top n : ℕ} {list trial rest : List ℕ} (f : FirstTrial list trial rest) (w : ListIn top n list (length list / 4)) where
-  pub trial_in_range : ListIn top n trial (length trial / 4)
-  trial_in_range =
-      part_in w trial 0 (length trial / 4) (omega (arith, trial_counted f)) (omega arith)
-      (λ j l. let e : 4 * 0 + j ≡ j = omega arith in
-      sym (get_or_append_left trial rest 0 j (omega arith)) ∙ ap₂ {C = ℕ} (λ (q : List ℕ) (i : ℕ). get_or q i 0) (sym f.whole) (sym e))
-
   pub rest_in_range : ListIn top n rest (length rest / 4)
   rest_in_range =
       part_in w rest (length trial / 4) (length rest / 4) (omega (arith, trial_counted f, f.full)) (omega arith)

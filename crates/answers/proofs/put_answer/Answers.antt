@@ -11,9 +11,6 @@ use Rattle.semantics.specs.Output.{Query}
 use Rattle.answers.proofs.PrintedLines.{answer_text, field_passed}
 use Rattle.answers.proofs.put_answer.Goals as goal
 
-pub put_byte-requires-2 : goal.put_byte-requires-2
-put_byte-requires-2 c = puts_room 1 c.put_byte.ensures (omega (arith, c.requires.0))
-
 pub put_field-requires : goal.put_field-requires
 put_field-requires c =
     let room = puts_room 12 (puts_then c.put_byte.ensures c.put_byte-2.ensures) (omega (arith, c.requires.0)) in

@@ -12,9 +12,6 @@ overflow_cast-line c = omega (arith, (read_small c.args.text.now c.args.area.now
 pub overflow_cast-place : goal.overflow_cast-place
 overflow_cast-place c = omega (arith, (read_small c.args.text.now c.args.area.now c.in-Err.ensures.answer).place_most)
 
-pub overflow_cast-number : goal.overflow_cast-number
-overflow_cast-number c = omega (arith, c.number.ensures, (read_small c.args.text.now c.args.area.now c.in-Err.ensures.answer).number_most)
-
 pub overflow_cast-result : goal.overflow_cast-result
 overflow_cast-result c = record { sfits = omega (arith, (read_good c.args.text.now c.args.area.now c.in-Ok.ensures.answer).short) }
 

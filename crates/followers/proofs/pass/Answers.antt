@@ -9,9 +9,6 @@ loop-at-init c =
     let b = c.lines-at-items.ensures.scan in
     rw c.into_iter-at-iterator.ensures.into_iter_gives (b.same, passing_first c.args.page.now _ _ c.lines-at-items.ensures.sound c.requires (b.place, b.count))
 
-pub follow_line-new-requires : goal.follow_line-new-requires
-follow_line-new-requires c = let s = stepped c.loop-at.invariant.0 c.in-Some.ensures.steps in (s.line, c.loop-at.invariant.1.covers)
-
 pub overflow_add-new : goal.overflow_add-new
 overflow_add-new c = omega (arith, passing_few _ _ _ c.loop-at.invariant.1, line_few c.follow_line-new.ensures)
 

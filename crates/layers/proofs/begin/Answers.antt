@@ -10,9 +10,6 @@ loop-at-init c =
     rw c.into_iter-at-iterator.ensures.into_iter_gives
     (b.same, beginning_first c.args.page.now c.lines-at-items.ensures.sound (c.fill.ensures.len ∙ c.requires) (filled_either _ _ (c.fill.ensures.after (λ y e. e))) (b.place, b.count))
 
-pub open_head-requires : goal.open_head-requires
-open_head-requires c = let s = stepped c.loop-at.invariant.0 c.in-Some.ensures.steps in (s.line, c.loop-at.invariant.1.size)
-
 pub loop-at-preserved : goal.loop-at-preserved
 loop-at-preserved c =
     let s = stepped c.loop-at.invariant.0 c.in-Some.ensures.steps in

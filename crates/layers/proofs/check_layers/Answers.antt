@@ -1,6 +1,6 @@
 -- `layers::check_layers` meets its contract: each test is a cause of the list, in its order. Assumes nothing.
 use native.Mathlib.Omega.{arith}
-use mathlib.Core.Path.{sym, ◌∙◌}
+use mathlib.Core.Path.{◌∙◌}
 use lib.ListN.{replicate}
 use lib.Seq.{length-take-le}
 use Rattle.layers.proofs.Checking.{check_10, check_31, check_worked, part_same}
@@ -14,9 +14,6 @@ returns-then-layers-n c =
     let p = c.in-Some.ensures in
     let n = rw p.1 at c.conditions-n.ensures.value in
     check_31 c.args.page.now c.args.layers.now p.0 (omega arith)
-
-pub slice_bounds-work-end : goal.slice_bounds-work-end
-slice_bounds-work-end c = sym (length-take-le c.conditions-n.result (replicate 512 0) c.conditions-n.ensures.few)
 
 pub work-requires : goal.work-requires
 work-requires c =

@@ -40,10 +40,6 @@ loop-level-preserved-in-Err c =
     let m = moved_entered (page_of c.args.page.now) h.0 h.1 (omega arith) c.in-Err.ensures c.enter-level.ensures in
     (h.0, m.state, λ x l. m.stays x (h.2 x l))
 
-pub finish-least-requires : goal.finish-least-requires
-unfolding page_of
-finish-least-requires c = let h = c.loop-level.invariant in omega (arith, h.1.size, h.0.conditions_most)
-
 pub loop-level-smaller : goal.loop-level-smaller
 unfolding page_of
 loop-level-smaller c =

@@ -10,9 +10,6 @@ loop-at-init c =
     rw c.into_iter-at-iterator.ensures.into_iter_gives
     (b.same, searching_first c.args.page.now c.args.levels.now c.args.level c.lines-at-items.ensures.sound (b.place, b.count))
 
-pub look_line-requires : goal.look_line-requires
-look_line-requires c = let s = stepped c.loop-at.invariant.0 c.in-Some.ensures.steps in (s.line, c.requires)
-
 pub returns-in_err-negated : goal.returns-in_err-negated
 returns-in_err-negated c =
     let s = stepped c.loop-at.invariant.0 c.in-Some.ensures.steps in

@@ -2,18 +2,8 @@
 use Rattle.std.proofs.Common.{ap, length, List, ℕ, arith}
 use Rattle.semantics.proofs.TextNumbers.{number_seven}
 use Rattle.print.proofs.Writing.{puts_fits}
-use Rattle.trial.proofs.Listing.{trial_in_range, rest_in_range, trial_counted}
+use Rattle.trial.proofs.Listing.{rest_in_range, trial_counted}
 use Rattle.trials.proofs.print_trials.Goals as goal
-
-pub answer_trial-requires : goal.answer_trial-requires
-answer_trial-requires g c =
-    let f = c.in-Some.ensures.steps in
-    let n = c.new-text.ensures in (
-      c.requires.0,
-      trial_in_range f c.loop-lines.invariant.0,
-      f.some,
-      omega (arith, n.place, ap (λ (l : List ℕ). length l) n.bytes, c.loop-lines.auto.out, c.requires.2),
-    )
 
 pub written-requires : goal.written-requires
 written-requires g c = puts_fits c.answer_trial.ensures.wrote
