@@ -21,5 +21,5 @@ judge-requires c =
 pub returns : goal.returns
 returns c =
     let s = c.in-Some.ensures in
-    let f = rw (c.conditions.ensures.value, s.1) at c.in_ok-check_queries.ensures in
-    check_judged _ _ _ _ s.0 f (rw s.1 at c.judge.ensures)
+    let fine = rw (c.conditions.ensures.value, s.1) at c.in_ok-check_queries.ensures in
+    check_judged _ _ _ _ s.0 fine (rw s.1 at c.judge.ensures)
