@@ -32,6 +32,8 @@ or_swap x y z = or_assoc x y z ∙ ap (λ (t : Bool). x || t) (or_comm y z) ∙ 
 inserted_covers : (x : ℕ) {seen row seen' row' : List ℕ} → Covers seen row → Inserted x seen seen' → Inserted x row row' → Covers seen' row'
 inserted_covers x {seen} {row} v h g =
     record {
+      seen_size = h.0;
+      row_size = g.0;
       covers = λ k l p.
           h.1 k l
           ∙ ⊎_elim (λ q. rw (v.covers k l q)) (λ q. ap (λ (t : Bool). has seen k || t) q ∙ or-true (has seen k))

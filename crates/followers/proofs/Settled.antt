@@ -5,7 +5,7 @@ use mathlib.Core.List.{List}
 use Prim.Native.Nat.{ℕ, ◌≤◌, ◌<◌}
 use native.Mathlib.Decide.{dec_le}
 use native.Mathlib.Omega.{arith}
-use lib.ListN.{length, get_or-eq_default}
+use lib.ListN.{get_or-eq_default}
 use borrow.Author.Tests.{eq-eqb, le-leb, lt-leb}
 use Rattle.fixpoint.specs.Sum.{count}
 use Rattle.semantics.specs.Area.{sound, page_of, conditions_of}
@@ -30,6 +30,7 @@ module _ (page : Page) (w : Proper page) (c : ℕ) where
   settled_row l {seen' = seen'} {row' = row'} h p e =
       let g = p.seeks c h in
       record {
+        row_size = p.covers.row_size;
         exactly = λ a m. (
           g.only a m,
           λ f. (set_exactly w c (has row') (has seen') (λ x o. g.only x (small o)) (g.seen_is c (small l) ∙ rw (eq-eqb c c refl, or-true))
@@ -41,19 +42,19 @@ module _ (page : Page) (w : Proper page) (c : ℕ) where
       small o = omega (arith, w.conditions_most)
 
   -- the marks of the row are the count
-  past_none : {row : List ℕ} → length row ≡ 8 → FollowerRow page c row → (k : ℕ) → page.conditions ≤ k → has row k ≡ false
-  past_none {row} z h k l =
+  past_none : {row : List ℕ} → FollowerRow page c row → (k : ℕ) → page.conditions ≤ k → has row k ≡ false
+  past_none {row} h k l =
       elim (dec_le 512 k) [
-        | yes m ↦ word_none row k (get_or-eq_default row 0 (omega arith))
+        | yes m ↦ word_none row k (get_or-eq_default row 0 (omega (arith, h.row_size)))
         | no m ↦ false_from_ne_true (has row k) (λ p. let i = follower_inside ((h.exactly k (omega arith)).0 p) in omega arith)
       ]
 
-  pub row_count : {row : List ℕ} → length row ≡ 8 → FollowerRow page c row → FollowerCount page c (count 512 (has row))
-  row_count {row} z h =
+  pub row_count : {row : List ℕ} → FollowerRow page c row → FollowerCount page c (count 512 (has row))
+  row_count {row} h =
       record {
         set = has row;
         exactly = λ a l. h.exactly a (omega (arith, w.conditions_most));
-        size = sym (count_past page.conditions 512 (has row) w.conditions_most (past_none z h));
+        size = sym (count_past page.conditions 512 (has row) w.conditions_most (past_none h));
       }
 
 -- the answer of the call, cause by cause
@@ -66,6 +67,6 @@ module _ (a : List ℕ) (c : ℕ) where
   unfolding FollowersOf page_of
   answer_15 e l = rw (e, le-leb (conditions_of a) c l)
 
-  pub answer_count : sound a ≡ true → c < conditions_of a → {row : List ℕ} {marks : ℕ} → length row ≡ 8 → FollowerRow (page_of a) c row → marks ≡ count 512 (has row) → FollowersOf (followed_by marks) a c
+  pub answer_count : sound a ≡ true → c < conditions_of a → {row : List ℕ} {marks : ℕ} → FollowerRow (page_of a) c row → marks ≡ count 512 (has row) → FollowersOf (followed_by marks) a c
   unfolding FollowersOf page_of
-  answer_count e l z h q = rw (e, lt-leb (conditions_of a) c l, q) (row_count (page_of a) (sound_proper a e) c z h)
+  answer_count e l h q = rw (e, lt-leb (conditions_of a) c l, q) (row_count (page_of a) (sound_proper a e) c h)

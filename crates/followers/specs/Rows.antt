@@ -1,5 +1,5 @@
 -- Rows of followers as words, and what a pass over a page's lines does to them. Assumes nothing.
-use Rattle.std.specs.Prelude.{◌≡◌, ◌↔◌, Bool, true, false, ◌&&◌, ◌||◌, List, ℕ, ◌+◌, ◌<◌, eqb, get_or, drop}
+use Rattle.std.specs.Prelude.{◌≡◌, ◌↔◌, Bool, true, false, ◌&&◌, ◌||◌, List, ℕ, ◌+◌, ◌<◌, eqb, length, get_or, drop}
 use Rattle.fixpoint.specs.Sum.{count}
 use Rattle.semantics.specs.Area.{line_at}
 use Rattle.semantics.specs.Followers.{Follows}
@@ -14,6 +14,8 @@ meets words f = any_below 512 (λ b. has words b && f b)
 
 -- two sets, the first with all that the second has
 pub record Covers (seen row : List ℕ) : Type 0 where
+  pub seen_size : length seen ≡ 8
+  pub row_size : length row ≡ 8
   pub covers : (k : ℕ) → k < 512 → has row k ≡ true → has seen k ≡ true
 
 -- a line is followed: nothing changes, where its head is in the row or it names none that is seen; or its head is new in the row
@@ -36,4 +38,5 @@ pub record PageFollowed (page : Page) (seen row seen' row' : List ℕ) (new : �
 
 -- the row of the followers of c
 pub record FollowerRow (page : Page) (c : ℕ) (row : List ℕ) : Type 0 where
+  pub row_size : length row ≡ 8
   pub exactly : (a : ℕ) → a < 512 → (has row a ≡ true) ↔ Follows page a c

@@ -21,4 +21,4 @@ pub returns : goal.returns
 returns c =
     let p = c.in-Some.ensures in
     let n = rw p.1 at c.conditions.ensures.value in
-    answer_count c.args.page.now c.args.condition p.0 (omega arith) c.followers_of-row.result.eight (rw p.1 at c.followers_of-row.ensures) c.len.ensures
+    answer_count c.args.page.now c.args.condition p.0 (omega arith) (rw p.1 at c.followers_of-row.ensures) c.len.ensures
