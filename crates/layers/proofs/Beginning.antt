@@ -1,5 +1,5 @@
 -- The heads of R lines are not met, in a scan over the lines. Assumes nothing.
-use mathlib.Core.Path.{◌≡◌, refl, sym, ◌∙◌, subst}
+use mathlib.Core.Path.{◌≡◌, refl, sym, ◌∙◌, ap, subst}
 use mathlib.Core.Logic.{◌⊎◌, inl, inr, ⊎_elim}
 use mathlib.Core.Bool.{true, false, false≢true}
 use mathlib.Core.List.{List}
@@ -31,12 +31,16 @@ module _ (a : List ℕ) (at : ℕ) (levels : List ℕ) where
   over_opened l = none_opened (λ b. line_over a at b l)
 
 -- every level is that of what is done
+pub done_either : (levels : List ℕ) → ((c : ℕ) → c < length levels → level_in levels c ≡ 513) → (c : ℕ) → (level_in levels c ≡ 0) ⊎ (level_in levels c ≡ 513)
+done_either levels h c =
+    elim (dec_le (length levels) c) [
+      | yes l ↦ inl (get_or-eq_default levels 0 l)
+      | no l ↦ inr (h c (omega arith))
+    ]
+
 pub filled_either : (n : ℕ) (levels : List ℕ) → levels ≡ replicate n 513 → (c : ℕ) → (level_in levels c ≡ 0) ⊎ (level_in levels c ≡ 513)
-filled_either n levels e c =
-    rw e (elim (dec_le n c) [
-      | yes l ↦ inl (get_or-eq_default (replicate n 513) 0 (omega (arith, length-replicate {A = ℕ})))
-      | no l ↦ inr (get_or-replicate n c 513 0 (omega arith))
-    ])
+filled_either n levels e =
+    done_either levels (λ c l. rw e (get_or-replicate n c 513 0 (omega (arith, ap length e, length-replicate {A = ℕ}))))
 
 -- the scan stands at `at`, behind k lines
 module _ (a : List ℕ) where
