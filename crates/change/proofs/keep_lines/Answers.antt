@@ -12,8 +12,8 @@ loop-at-init c =
 pub keep_line-requires : goal.keep_line-requires
 keep_line-requires c =
     let i = c.loop-at.invariant.1 in
-    let s = stepped c.loop-at.invariant.0 c.in-Some.ensures.steps in
-    (s.line, rw s.here (entry_room _ _ _ i s.more), omega (arith, i.few, i.lines, s.more))
+    let t = stepped c.loop-at.invariant.0 c.in-Some.ensures.steps in
+    (t.line, rw t.here (entry_room _ _ _ i t.more), omega (arith, i.few, i.lines, t.more))
 
 pub loop-at-preserved : goal.loop-at-preserved
 loop-at-preserved c =
