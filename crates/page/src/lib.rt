@@ -8,7 +8,7 @@ ghost use Rattle.semantics.specs.Body.{unknown_by_default};
 ghost use Rattle.semantics.specs.Table.{all_below};
 ghost use Rattle.semantics.specs.Area.{sound, page_of, top_of, conditions_of, count_of, used_of, head_tests, field_tests, every, kind, span_as, first_line, literal_of, line_at};
 ghost use Rattle.bits.specs.Sets.{Nobody};
-ghost use Rattle.page.specs.Lines.{EntryIn, Scanning, BeginsAt, line_names};
+ghost use Rattle.page.specs.Lines.{EntryIn, Next, Scanning, BeginsAt, line_names};
 ghost use Rattle.page.specs.Places.{place_of, LineIn, RuleIn, Proceeds, EntryIs};
 ghost use Rattle.page.specs.Checks.{rule_tests, head_ok, rule_ok, Headed, CollectedAt, LinesChecked, number_tells};
 ghost use Rattle.page.specs.Solvable.{solvable};
@@ -27,22 +27,55 @@ pub fn span_of(k: u16, y: u16) -> usize
     }
 }
 
+// A place among the lines of any area whose entries lie in it: `passed` lines lie before it, and the entry of the next one begins at `at`.
+#[derive(Clone, Copy)]
+pub struct Cursor {
+    pub at: usize,
+    pub passed: u16,
+}
+
+impl Cursor {
+    // Before the first line.
+    pub fn first(a: &[u16]) -> Self
+        requires { 4 ≤ length a.now }
+        ensures { (result.at ≡ first_line a.now) × (result.passed ≡ 0) }
+    {
+        Cursor {
+            at: 4 + a[1] as usize,
+            passed: 0,
+        }
+    }
+
+    // Behind the entry that begins here, with one line more passed.
+    pub fn next(self, a: &[u16]) -> Self
+        requires { EntryIn a.now self.at × (self.passed < 65535) }
+        ensures { Next a.now self.at self.passed result.at result.passed }
+    {
+        let at = self.at;
+        Cursor {
+            at: at + span_of(a[at + 1], a[at + 3]),
+            passed: self.passed + 1,
+        }
+    }
+}
+
 // Where the lines begin: behind the four head numbers and the D numbers.
 fn first_line(a: &[u16]) -> usize
     requires { 4 ≤ length a.now }
     ensures { result ≡ first_line a.now }
 {
-    4 + a[1] as usize
+    Cursor::first(a).at
 }
 
-// The lines that are still to come, `passed` of them lying before: each item is the place where the entry of a line begins.
+// The lines that are still to come, `passed` of them lying before: each item is the place where the entry of a line begins. How many are left is a
+// number of its own: a loop that does not ask for `passed` then holds one number for the count, and tests it where it falls.
 #[derive(Drop)]
 pub struct Lines<'a> {
     pub numbers: &'a [u16],
-    count: u16,
+    left: u32,
     pub at: usize,
     pub passed: u16,
-    ghost counted: { count ≡ count_of numbers.now },
+    ghost counted: { left + passed ≡ count_of numbers.now },
     ghost scanning: { Scanning numbers.now at passed },
     ghost placed: { at ≡ place_of numbers.now passed },
 }
@@ -55,7 +88,7 @@ impl<'a> Lines<'a> {
     {
         Lines {
             numbers: a,
-            count: a[2],
+            left: a[2] as u32,
             at: first_line(a),
             passed: 0,
         }
@@ -70,12 +103,13 @@ impl<'a> Iterator for Lines<'a> {
     ghost remaining = { λ s. at_most (count_of s.numbers.now - s.passed) };
 
     fn next(&mut self) -> Option<usize> {
-        if self.count <= self.passed {
+        if self.left == 0 {
             return None;
         }
         let a = self.numbers;
         let at = self.at;
         self.at = at + span_of(a[at + 1], a[at + 3]);
+        self.left -= 1;
         self.passed += 1;
         Some(at)
     }
@@ -259,6 +293,22 @@ fn entry_at(a: &[u16], at: usize) -> Entry
     }
 }
 
+// The condition of the entry at `at`.
+fn condition_at(a: &[u16], at: usize) -> u16
+    requires { EntryIn a.now at }
+    ensures { result ≡ get_or a.now at 0 }
+{
+    a[at]
+}
+
+// Its kind.
+fn kind_at(a: &[u16], at: usize) -> u16
+    requires { EntryIn a.now at }
+    ensures { result ≡ get_or a.now (at + 1) 0 }
+{
+    a[at + 1]
+}
+
 impl<'a> Page<'a> {
     // The page of a sound area.
     pub fn of(a: &'a [u16]) -> Option<Self>
@@ -323,6 +373,34 @@ impl<'a> Page<'a> {
         ensures sound { solvable self.now ≡ true }
     {
         Lines::checked(self.numbers)
+    }
+
+    // The same page as a value of its own. A loop that changes numbers and holds the page as a local need not read in each turn where its area lies.
+    pub fn again(&self) -> Page<'a>
+        ensures { result ≡ self.now }
+    {
+        Page {
+            numbers: self.numbers,
+        }
+    }
+
+    // The condition of the line at `at`, alone: a scan that asks for no more of the entry than it needs holds fewer numbers at hand.
+    pub fn condition(&self, at: usize) -> u16
+        requires { LineIn self.now at }
+        ensures value { result ≡ get_or self.now at 0 }
+        ensures inside { (result < conditions_of self.now) × (conditions_of self.now ≤ 512) }
+        ensures sound { solvable self.now ≡ true }
+    {
+        condition_at(self.numbers, at)
+    }
+
+    // The kind of the line at `at`, alone.
+    pub fn kind(&self, at: usize) -> u16
+        requires { LineIn self.now at }
+        ensures value { result ≡ get_or self.now (at + 1) 0 }
+        ensures sound { solvable self.now ≡ true }
+    {
+        kind_at(self.numbers, at)
     }
 
     // The entry at `at`.

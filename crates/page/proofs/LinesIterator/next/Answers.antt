@@ -15,4 +15,4 @@ pub invariant_of-self : goal.invariant_of-self
 invariant_of-self c =
     let s = c.args.self.now in
     rw c.span_of.ensures
-    (record { counted = s.counted; scanning = scanning_next _ s.scanning (omega (arith, s.counted)); placed = place_next s.numbers.now s.placed (record { place = refl; count = refl }) })
+    (record { counted = omega (arith, s.counted); scanning = scanning_next _ s.scanning (omega (arith, s.counted)); placed = place_next s.numbers.now s.placed (record { place = refl; count = refl }) })
