@@ -4,8 +4,9 @@
 ghost use Rattle.std.specs.Prelude.{◌≡◌, ◌↔◌, ◌<◌, ℕ, false, not, length, IsTrue};
 ghost use Rattle.fixpoint.specs.Sum.{count};
 ghost use Rattle.bits.specs.Words.{has, Inserted, Removed, Absorbed};
-ghost use Rattle.bits.specs.Sets.{Nobody, LowestIn, AnyIn, TakesOut};
+ghost use Rattle.bits.specs.Sets.{Nobody, Member, LowestIn, AnyIn, TakesOut};
 ghost use Rattle.std.specs.Iterator.{at_most};
+ghost use Rattle.std.specs.Option.{ForSome, ForNone};
 
 // The bit c % 64 of the word c / 64 tells whether c is in the set.
 #[derive(Clone, Copy, PartialEq, Eq)]
@@ -77,8 +78,7 @@ impl Set {
         }
     }
 
-    // One of the set: the next from `from` down in its word, else the highest of that word, else of the next word that has one. An empty set, the
-    // usual one at the end of a drain, is told without a look at each word.
+    // One of the set: the next from `from` down in its word, else the highest of that word, else of the next word that has one.
     pub fn any_from(&self, from: u16) -> Option<u16>
         requires { from < 512 }
         ensures { AnyIn self.now.words result }
@@ -87,9 +87,6 @@ impl Set {
         let y = self.words[first] & (u64::MAX >> (63 - from % 64));
         if y != 0 {
             return Some((64 * first) as u16 + (63 - y.leading_zeros() as u16));
-        }
-        if self.is_empty() {
-            return None;
         }
         for passed in 0..8 {
             let w = (first + passed) % 8;
@@ -101,11 +98,26 @@ impl Set {
         None
     }
 
-    // All of the set, one after the other: each is taken out of it.
+    // The same where the set is likely to be empty, which is told without a look at each word.
+    pub fn next_from(&self, from: u16) -> Option<u16>
+        requires { from < 512 }
+        ensures { AnyIn self.now.words result }
+    {
+        if self.is_empty() {
+            return None;
+        }
+        self.any_from(from)
+    }
+
+    // All of the set, one after the other: each is taken out of it. A set that is drained is likely to have somebody, and none after one was taken.
     pub fn drain(&mut self) -> Drain<'_>
         ensures { (result.set.now.words ≡ self.old.words) × (result.set.ghost_name ≡ self.entry.ghost_name) }
     {
-        Drain { set: self, last: 0 }
+        let upcoming = self.any_from(0);
+        Drain {
+            set: self,
+            upcoming,
+        }
     }
 
     // How many are in the set.
@@ -138,12 +150,13 @@ impl From<[u64; 8]> for Set {
     }
 }
 
-// Those of a set that are still to come, which are in the set.
+// Those of a set that are still to come, which are in the set, and the one that comes first.
 #[derive(Drop)]
 pub struct Drain<'a> {
     set: &'a mut Set,
-    last: u16,
-    ghost within: { last < 512 },
+    upcoming: Option<u16>,
+    ghost found: { ForSome upcoming (λ c. Member set.now.words c) },
+    ghost none: { ForNone upcoming (Nobody set.now.words) },
 }
 
 impl<'a> Iterator for Drain<'a> {
@@ -154,9 +167,9 @@ impl<'a> Iterator for Drain<'a> {
     ghost remaining = { λ s. at_most (count 512 (has s.set.now.words)) };
 
     fn next(&mut self) -> Option<u16> {
-        let c = self.set.any_from(self.last)?;
+        let c = self.upcoming?;
         self.set.remove(c);
-        self.last = c;
+        self.upcoming = self.set.next_from(c);
         Some(c)
     }
 }
