@@ -21,30 +21,29 @@ module _ (f : ℕ → ℕ → ℕ) (codes values : List ℕ) (first : ℕ) where
   pub folding_next : {r j r' : ℕ} → Folding r j → j < length codes → r' ≡ f r (get_or values (get_or codes j 0) 0) → Folding r' (j + 1)
   folding_next {r} {j} s l h = record { within = omega arith; is = s.is ∙ rw (add-one, drop-cons codes j 0 l, h) }
 
--- the literals from one place up to another, of which one stands at j
+-- the literals from one place up to another, of which one stands i places behind the first
 module _ (a : List ℕ) (from to : ℕ) (inside : to ≤ length a) where
   pub slice_length : length (slice a from to) ≡ to - from
   slice_length = simp (length-take, length-drop) (omega arith)
 
-  module _ {j : ℕ} (b : from ≤ j) (l : j < to) where
-    pub here : j - from < length (slice a from to)
+  module _ {i : ℕ} (l : i < to - from) where
+    pub here : i < length (slice a from to)
     here = omega (arith, slice_length)
 
-    pub code_here : get_or (slice a from to) (j - from) 0 ≡ get_or a j 0
-    code_here = get_or-take (to - from) (drop from a) (j - from) 0 (omega arith) ∙ get_or-drop from a (j - from) 0 ∙ ap (λ (i : ℕ). get_or a i 0) (omega arith)
+    pub code_here : get_or (slice a from to) i 0 ≡ get_or a (from + i) 0
+    code_here = get_or-take (to - from) (drop from a) i 0 l ∙ get_or-drop from a i 0
 
     module _ {values : List ℕ} {top first : ℕ} (w : Foldable top (slice a from to) values first) where
-      pub listed_here : get_or a j 0 < length values
-      listed_here = rw (← code_here) (w.listed (j - from) here)
+      pub listed_here : get_or a (from + i) 0 < length values
+      listed_here = rw (← code_here) (w.listed i here)
 
-      pub grade_here : get_or values (get_or a j 0) 0 ≤ top
-      grade_here = rw (← code_here) (w.grades (j - from) here)
+      pub grade_here : get_or values (get_or a (from + i) 0) 0 ≤ top
+      grade_here = rw (← code_here) (w.grades i here)
 
-    pub folding_here : {f : ℕ → ℕ → ℕ} {values : List ℕ} {first r r' : ℕ} → Folding f (slice a from to) values first r (j - from) → r' ≡ f r (get_or values (get_or a j 0) 0)
-        → Folding f (slice a from to) values first r' (j + 1 - from)
+    pub folding_here : {f : ℕ → ℕ → ℕ} {values : List ℕ} {first r r' : ℕ} → Folding f (slice a from to) values first r i → r' ≡ f r (get_or values (get_or a (from + i) 0) 0)
+        → Folding f (slice a from to) values first r' (i + 1)
     folding_here {f} {values} {first} {r} s h =
-        let z : j + 1 - from ≡ j - from + 1 = omega arith in
-        rw z (folding_next f (slice a from to) values first s here (h ∙ ap (λ (k : ℕ). f r (get_or values k 0)) (sym code_here)))
+        folding_next f (slice a from to) values first s here (h ∙ ap (λ (k : ℕ). f r (get_or values k 0)) (sym code_here))
 
 -- a fold of an op ends with a grade
 module _ (top : ℕ) (op : Op) (e : End) (values : List ℕ) where

@@ -94,7 +94,8 @@ fn product(p: u16, q: u16, top: u16, add: u16) -> u16
 }
 
 // An op over the numbers of the literals from one place up to another, from left to right. By index: over a slice of them a line's end takes
-// a fifth more instructions, and the closed reading is at its limit of docs/BENCH.md or over it.
+// a fifth more instructions, and the closed reading is at its limit of docs/BENCH.md or over it. The index counts the literals: a compiler sees of
+// their count, and not of two places, that there is one.
 fn fold<F: Fn(u16, u16) -> u16>(
     a: &[u16],
     from: usize,
@@ -106,9 +107,10 @@ fn fold<F: Fn(u16, u16) -> u16>(
     requires { (from ≤ to) × (to ≤ length a.now) × (top : ℕ) × Foldable top (slice a.now from to) values.now first × OnGrades top (F.pre op) (F.post op) }
     ensures { (f : ℕ → ℕ → ℕ) → Computes f (F.post op) → Folded f (slice a.now from to) values.now first result }
 {
+    let count = to - from;
     let mut r = first;
-    for j in from..to {
-        r = op(r, values[a[j] as usize]);
+    for i in 0..count {
+        r = op(r, values[a[from + i] as usize]);
     }
     r
 }
@@ -152,12 +154,14 @@ pub fn line_end(page: &Page, at: usize, values: &[u16], end: End, add: u16) -> u
     requires { Grades (top_of page.now) (conditions_of page.now) values.now × LineOf page.now (get_or page.now at 0) at × (add ≡ rounding (side end) (top_of page.now)) }
     ensures { LineEnd (side end) page.now values.now at result }
 {
-    let line = page.entry(at);
-    match line.kind {
-        0 => match end {
-            End::Lower => line.x,
-            End::Upper => line.y,
-        },
+    match page.kind(at) {
+        0 => {
+            let fact = page.entry(at);
+            match end {
+                End::Lower => fact.x,
+                End::Upper => fact.y,
+            }
+        }
         _ => rule_end(page, at, values, add),
     }
 }
