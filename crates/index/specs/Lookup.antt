@@ -1,5 +1,5 @@
 -- What a look-up in an index gives. Assumes nothing.
-use Rattle.std.specs.Prelude.{◌≡◌, true, Bool, List, ℕ, ◌+◌, ◌-◌, ◌≤◌, ◌<◌, length, get_or, take, drop}
+use Rattle.std.specs.Prelude.{◌≡◌, true, Bool, List, ℕ, ◌-◌, ◌≤◌, ◌<◌, length, get_or, take, drop}
 use Rattle.semantics.specs.Area.{page_of}
 use Rattle.semantics.specs.Page.{names}
 use Rattle.page.specs.Places.{LineOf}
@@ -27,12 +27,12 @@ HeadsAre a code = Lists (λ h. lines_read code (page_of a).lines h ≡ true)
 abbrev pub DependantsAre : List ℕ → ℕ → List ℕ → Type 0
 DependantsAre a c = Lists (λ h. names (page_of a) h c ≡ true)
 
--- the groups of the keys from t up to t' lie in a part with n keys
-pub record Between (n t t' : ℕ) (part : List ℕ) : Type 0 where
-  pub first : t ≤ n
-  pub last : t' ≤ n
-  pub ordered : get_or part t 0 ≤ get_or part t' 0
-  pub inside : n + 1 + get_or part t' 0 ≤ length part
+-- the groups of the keys from t up to t' lie in the items
+pub record Between (t t' : ℕ) (starts items : List ℕ) : Type 0 where
+  pub first : t < length starts
+  pub last : t' < length starts
+  pub ordered : get_or starts t 0 ≤ get_or starts t' 0
+  pub inside : get_or starts t' 0 ≤ length items
 
-abbrev pub items_between : (n t t' : ℕ) → List ℕ → List ℕ
-items_between n t t' part = take (get_or part t' 0 - get_or part t 0) (drop (n + 1 + get_or part t 0) part)
+abbrev pub items_between : (t t' : ℕ) → List ℕ → List ℕ → List ℕ
+items_between t t' starts items = take (get_or starts t' 0 - get_or starts t 0) (drop (get_or starts t 0) items)
