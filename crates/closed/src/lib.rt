@@ -54,7 +54,7 @@ fn solve(
     let page = source.page;
     let n = page.conditions();
     let mut marks = [false; 512];
-    reach::mark_closure(page, queries, &mut marks);
+    reach::mark_reached(page, queries, &mut marks);
     begin(page, scratch);
     let free = unknowns::any_free(page, &marks);
     let mut next = [0u8; 512];

@@ -1,5 +1,5 @@
 -- A condition is followed: a scan over its lines, and how many conditions they name. Assumes nothing.
-use mathlib.Core.Path.{◌≡◌, sym, ◌∙◌, ap}
+use mathlib.Core.Path.{◌≡◌, refl, sym, ◌∙◌, ap}
 use mathlib.Core.Logic.{◌≢◌}
 use mathlib.Core.Bool.{Bool, true, false, not, ◌&&◌, ◌||◌}
 use mathlib.Core.List.{List}
@@ -67,6 +67,10 @@ module _ (a : List ℕ) (c : ℕ) (words₀ : List ℕ) where
   pub gathering_last : {words : List ℕ} {at k new : ℕ} → Gathering words at k new → count_of a ≤ k → Inserts (names (page_of a) c) (has words₀) (has words) new
   unfolding lines_name
   gathering_last {at = at} {k = k} s l = inserting_last s.inserting (λ b. ap (λ (ls : List Line). lines_name ls c b) (lines_none a at k l))
+
+pub not_so : (t : Bool) → (t ≡ true → ⊥) → t ≡ false
+not_so true h = absurd (h refl)
+not_so false h = refl
 
 -- what lies past n is not in the set
 pub count_past : (n k : ℕ) (s : ℕ → Bool) → n ≤ k → ((c : ℕ) → n ≤ c → s c ≡ false) → count k s ≡ count n s

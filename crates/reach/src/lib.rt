@@ -93,7 +93,7 @@ fn insert_named(page: &Page, c: u16, set: &mut Set) -> u32
 {
     let mut new: u32 = 0;
     for at in page.lines() {
-        if page.entry(at).condition == c {
+        if page.condition(at) == c {
             new += insert_line(page, at, set);
         }
     }
@@ -191,7 +191,7 @@ fn sweep(page: &Page, marks: &mut [bool; 512]) -> u32
 {
     let mut new: u32 = 0;
     for at in page.lines() {
-        if marks[page.entry(at).condition as usize] {
+        if marks[page.condition(at) as usize] {
             new += insert_line(page, at, marks);
         }
     }
@@ -208,13 +208,23 @@ pub fn spread(page: &Page, queries: &[u16]) -> Set
 
 // Marks the closure of the queries, where nothing is marked yet, by passes over all lines until one adds nothing, which alone tells how many
 // there are: fewer scans, where E is not asked for.
-pub fn mark_closure(page: &Page, queries: &[u16], marks: &mut [bool; 512])
+pub fn mark_reached(page: &Page, queries: &[u16], marks: &mut [bool; 512])
     requires { (all_under (conditions_of page.now) queries.now ≡ true) × Unmarked marks.old }
     ensures { ClosureMarks (page_of page.now) queries.now marks.new }
 {
     page.recall();
     insert_queries(queries, marks);
-    while 0 < sweep(page, marks) {}
+    while 0 < sweep(&page.again(), marks) {}
+}
+
+// The same where the marks are 512 of a slice. What C calls has them in an array.
+pub fn mark_closure(page: &Page, queries: &[u16], marks: &mut [bool])
+    requires { (all_under (conditions_of page.now) queries.now ≡ true) × Unmarked marks.old }
+    ensures { ClosureMarks (page_of page.now) queries.now marks.new }
+{
+    if let Some(flags) = marks.as_mut_array::<512>() {
+        mark_reached(page, queries, flags);
+    }
 }
 
 // R + top × E.

@@ -41,7 +41,7 @@ fn solve_plain(page: &Page, queries: &[u16], workspace: &mut [u16; 15362], answe
     ensures { PlainSolved (page_of page.now) queries.now answers.old answers.new }
 {
     let mut marks = [false; 512];
-    reach::mark_closure(page, queries, &mut marks);
+    reach::mark_reached(page, queries, &mut marks);
     let mut run = [0u16; 1536];
     reach::write_run(&mut run, page.conditions(), page.top(), &marks);
     let m = index::index_length(page);

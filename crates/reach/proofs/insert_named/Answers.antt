@@ -13,16 +13,16 @@ loop-at-init c =
 pub overflow_add-new : goal.overflow_add-new
 overflow_add-new c = omega (arith, inserting_few c.loop-at.invariant.1.inserting, inserts_few c.insert_line-new.ensures)
 
-pub loop-at-preserved-then-entry-c : goal.loop-at-preserved-then-entry-c
-loop-at-preserved-then-entry-c c =
+pub loop-at-preserved-then-condition-c : goal.loop-at-preserved-then-condition-c
+loop-at-preserved-then-condition-c c =
     let s = stepped c.loop-at.invariant.0 c.in-Some.ensures.steps in
-    let e = rw c.entry.ensures.value.condition_is at c.if-entry-c.true in
+    let e = rw c.condition.ensures.value at c.if-condition-c.true in
     (s.same, gathering_next _ _ _ c.loop-at.invariant.1 s.more s.next (rw s.here at e) (rw s.here at c.insert_line-new.ensures))
 
 pub loop-at-preserved : goal.loop-at-preserved
 loop-at-preserved c =
     let s = stepped c.loop-at.invariant.0 c.in-Some.ensures.steps in
-    let e = rw c.entry.ensures.value.condition_is at c.if-entry-c.false in
+    let e = rw c.condition.ensures.value at c.if-condition-c.false in
     (s.same, gathering_skip _ _ _ c.loop-at.invariant.1 s.more s.next (rw s.here at e))
 
 pub returns : goal.returns

@@ -13,16 +13,16 @@ loop-at-init c =
 pub overflow_add-new : goal.overflow_add-new
 overflow_add-new c = omega (arith, sweeping_few _ _ c.loop-at.invariant.1, inserts_few c.insert_line-new.ensures)
 
-pub loop-at-preserved-then-marks-entry : goal.loop-at-preserved-then-marks-entry
-loop-at-preserved-then-marks-entry c =
+pub loop-at-preserved-then-marks-condition : goal.loop-at-preserved-then-marks-condition
+loop-at-preserved-then-marks-condition c =
     let s = stepped c.loop-at.invariant.0 c.in-Some.ensures.steps in
-    let h = rw c.entry.ensures.value.condition_is at c.if-marks-entry.true in
+    let h = rw c.condition.ensures.value at c.if-marks-condition.true in
     (s.same, sweeping_next _ _ c.loop-at.invariant.1 s.more s.next (rw s.here at h) (rw s.here at c.insert_line-new.ensures))
 
 pub loop-at-preserved : goal.loop-at-preserved
 loop-at-preserved c =
     let s = stepped c.loop-at.invariant.0 c.in-Some.ensures.steps in
-    let h = rw c.entry.ensures.value.condition_is at c.if-marks-entry.false in
+    let h = rw c.condition.ensures.value at c.if-marks-condition.false in
     (s.same, sweeping_skip _ _ c.loop-at.invariant.1 s.more s.next (rw s.here at h))
 
 pub returns : goal.returns

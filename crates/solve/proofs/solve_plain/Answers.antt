@@ -7,15 +7,15 @@ use Rattle.reach.proofs.Marking.{unmarked}
 use Rattle.solve.proofs.Solving.{opened_sound, plain_solved, under_at}
 use Rattle.solve.proofs.solve_plain.Goals as goal
 
-pub mark_closure-requires : goal.mark_closure-requires
-mark_closure-requires c = (c.requires.0, unmarked)
+pub mark_reached-requires : goal.mark_reached-requires
+mark_reached-requires c = (c.requires.0, unmarked)
 
 pub drive_built-requires : goal.drive_built-requires
 drive_built-requires c =
     let n = c.conditions.ensures in
     let m = c.index_length-m.ensures in
     let w = rw (n.value, c.top.ensures.value) at c.write_run.ensures in (
-      opened_sound c.args.page.now n.sound c.args.queries.now c.requires.0 _ (omega (arith, n.value, n.few)) c.mark_closure.ensures w,
+      opened_sound c.args.page.now n.sound c.args.queries.now c.requires.0 _ (omega (arith, n.value, n.few)) c.mark_reached.ensures w,
       length-take-le _ _ (omega (arith, c.told-workspace, m.1)) ∙ m.0,
     )
 
@@ -28,5 +28,5 @@ pub returns : goal.returns
 returns c =
     let n = c.conditions.ensures in
     let w = rw (n.value, c.top.ensures.value) at c.write_run.ensures in
-    plain_solved c.args.page.now n.sound c.args.queries.now c.requires.0 _ (omega (arith, n.value, n.few)) c.mark_closure.ensures w
+    plain_solved c.args.page.now n.sound c.args.queries.now c.requires.0 _ (omega (arith, n.value, n.few)) c.mark_reached.ensures w
     c.args.answers.now _ c.drive_built.ensures c.write_ends.ensures
