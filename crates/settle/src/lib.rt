@@ -70,10 +70,9 @@ impl Figures {
         ensures raised { Raised (side self.end) page.now marks.now at scratch.old scratch.new result }
         ensures sound { solvable page.now ≡ true }
     {
-        let line = page.entry(at);
-        match line.kind {
+        match page.kind(at) {
             0..=5 => {
-                let h = line.condition as usize;
+                let h = page.condition(at) as usize;
                 if !marks[h] {
                     return false;
                 }
@@ -98,7 +97,9 @@ impl Figures {
     {
         let mut rose = false;
         for &at in places {
-            rose |= self.raise(page, at as usize, marks, scratch);
+            if self.raise(page, at as usize, marks, scratch) {
+                rose = true;
+            }
         }
         rose
     }
@@ -112,7 +113,9 @@ impl Figures {
     {
         let mut rose = false;
         for at in page.lines() {
-            rose |= self.raise(page, at, marks, scratch);
+            if self.raise(page, at, marks, scratch) {
+                rose = true;
+            }
         }
         rose
     }
@@ -136,13 +139,14 @@ impl Figures {
         ensures { Settled (side self.end) source.now.area marks.now scratch.old scratch.new result × WaitSet (conditions_of source.now.area) words.new.words }
     {
         source.recall();
+        let page = source.page.again();
         let mut changed = false;
         let mut last = 0;
         // a `while`: the set grows while it is gone through
         while let Some(c) = words.any_from(last) {
             words.remove(c);
             let places = source.lines_of(c).unwrap();
-            if self.look(source.page, places, marks, scratch) {
+            if self.look(&page, places, marks, scratch) {
                 changed = true;
                 wake(source, words, 2 * c);
             }
@@ -165,7 +169,7 @@ pub fn settle(
 {
     let figures = Figures::of(source.page, end);
     if source.is_indexed() {
-        return figures.drain(source, marks, scratch, words);
+        return figures.drain(&source.again(), marks, scratch, words);
     }
-    figures.settle_sweeping(source.page, marks, scratch)
+    figures.settle_sweeping(&source.page.again(), marks, scratch)
 }

@@ -106,7 +106,7 @@ fn lower_tops(
     let mut fell = false;
     let mut last = 0;
     // a `while`: the set grows while it is gone through
-    while let Some(c) = look.any_from(last) {
+    while let Some(c) = look.next_from(last) {
         look.remove(c);
         fell |= lower_top(source, marks, scratch, tops, look, lowered, c);
         last = c;
@@ -154,10 +154,9 @@ fn note(page: &Page, at: usize, marks: &[bool], scratch: &mut [u16], moved: &mut
     requires { Notable page.now marks.now scratch.old moved.old.words × (n ≡ conditions_of page.now) × LineIn page.now at }
     ensures { NotedAt page.now marks.now at scratch.old scratch.new moved.old.words moved.new.words }
 {
-    let line = page.entry(at);
-    match line.kind {
+    match page.kind(at) {
         0..=5 => {
-            let h = line.condition;
+            let h = page.condition(at);
             let t = h as usize;
             if !marks[t] {
                 return;
@@ -217,11 +216,11 @@ fn note_waiting(
     requires { Notable source.now.area marks.now scratch.old moved.old.words × (source.now.indexed ≡ true) × WaitSet (conditions_of source.now.area) lows.old.words × LowsRest source.now.area marks.now scratch.old lows.old.words }
     ensures { AllNoted source.now.area marks.now scratch.old scratch.new moved.old.words moved.new.words × WaitSet (conditions_of source.now.area) lows.new.words }
 {
-    let page = source.page;
+    let page = source.page.again();
     let n = page.conditions() as usize;
     for c in lows.drain() {
         let group = source.lines_of(c).unwrap();
-        note_group(page, group, marks, scratch, moved, n);
+        note_group(&page, group, marks, scratch, moved, n);
     }
 }
 
@@ -231,7 +230,7 @@ fn next_lows(source: &Source, marks: &[bool], scratch: &mut [u16], lows: &mut Se
     ensures { AllNoted source.now.area marks.now scratch.old scratch.new moved.old.words moved.new.words × WaitSet (conditions_of source.now.area) lows.new.words }
 {
     if !source.is_indexed() {
-        note_all(source.page, marks, scratch, moved);
+        note_all(&source.page.again(), marks, scratch, moved);
         return;
     }
     note_waiting(source, marks, scratch, lows, moved);

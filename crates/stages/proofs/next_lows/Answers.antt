@@ -7,4 +7,4 @@ pub returns-then-not-is_indexed : goal.returns-then-not-is_indexed
 returns-then-not-is_indexed c =
     let e = area_is c.source.view_is in
     let v = c.note_all.ensures in
-    (page_noted (rw e at v.sound) (rw e at v.noted), c.requires.1)
+    (page_noted (rw (c.again.ensures, e) at v.sound) (rw (c.again.ensures, e) at v.noted), c.requires.1)
