@@ -66,18 +66,24 @@ ONCE = '''#ifdef __GNUC__
 # The count of rounds of the closed reading is the call that takes the most stack. What its loop calls with arrays is a part of it (their frames
 # would each keep the slices at hand once more), and what runs beside these calls keeps its frame to itself. The iterator over the lines of a page
 # is a part of each loop over it, so that its numbers are locals there, and what the library has is a part of its callers: a statement or a few. Some
-# functions of the reader are parts for the same reason: what they answer is locals then.
-PARTS = {'stages::support', 'stages::advance', 'stages::follow', 'stages::take_highs', 'settle::Figures::raise',
+# functions of the reader are parts for the same reason: what they answer is locals then. So are the steps of the loops over a set and over an index:
+# one of them is a few statements, and where a compiler is asked for small code it would be a call in each turn.
+PARTS = {'bits::Set::insert', 'bits::Set::remove', 'bits::Set::is_empty', 'bits::Set::next_from', 'bits::DrainIterator::next', 'settle::wake',
+         'index::source::Source::lines_of', 'index::source::Source::users_of', 'index::source::Source::again', 'page::Page::again',
+         'page::Page::condition', 'page::condition_at', 'page::Page::kind', 'page::kind_at', 'fields::digit',
+         'stages::support', 'stages::advance', 'stages::follow', 'stages::take_highs', 'settle::Figures::raise',
          'rounds::round', 'page::Page::of', 'page::Page::lines', 'page::Page::entry', 'page::entry_at', 'page::Lines::checked',
          'page::LinesIterator::next', 'reach::follow', 'reach::pass', 'picks::judge', 'run::check_areas', 'run::reached',
          'stalls::part_at', 'stalls::check_shared', 'fields::digits', 'fields::digits_from', 'lines::parse_pair', 'reader::write::checked_pair'}
-BESIDE = {'page::page_sound', 'reach::mark_closure', 'settle::settle', 'settle::wake', 'rounds::all_waiting', 'stages::begin',
-          'stages::lower_tops', 'stages::note_all', 'stages::note_waiting', 'stages::take_all', 'stages::look_again'}
+BESIDE = {'page::page_sound', 'reach::mark_reached', 'settle::settle', 'rounds::all_waiting', 'stages::begin',
+          'stages::note_all', 'stages::note_waiting', 'picks::evaluate'}
+# What a loop over lines or over a set does in each turn: a part of it where speed is asked for, and a call where small code is.
+QUICK = {'bits::Set::any_from', 'stages::note', 'value::line_end', 'value::rule_end', 'value::fold_by_op'}
 
 # a function of more statements than this, with those that only it calls, is not inlined by gcc -O2 if it is called in two places
 LONG = 64
 SHARED = '''#if defined(__GNUC__) && defined(__OPTIMIZE__) && !defined(__OPTIMIZE_SIZE__)
-#define SHARED inline __attribute__((always_inline)) /* the body of two loops */
+#define SHARED inline __attribute__((always_inline)) /* the body of loops, where speed is asked for */
 #else
 #define SHARED inline
 #endif
@@ -148,7 +154,7 @@ class Program:
         for function in functions.values():
             function.body = self.without_empty(function)
         self.bodies = {name: fold.fold(function) if folded else function.body for name, function in functions.items()}
-        self.shared = shared(self.bodies)
+        self.shared = shared(self.bodies) | self.of_symbols(QUICK)
         bytes_of = {name: self.array_bytes(function) for name, function in functions.items()}
         self.once = once(self.bodies, bytes_of, exports) | self.of_symbols(PARTS)
         self.apart = (apart(self.bodies, bytes_of) | self.of_symbols(BESIDE)) - self.once
@@ -422,7 +428,19 @@ class Writer:
         return self.given[i - 1] if 0 < i <= len(self.given) and self.given[i - 1] else f'x{local}'
 
     def line(self, text):
-        self.lines += wrapped(text, '    ' * self.depth)
+        for part in self.from_place(text):
+            self.lines += wrapped(part, '    ' * self.depth)
+
+    def from_place(self, text):
+        """A statement that sets a local from two or more numbers of a slice at the same place, a constant apart, reads them through a pointer to
+        the place: gcc then holds one address where it holds one for each."""
+        found = re.findall(r'\b(\w+)\.at\[(\w+) \+ \d+\]', text) if re.match(r'x\d+ = ', text) else []
+        at = next((at for at in found if found.count(at) > 1), None)
+        if not at:
+            return [text]
+        t = next(self.types[i] for i in range(len(self.types)) if self.name(str(i)) == at[0])
+        text = re.sub(rf'\b{at[0]}\.at\[{at[1]} \+ (\d+)\]', r'here[\1]', text)
+        return ['{', f'    {self.program.declare(t[2][0], "here")} = &{at[0]}.at[{at[1]}];', f'    {text}', '}']
 
     def nested(self, body):
         self.depth += 1
