@@ -67,7 +67,8 @@ ONCE = '''#ifdef __GNUC__
 # would each keep the slices at hand once more), and what runs beside these calls keeps its frame to itself. The iterator over the lines of a page
 # is a part of each loop over it, so that its numbers are locals there, and what the library has is a part of its callers: a statement or a few. Some
 # functions of the reader are parts for the same reason: what they answer is locals then. So are the steps of the loops over a set and over an index:
-# one of them is a few statements, and where a compiler is asked for small code it would be a call in each turn.
+# one of them is a few statements, and where a compiler is asked for small code it would be a call in each turn. The check of picks takes the most
+# stack in the closure that it finds first, so the evaluation of a pick, which comes later, keeps its frame to itself.
 PARTS = {'bits::Set::insert', 'bits::Set::remove', 'bits::Set::is_empty', 'bits::Set::next_from', 'bits::DrainIterator::next', 'settle::wake',
          'index::source::Source::lines_of', 'index::source::Source::users_of', 'index::source::Source::again', 'page::Page::again',
          'page::Page::condition', 'page::condition_at', 'page::Page::kind', 'page::kind_at', 'fields::digit',
